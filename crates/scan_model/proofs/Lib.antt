@@ -1,0 +1,17 @@
+mod SmallTexts
+mod C17
+mod ChainRows
+pub mod Orders
+pub mod Gates
+pub mod Along
+pub mod NetValues
+pub mod Folds
+pub mod Assigned
+pub mod Inputs
+pub mod Outputs
+pub mod Points
+pub mod Sites
+pub mod Levels
+pub mod BitTables
+pub mod Definite
+pub mod FaultSteps

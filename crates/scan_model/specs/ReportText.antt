@@ -1,0 +1,118 @@
+-- The texts that are printed. A text is a list of lines, each its words with one space between, and LF.
+use Rattle.std.specs.Prelude.{ℕ, ◌+◌, ◌-◌, List, [], ◌∷◌, ◌++◌, map, filter, flat_map, length, take, drop, decimal, codes, slice_index_or, Bool}
+use Rattle.std.specs.List.{join_with_byte, enumerate_from}
+use Rattle.scan_model.specs.declared.circuit.PinPlace.{PinPlace}
+use Rattle.scan_model.specs.declared.circuit.PinPlace.TheVariants as place
+use Rattle.scan_model.specs.declared.parts.Point.{Point}
+use Rattle.scan_model.specs.declared.parts.Point.TheVariants.{Output, Cell}
+use Rattle.scan_model.specs.declared.fault.Stuck.{Stuck}
+use Rattle.scan_model.specs.declared.fault.Stuck.TheVariants as stuck
+use Rattle.scan_model.specs.declared.fault.BridgeKind.{BridgeKind}
+use Rattle.scan_model.specs.declared.fault.BridgeKind.TheVariants.{Dominant, WiredAnd, WiredOr}
+use Rattle.scan_model.specs.declared.fault.CellKind.{CellKind}
+use Rattle.scan_model.specs.declared.fault.CellKind.TheVariants.{Stuck0, Stuck1, SlowRise, SlowFall}
+use Rattle.scan_model.specs.declared.fault.Fault.{Fault}
+use Rattle.scan_model.specs.declared.fault.Fault.TheVariants as fault
+use Rattle.scan_model.specs.declared.logs.Bit.{Bit}
+use Rattle.scan_model.specs.declared.logs.LogFacts.{LogFacts}
+use Rattle.scan_model.specs.declared.logs.BitClass.{BitClass}
+use Rattle.scan_model.specs.declared.logs.Scored.{Scored}
+use Rattle.scan_model.specs.Netlist.{pin_at}
+use Rattle.scan_model.specs.ScanTest.{ScanTest, name_of, chain_at, point_at}
+use Rattle.scan_model.specs.Universe.{universe}
+use Rattle.scan_model.specs.Coverage.{bits_of}
+use Rattle.scan_model.specs.Classes.{class, is_conflict, is_masked, is_failing, is_passing}
+use Rattle.scan_model.specs.MatchCounts.{candidates_among}
+use Rattle.scan_model.specs.Ranking.{ranked}
+
+-- words with a space between
+abbrev pub spaced : List (List ℕ) → List ℕ
+spaced words = join_with_byte 32 words
+
+abbrev pub line : List (List ℕ) → List ℕ
+line words = spaced words ++ 10 ∷ []
+
+abbrev pub stuck_word : Stuck → List ℕ
+stuck_word stuck.Zero = codes "sa0"
+stuck_word stuck.One = codes "sa1"
+
+abbrev pub cell_word : CellKind → List ℕ
+cell_word Stuck0 = codes "stuck0"
+cell_word Stuck1 = codes "stuck1"
+cell_word SlowRise = codes "slow-rise"
+cell_word SlowFall = codes "slow-fall"
+
+abbrev pub bridge_word : BridgeKind → List ℕ
+bridge_word Dominant = codes "dom"
+bridge_word WiredAnd = codes "and"
+bridge_word WiredOr = codes "or"
+
+-- the words for where a branch leads
+abbrev pub branch_words : ScanTest → PinPlace → List (List ℕ)
+branch_words t (place.Operand g i) = codes "to" ∷ name_of t g ∷ decimal (i + 1) ∷ []
+branch_words t (place.Output k) = codes "to-output" ∷ []
+
+abbrev pub fault_words : ScanTest → Fault → List (List ℕ)
+fault_words t (fault.Stem n v) = codes "stem" ∷ name_of t n ∷ stuck_word v ∷ []
+fault_words t (fault.Branch p v) = (codes "branch" ∷ name_of t (pin_at t.netlist p).net ∷ branch_words t (pin_at t.netlist p).place) ++ stuck_word v ∷ []
+fault_words t (fault.Bridge a b kind) = codes "bridge" ∷ name_of t a ∷ name_of t b ∷ bridge_word kind ∷ []
+fault_words t (fault.Cell h i kind) = codes "cell" ∷ (chain_at t h).name ∷ decimal i ∷ cell_word kind ∷ []
+
+abbrev pub fault_text : ScanTest → Fault → List ℕ
+fault_text t f = spaced (fault_words t f)
+
+abbrev pub point_words : ScanTest → Point → List (List ℕ)
+point_words t (Output k) = codes "out" ∷ name_of t (slice_index_or t.netlist.outputs k 0) ∷ []
+point_words t (Cell h i) = codes "cell" ∷ (chain_at t h).name ∷ decimal i ∷ []
+
+-- a line that names a bit
+abbrev pub bit_line : ScanTest → List ℕ → Bit → List ℕ
+bit_line t word b = line (word ∷ decimal b.pattern ∷ point_words t (point_at t b.point))
+
+abbrev pub no_fault : Fault
+no_fault = fault.Stem 0 stuck.Zero
+
+-- the line of the candidate of rank e.0, counted from 1; its place is one of the list of faults
+abbrev pub candidate_line : List Fault → ScanTest → ℕ × Scored → List ℕ
+candidate_line faults t e = line ((codes "candidate" ∷ decimal e.0 ∷ codes "fault" ∷ decimal e.1.place
+    ∷ codes "tfsf" ∷ decimal e.1.counts.tfsf ∷ codes "tfsp" ∷ decimal e.1.counts.tfsp ∷ codes "tpsf" ∷ decimal e.1.counts.tpsf ∷ [])
+    ++ fault_words t (slice_index_or faults e.1.place no_fault))
+
+-- the bits of a class
+abbrev pub bits_that : ScanTest → List LogFacts → (BitClass → Bool) → List Bit
+bits_that t logs is = filter (λ b. is (class t logs b)) (bits_of t)
+
+-- A report is a list of lines: nine of a head, the Conflict bits, the Masked bits, and the candidates in ranking
+-- order. Here its faults are those of a list.
+abbrev pub report_lines_among : List Fault → ScanTest → List ℕ → List ℕ → List LogFacts → List (List ℕ)
+report_lines_among faults t design die logs =
+    line (codes "REPORT" ∷ decimal 1 ∷ [])
+    ∷ line (codes "design" ∷ design ∷ [])
+    ∷ line (codes "die" ∷ die ∷ [])
+    ∷ line (codes "logs" ∷ decimal (length logs) ∷ [])
+    ∷ line (codes "failing" ∷ decimal (length (bits_that t logs is_failing)) ∷ [])
+    ∷ line (codes "passing" ∷ decimal (length (bits_that t logs is_passing)) ∷ [])
+    ∷ line (codes "conflicts" ∷ decimal (length (bits_that t logs is_conflict)) ∷ [])
+    ∷ line (codes "masked" ∷ decimal (length (bits_that t logs is_masked)) ∷ [])
+    ∷ line (codes "candidates" ∷ decimal (length (candidates_among faults t logs)) ∷ [])
+    ∷ (map (bit_line t (codes "conflict")) (bits_that t logs is_conflict)
+    ++ map (bit_line t (codes "masked")) (bits_that t logs is_masked)
+    ++ map (candidate_line faults t) (enumerate_from 1 (ranked (candidates_among faults t logs))))
+
+-- pieces laid end to end
+abbrev pub joined : List (List ℕ) → List ℕ
+joined pieces = flat_map (λ piece. piece) pieces
+
+abbrev pub report_text_among : List Fault → ScanTest → List ℕ → List ℕ → List LogFacts → List ℕ
+report_text_among faults t design die logs = joined (report_lines_among faults t design die logs)
+
+-- the report over all modelled faults
+abbrev pub report_lines : ScanTest → List ℕ → List ℕ → List LogFacts → List (List ℕ)
+report_lines t design die logs = report_lines_among (universe t) t design die logs
+
+abbrev pub report_text : ScanTest → List ℕ → List ℕ → List LogFacts → List ℕ
+report_text t design die logs = joined (report_lines t design die logs)
+
+-- a hundred lines of a text from line number from on, counted from 1, or those that are left
+abbrev pub page_of : List (List ℕ) → ℕ → List ℕ
+page_of lines from = joined (take 100 (drop (from - 1) lines))

@@ -1,0 +1,50 @@
+-- The list of all modelled faults. A fault's place is its position.
+use Rattle.std.specs.Prelude.{ℕ, List, [], ◌∷◌, ◌++◌, map, filter, flat_map, count_by, length, Bool, nat_le, ◌==◌}
+use Rattle.std.specs.List.{range_with_len, enumerate_from}
+use Rattle.scan_model.specs.declared.parts.Chain.{Chain}
+use Rattle.scan_model.specs.declared.parts.Pair.{Pair}
+use Rattle.scan_model.specs.declared.fault.Stuck.TheVariants as stuck
+use Rattle.scan_model.specs.declared.fault.BridgeKind.TheVariants.{Dominant, WiredAnd, WiredOr}
+use Rattle.scan_model.specs.declared.fault.CellKind.TheVariants.{Stuck0, Stuck1, SlowRise, SlowFall}
+use Rattle.scan_model.specs.declared.fault.Fault.{Fault}
+use Rattle.scan_model.specs.declared.fault.Fault.TheVariants.{Stem, Branch, Bridge, Cell}
+use Rattle.scan_model.specs.Netlist.{Netlist, net_numbers, pin_numbers, pin_at}
+use Rattle.scan_model.specs.ScanTest.{ScanTest}
+
+abbrev pub stem_faults : ℕ → List Fault
+stem_faults n = Stem n stuck.Zero ∷ Stem n stuck.One ∷ []
+
+abbrev pub branch_faults : ℕ → List Fault
+branch_faults p = Branch p stuck.Zero ∷ Branch p stuck.One ∷ []
+
+abbrev pub bridge_faults : Pair → List Fault
+bridge_faults p = Bridge p.a p.b Dominant ∷ Bridge p.b p.a Dominant ∷ Bridge p.a p.b WiredAnd ∷ Bridge p.a p.b WiredOr ∷ []
+
+abbrev pub cell_faults : ℕ → ℕ → List Fault
+cell_faults h i = Cell h i Stuck0 ∷ Cell h i Stuck1 ∷ Cell h i SlowRise ∷ Cell h i SlowFall ∷ []
+
+-- whether the net of a pin has two or more pins
+abbrev pub is_branch : Netlist → ℕ → Bool
+is_branch c p = nat_le 2 (count_by (λ q. q.net == (pin_at c p).net) c.pins)
+
+abbrev pub stems : ScanTest → List Fault
+stems t = flat_map stem_faults (net_numbers t.netlist)
+
+abbrev pub branches : ScanTest → List Fault
+branches t = flat_map branch_faults (filter (is_branch t.netlist) (pin_numbers t.netlist))
+
+abbrev pub bridges : ScanTest → List Fault
+bridges t = flat_map bridge_faults t.pairs.kept
+
+abbrev pub chain_faults : ℕ × Chain → List Fault
+chain_faults e = flat_map (cell_faults e.0) (range_with_len 0 (length e.1.cells))
+
+abbrev pub cells : ScanTest → List Fault
+cells t = flat_map chain_faults (enumerate_from 0 t.chains)
+
+abbrev pub universe : ScanTest → List Fault
+universe t = stems t ++ branches t ++ bridges t ++ cells t
+
+-- the lists of it that the report goes through so far
+abbrev pub listed : ScanTest → List Fault
+listed t = stems t

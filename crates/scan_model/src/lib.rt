@@ -1,0 +1,21 @@
+//! The types of scan diagnosis, and the definitions that every contract above cites.
+#![tactic(auto)]
+
+mod bits;
+mod circuit;
+mod digest;
+mod expected;
+mod fault;
+mod logs;
+mod parts;
+mod rows;
+mod values;
+
+pub use circuit::{Circuit, Driver, GateKind, MakeFault, Net, Pin, PinPlace};
+pub use digest::Digest;
+pub use expected::Expected;
+pub use fault::{BridgeKind, CellKind, Fault, Stuck};
+pub use logs::{Bit, BitClass, Counts, LogFacts, Scored};
+pub use parts::{Chain, Pair, Pairs, Parts, Pattern, PatternKind, Point};
+pub use rows::{Name, NoMemory, Rows};
+pub use values::{Tri, tri_and, tri_not, tri_or, tri_xor};

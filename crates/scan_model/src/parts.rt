@@ -1,0 +1,123 @@
+ghost use Rattle.std.specs.Prelude.{◌≡◌, ◌≤◌, length, IfOk};
+ghost use Rattle.scan_model.specs.ScanTest.{scan_test, points_of, IsScanTest};
+
+use crate::circuit::Circuit;
+use crate::rows::{Name, NoMemory, Rows};
+use crate::values::Tri;
+use std::alloc::Global;
+use std::marker::Model;
+
+/// A scan chain. Position 0 is nearest to scan-in.
+#[derive(Debug, Drop)]
+pub struct Chain {
+    pub name: Name,
+    pub cells: Rows<u32>,
+}
+
+#[derive(Clone, Copy, Debug, PartialEq, Eq)]
+pub enum PatternKind {
+    Capture,
+    Shift,
+}
+
+#[derive(Debug, Drop)]
+pub struct Pattern {
+    pub kind: PatternKind,
+    pub inputs: Rows<Tri>,
+    pub loads: Rows<Rows<Tri>>,
+}
+
+/// Two neighbouring nets, and the row of the list that first names them.
+#[derive(Clone, Copy, Debug, PartialEq, Eq)]
+pub struct Pair {
+    pub a: u32,
+    pub b: u32,
+    pub row: u64,
+}
+
+#[derive(Debug, Drop)]
+pub struct Pairs {
+    pub kept: Rows<Pair>,
+    pub left_out: Rows<Pair>,
+}
+
+/// Where a value is observed.
+#[derive(Clone, Copy, Debug, PartialEq, Eq)]
+pub enum Point {
+    Output { place: u32 },
+    Cell { chain: u32, pos: u32 },
+}
+
+/// A circuit with all that is tested on it. Contracts see a scan test.
+#[derive(Debug, Drop)]
+pub struct Parts {
+    circuit: Circuit,
+    chains: Rows<Chain>,
+    patterns: Rows<Pattern>,
+    pairs: Pairs,
+    points: Rows<Point>,
+}
+
+impl Model for Parts {
+    ghost use Rattle.scan_model.specs.ScanTest.{ScanTest, scan_test, IsSoundTest};
+
+    ghost Value = { ScanTest };
+
+    ghost view = { λ p. scan_test p.circuit p.chains p.patterns p.pairs };
+
+    ghost invariant = { λ p. IsSoundTest (scan_test p.circuit p.chains p.patterns p.pairs) p.points };
+}
+
+impl Parts {
+    /// The parts of four lists that fit each other, with their points in test order.
+    pub fn make(
+        alloc: Global,
+        circuit: Circuit,
+        chains: Rows<Chain>,
+        patterns: Rows<Pattern>,
+        pairs: Pairs,
+    ) -> Result<Parts, NoMemory>
+        requires { IsScanTest (scan_test circuit chains patterns pairs) }
+        ensures { IfOk result (λ p. p ≡ scan_test circuit chains patterns pairs) }
+    {
+        let _ = (alloc, circuit, chains, patterns, pairs);
+        Err(NoMemory)
+    }
+
+    pub fn circuit(&self) -> &Circuit
+        ensures value { result.now ≡ self.now.netlist }
+        ensures fits { IsScanTest self.now }
+    {
+        &self.circuit
+    }
+
+    pub fn chains(&self) -> &Rows<Chain>
+        ensures value { result.now ≡ self.now.chains }
+        ensures fits { IsScanTest self.now }
+    {
+        &self.chains
+    }
+
+    pub fn patterns(&self) -> &Rows<Pattern>
+        ensures value { result.now ≡ self.now.patterns }
+        ensures fits { IsScanTest self.now }
+    {
+        &self.patterns
+    }
+
+    pub fn pairs(&self) -> &Pairs
+        ensures value { result.now ≡ self.now.pairs }
+        ensures fits { IsScanTest self.now }
+    {
+        &self.pairs
+    }
+
+    /// The points in test order: the outputs, then the cells, unload cycle by unload cycle.
+    pub fn points(&self) -> &Rows<Point>
+        ensures value { result.now ≡ points_of self.now }
+        ensures few { length (points_of self.now) ≤ 131072 }
+        ensures fits { IsScanTest self.now }
+    {
+        &self.points
+    }
+}

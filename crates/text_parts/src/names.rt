@@ -1,0 +1,111 @@
+ghost use Rattle.std.specs.Prelude.{◌≡◌, ◌≤◌, [], ◌∷◌, ◌++◌, length, position, OnOk, OnErr, IfOk, Ok, true, not};
+ghost use Rattle.std.specs.List.{list_any, position_or_len};
+ghost use Rattle.std.specs.Str.{bytes_eq};
+ghost use Rattle.scan_model.specs.ScanText.{stands_again};
+ghost use Rattle.text_parts.specs.Views.{nows};
+
+use std::alloc::{AllocError, Global};
+use std::collections::BTreeMap;
+use std::marker::Model;
+
+/// Names in the order in which they were added, with a quick look-up.
+#[derive(Drop)]
+pub struct Names<'a> {
+    list: Vec<&'a [u8]>,
+    places: BTreeMap<&'a [u8], usize>,
+}
+
+impl<'a> Model for Names<'a> {
+    ghost use Rattle.std.specs.Prelude.{List, ℕ};
+
+    ghost Value = { List (List ℕ) };
+
+    ghost use Rattle.text_parts.specs.Views.{nows, Places};
+
+    ghost view = { λ a. nows a.list.items };
+
+    ghost invariant = { λ a. Places (nows a.list.items) a.places };
+}
+
+impl<'a> Names<'a> {
+    pub fn new(alloc: Global) -> Self
+        ensures { result ≡ [] }
+    {
+        Names {
+            list: Vec::new(alloc),
+            places: BTreeMap::new(alloc),
+        }
+    }
+
+    pub fn len(&self) -> usize
+        ensures { result ≡ length self.now }
+    {
+        self.list.len()
+    }
+
+    /// The names in their order.
+    pub fn as_slice(&self) -> &[&'a [u8]]
+        ensures { nows result.now ≡ self.now }
+    {
+        &self.list
+    }
+
+    /// The place of the first name that equals the word.
+    pub fn place(&self, word: &[u8]) -> Option<usize>
+        ensures { result ≡ position (bytes_eq word.now) self.now }
+    {
+        self.places.get(word).copied()
+    }
+
+    /// Whether a name equals the word.
+    pub fn contains(&self, word: &[u8]) -> bool
+        ensures { result ≡ list_any (bytes_eq word.now) self.now }
+    {
+        self.place(word).is_some()
+    }
+
+    /// The place of the first name that equals the word, or else the number of names.
+    pub fn place_or_len(&self, word: &[u8]) -> usize
+        ensures value { result ≡ position_or_len (bytes_eq word.now) self.now }
+        ensures within { result ≤ length self.now }
+    {
+        self.place(word).unwrap_or(self.len())
+    }
+
+    /// Adds names at the end, in their order.
+    pub fn add_all(&mut self, names: &[&'a [u8]]) -> Result<(), AllocError>
+        ensures ok { OnOk result (self.new ≡ self.old ++ nows names.now) }
+    {
+        for name in names {
+            self.add(name)?;
+        }
+        Ok(())
+    }
+
+    /// Adds names at the end, up to the first that is there already, and answers whether there is none.
+    pub fn add_new(&mut self, names: &[&'a [u8]]) -> Result<bool, AllocError>
+        ensures fresh { IfOk result (λ b. b ≡ not (stands_again self.old (nows names.now))) }
+        ensures added { result ≡ Ok true → self.new ≡ self.old ++ nows names.now }
+    {
+        for name in names {
+            if self.contains(name) {
+                return Ok(false);
+            }
+            self.add(name)?;
+        }
+        Ok(true)
+    }
+
+    /// Adds a name at the end.
+    pub fn add(&mut self, name: &'a [u8]) -> Result<(), AllocError>
+        ensures ok { OnOk result (self.new ≡ self.old ++ name.now ∷ []) }
+        ensures err { OnErr result (self.new ≡ self.old) }
+    {
+        self.list.reserve(1)?;
+        if self.places.get(name).is_none() {
+            self.places.insert(name, self.list.len())?;
+        }
+        self.list.push_reserved(name);
+        Ok(())
+    }
+}
