@@ -82,22 +82,26 @@ candidate_line faults t e = line ((codes "candidate" ∷ decimal e.0 ∷ codes "
 abbrev pub bits_that : ScanTest → List LogFacts → (BitClass → Bool) → List Bit
 bits_that t logs is = filter (λ b. is (class t logs b)) (bits_of t)
 
--- A report is a list of lines: nine of a head, the Conflict bits, the Masked bits, and the candidates in ranking
--- order. Here its faults are those of a list.
-abbrev pub report_lines_among : List Fault → ScanTest → List ℕ → List ℕ → List LogFacts → List (List ℕ)
-report_lines_among faults t design die logs =
+-- A report is a list of lines: nine of a head, the Conflict bits, the Masked bits, and the rows in their order, which
+-- are places of a list of faults with their counts.
+abbrev pub report_layout : List Fault → ScanTest → List ℕ → List ℕ → ℕ → List LogFacts → List Scored → List (List ℕ)
+report_layout faults t design die count logs rows =
     line (codes "REPORT" ∷ decimal 1 ∷ [])
     ∷ line (codes "design" ∷ design ∷ [])
     ∷ line (codes "die" ∷ die ∷ [])
-    ∷ line (codes "logs" ∷ decimal (length logs) ∷ [])
+    ∷ line (codes "logs" ∷ decimal count ∷ [])
     ∷ line (codes "failing" ∷ decimal (length (bits_that t logs is_failing)) ∷ [])
     ∷ line (codes "passing" ∷ decimal (length (bits_that t logs is_passing)) ∷ [])
     ∷ line (codes "conflicts" ∷ decimal (length (bits_that t logs is_conflict)) ∷ [])
     ∷ line (codes "masked" ∷ decimal (length (bits_that t logs is_masked)) ∷ [])
-    ∷ line (codes "candidates" ∷ decimal (length (candidates_among faults t logs)) ∷ [])
+    ∷ line (codes "candidates" ∷ decimal (length rows) ∷ [])
     ∷ (map (bit_line t (codes "conflict")) (bits_that t logs is_conflict)
     ++ map (bit_line t (codes "masked")) (bits_that t logs is_masked)
-    ++ map (candidate_line faults t) (enumerate_from 1 (ranked (candidates_among faults t logs))))
+    ++ map (candidate_line faults t) (enumerate_from 1 rows))
+
+-- the report over the faults of a list: its rows are those that explain a failing bit, in ranking order
+abbrev pub report_lines_among : List Fault → ScanTest → List ℕ → List ℕ → List LogFacts → List (List ℕ)
+report_lines_among faults t design die logs = report_layout faults t design die (length logs) logs (ranked (candidates_among faults t logs))
 
 -- pieces laid end to end
 abbrev pub joined : List (List ℕ) → List ℕ

@@ -100,7 +100,11 @@ impl Circuit {
         ensures levels { OnOk result (HasLevels (netlist nets pins inputs outputs)) }
         ensures no_level { IfErr result (λ e. IfNoLevel e (IsLeastWithoutLevel (netlist nets pins inputs outputs))) }
     {
-        let _ = (alloc, nets, pins, inputs, outputs);
+        let _ = alloc;
+        let _ = nets;
+        let _ = pins;
+        let _ = inputs;
+        let _ = outputs;
         Err(MakeFault::NoMemory)
     }
 

@@ -80,7 +80,11 @@ impl Parts {
         requires { IsScanTest (scan_test circuit chains patterns pairs) }
         ensures { IfOk result (λ p. p ≡ scan_test circuit chains patterns pairs) }
     {
-        let _ = (alloc, circuit, chains, patterns, pairs);
+        let _ = alloc;
+        let _ = circuit;
+        let _ = chains;
+        let _ = patterns;
+        let _ = pairs;
         Err(NoMemory)
     }
 

@@ -1,0 +1,6 @@
+//! Reads ISCAS'89 `.bench` netlists.
+#![tactic(auto)]
+
+mod reading;
+
+pub use reading::read_netlist;

@@ -1,0 +1,6 @@
+//! The list of all modelled faults, the place of each in it, and their texts.
+#![tactic(auto)]
+
+mod places;
+
+pub use places::universe;

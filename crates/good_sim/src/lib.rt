@@ -1,0 +1,8 @@
+//! Plain simulation: the response of a fault in one pattern, and the expected values of all patterns.
+#![tactic(auto)]
+
+mod expected;
+mod response;
+
+pub use expected::expected_all;
+pub use response::plain_response;

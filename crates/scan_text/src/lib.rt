@@ -1,0 +1,8 @@
+//! Reads scan texts and pattern texts.
+#![tactic(auto)]
+
+mod patterns;
+mod scan;
+
+pub use patterns::read_patterns;
+pub use scan::read_scan;
