@@ -1,7 +1,6 @@
 -- A circuit of six NAND gates, and what the definitions compute for it.
-use Rattle.std.specs.Prelude.{◌≡◌, ℕ, List, [], ◌∷◌, refl, Bool, true, false, Some, None}
-use Rattle.scan_model.specs.declared.values.Tri.{Tri}
-use Rattle.scan_model.specs.declared.values.Tri.TheVariants.{Zero, One, Unknown}
+use Rattle.std.specs.Prelude.{◌≡◌, ℕ, List, [], ◌∷◌, refl, false, None}
+use Rattle.scan_model.specs.declared.values.Tri.TheVariants.{Zero, One}
 use Rattle.scan_model.specs.declared.circuit.GateKind.TheVariants.{Nand}
 use Rattle.scan_model.specs.declared.circuit.Driver.TheVariants.{Input, Gate}
 use Rattle.scan_model.specs.declared.circuit.Net.{Net}
@@ -9,24 +8,21 @@ use Rattle.scan_model.specs.declared.circuit.PinPlace.TheVariants.{Operand, Outp
 use Rattle.scan_model.specs.declared.circuit.Pin.{Pin}
 use Rattle.scan_model.specs.declared.parts.PatternKind.TheVariants.{Capture}
 use Rattle.scan_model.specs.declared.parts.Pattern.{Pattern}
-use Rattle.scan_model.specs.declared.parts.Pairs.{Pairs}
 use Rattle.scan_model.specs.declared.parts.Point.TheVariants as point
-use Rattle.scan_model.specs.declared.fault.Stuck.TheVariants as stuck
-use Rattle.scan_model.specs.declared.fault.Fault.TheVariants.{Stem, Branch}
 use Rattle.scan_model.specs.declared.logs.Bit.{Bit}
 use Rattle.scan_model.specs.Netlist.{Netlist}
-use Rattle.scan_model.specs.Cone.{fan_in, fan_out}
+use Rattle.scan_model.specs.Cone.{fan_out}
 use Rattle.scan_model.specs.ScanTest.{ScanTest, points_of}
-use Rattle.scan_model.specs.NetValue.{values_of, good_value}
-use Rattle.scan_model.specs.Response.{response, expected, predicts_fail}
-use Rattle.std.specs.Prelude.{◌++◌, length, codes}
+use Rattle.scan_model.specs.NetValue.{values_of}
+use Rattle.scan_model.specs.Response.{response}
+use Rattle.std.specs.Prelude.{length, codes}
 use Rattle.std.specs.Fmt.{digits}
 use Rattle.scan_model.specs.declared.logs.LogFacts.{LogFacts}
 use Rattle.scan_model.specs.declared.logs.Scored.{Scored}
 use Rattle.scan_model.specs.declared.logs.BitClass.TheVariants.{Failing, Passing}
-use Rattle.scan_model.specs.Universe.{universe, stems}
+use Rattle.scan_model.specs.Universe.{universe}
 use Rattle.scan_model.specs.Classes.{class}
-use Rattle.scan_model.specs.MatchCounts.{candidates, counts_of}
+use Rattle.scan_model.specs.MatchCounts.{candidates}
 use Rattle.scan_model.specs.ReportText.{report_text, joined, line}
 use Rattle.scan_model.specs.Suspect.{suspects}
 

@@ -1,21 +1,17 @@
 -- A faulty chain of three cells, and a circuit with three flops in one chain.
-use Rattle.std.specs.Prelude.{◌≡◌, ℕ, List, [], ◌∷◌, refl, Some, None, length, false}
+use Rattle.std.specs.Prelude.{◌≡◌, ℕ, [], ◌∷◌, refl, Some, None, length, false}
 use Rattle.scan_model.specs.declared.values.Tri.TheVariants.{Zero, One, Unknown}
-use Rattle.scan_model.specs.declared.circuit.GateKind.{GateKind}
 use Rattle.scan_model.specs.declared.circuit.GateKind.TheVariants.{And, Nand, Or, Nor, Not}
 use Rattle.scan_model.specs.declared.circuit.Driver.{Driver}
 use Rattle.scan_model.specs.declared.circuit.Driver.TheVariants.{Input, Flop, Gate}
 use Rattle.scan_model.specs.declared.circuit.Net.{Net}
 use Rattle.scan_model.specs.declared.circuit.PinPlace.TheVariants.{Operand, Output}
 use Rattle.scan_model.specs.declared.circuit.Pin.{Pin}
-use Rattle.scan_model.specs.declared.parts.Chain.{Chain}
 use Rattle.scan_model.specs.declared.parts.PatternKind.TheVariants.{Capture, Shift}
 use Rattle.scan_model.specs.declared.parts.Pattern.{Pattern}
 use Rattle.scan_model.specs.declared.parts.Point.TheVariants as point
-use Rattle.scan_model.specs.declared.fault.Stuck.TheVariants as stuck
 use Rattle.scan_model.specs.declared.fault.CellKind.TheVariants.{Stuck1, SlowRise}
-use Rattle.scan_model.specs.declared.fault.Fault.TheVariants.{Stem, Cell}
-use Rattle.scan_model.specs.declared.logs.Bit.{Bit}
+use Rattle.scan_model.specs.declared.fault.Fault.TheVariants.{Cell}
 use Rattle.scan_model.specs.declared.logs.LogFacts.{LogFacts}
 use Rattle.scan_model.specs.declared.logs.Scored.{Scored}
 use Rattle.scan_model.specs.Netlist.{Netlist}
@@ -24,7 +20,7 @@ use Rattle.scan_model.specs.ScanTest.{ScanTest, points_of}
 use Rattle.scan_model.specs.NetValue.{values_of}
 use Rattle.scan_model.specs.Response.{response}
 use Rattle.scan_model.specs.Universe.{universe}
-use Rattle.scan_model.specs.MatchCounts.{candidates, counts_of}
+use Rattle.scan_model.specs.MatchCounts.{candidates}
 use Rattle.scan_model.specs.Ranking.{ranked}
 
 load_last : load_with Stuck1 2 (Zero ∷ Zero ∷ Zero ∷ []) ≡ Zero ∷ Zero ∷ Zero ∷ []

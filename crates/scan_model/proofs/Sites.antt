@@ -1,13 +1,11 @@
 -- The faults of the universe sit at nets, pins and cells that are there.
-use Rattle.std.proofs.Common.{◌≡◌, ℕ, zero, suc, ◌+◌, ◌<◌, ◌≤◌, Bool, true, false, cond, List, [], ◌∷◌, ◌++◌, length, map, get_or, refl, sym, ap, subst, ◌∙◌, inl, inr, arith}
+use Rattle.std.proofs.Common.{◌≡◌, ℕ, zero, suc, ◌+◌, ◌<◌, Bool, true, false, cond, List, [], ◌∷◌, ◌++◌, length, get_or, refl, ap, subst, arith}
 use Rattle.std.specs.Prelude.{All, Contains, filter, flat_map}
 use Rattle.std.specs.List.{range_with_len, enumerate_from, AllByRecursion}
 use Rattle.std.proofs.lemmas.List.Elements.{All-from_recursion, recursion_from_All, All-contains}
 use Rattle.scan_model.specs.declared.parts.Chain.{Chain}
-use Rattle.scan_model.specs.declared.parts.Pair.{Pair}
 use Rattle.scan_model.specs.declared.fault.Fault.{Fault}
-use Rattle.scan_model.specs.declared.fault.Fault.TheVariants.{Stem, Branch, Bridge, Cell}
-use Rattle.scan_model.specs.Netlist.{Netlist, net_numbers, pin_numbers}
+use Rattle.scan_model.specs.Netlist.{net_numbers, pin_numbers}
 use Rattle.scan_model.specs.ScanTest.{ScanTest, IsScanTest, chain_at, no_chain, HasSite}
 use Rattle.scan_model.specs.Universe.{universe, stems, branches, bridges, cells, stem_faults, branch_faults, bridge_faults, cell_faults, chain_faults, is_branch}
 

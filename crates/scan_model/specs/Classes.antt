@@ -1,5 +1,5 @@
 -- What the logs of a die say together of a bit.
-use Rattle.std.specs.Prelude.{ℕ, List, Bool, true, false, not, ◌&&◌}
+use Rattle.std.specs.Prelude.{List, Bool, true, false, not, ◌&&◌}
 use Rattle.std.specs.List.{list_any}
 use Rattle.scan_model.specs.declared.values.Tri.{Tri}
 use Rattle.scan_model.specs.declared.values.Tri.TheVariants.{Zero, One, Unknown}

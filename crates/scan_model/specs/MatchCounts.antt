@@ -2,7 +2,6 @@
 use Rattle.std.specs.Prelude.{ℕ, List, map, filter, count_by, Bool, not, ◌&&◌, nat_le}
 use Rattle.std.specs.List.{enumerate_from}
 use Rattle.scan_model.specs.declared.fault.Fault.{Fault}
-use Rattle.scan_model.specs.declared.logs.Bit.{Bit}
 use Rattle.scan_model.specs.declared.logs.LogFacts.{LogFacts}
 use Rattle.scan_model.specs.declared.logs.Counts.{Counts}
 use Rattle.scan_model.specs.declared.logs.Scored.{Scored}

@@ -1,7 +1,7 @@
 -- Which rule of the first two rounds a line of a netlist breaks.
-use Rattle.std.specs.Prelude.{ℕ, ◌+◌, zero, suc, Bool, true, false, not, ◌&&◌, ◌||◌, ◌==◌, nat_lt, if◌then◌else◌, is_none, List, [], ◌∷◌, ◌++◌, length, map, take, filter, fold, flat_map, slice_index_or, Option, Some}
+use Rattle.std.specs.Prelude.{ℕ, ◌+◌, Bool, true, false, not, ◌&&◌, ◌||◌, ◌==◌, nat_lt, if◌then◌else◌, is_none, List, [], ◌∷◌, ◌++◌, length, map, take, fold, flat_map, slice_index_or, Option}
 use Rattle.std.specs.List.{list_any}
-use Rattle.scan_model.specs.Lines.{text_lines, line_at, has_refused_byte}
+use Rattle.scan_model.specs.Lines.{line_at, has_refused_byte}
 use Rattle.scan_model.specs.Words.{is_short, has_word}
 use Rattle.scan_model.specs.TextFaults.{lowest, or_else, first_fault}
 use Rattle.scan_model.specs.NetlistLines.{Form, nothing, input, output, definition, no_form, form_of, driver_named, takes_one}

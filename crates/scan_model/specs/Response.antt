@@ -1,8 +1,8 @@
 -- What the tester sees: the response of a fault, the expected values, and the fails that a fault predicts.
-use Rattle.std.specs.Prelude.{ℕ, List, [], map, length, Option, Some, None, Bool, true, false, ◌==◌, slice_index_or}
+use Rattle.std.specs.Prelude.{ℕ, List, [], map, length, Option, Some, None, Bool, false, ◌==◌, slice_index_or}
 use Rattle.std.specs.List.{position_or_len, range_with_len}
 use Rattle.scan_model.specs.declared.values.Tri.{Tri}
-use Rattle.scan_model.specs.declared.values.Tri.TheVariants.{Zero, One, Unknown}
+use Rattle.scan_model.specs.declared.values.Tri.TheVariants.{Unknown}
 use Rattle.scan_model.specs.declared.circuit.PinPlace.{PinPlace}
 use Rattle.scan_model.specs.declared.circuit.PinPlace.TheVariants as place
 use Rattle.scan_model.specs.declared.parts.PatternKind.{PatternKind}

@@ -1,7 +1,6 @@
 -- A circuit with its scan chains, its patterns and its pairs of neighbouring nets.
 use Rattle.std.specs.Prelude.{◌≡◌, ℕ, ◌+◌, ◌-◌, ◌<◌, ◌≤◌, max, List, [], ◌∷◌, ◌++◌, length, map, flat_map, cond, Bool, ◌==◌, ◌&&◌, ◌||◌, nat_lt, nat_eq, bytes_eq, IsFalse, All, slice_index_or}
 use Rattle.std.specs.List.{range_with_len, IsDistinct}
-use Rattle.scan_model.specs.declared.values.Tri.{Tri}
 use Rattle.scan_model.specs.declared.circuit.Driver.{Driver}
 use Rattle.scan_model.specs.declared.circuit.Driver.TheVariants.{Input, Flop, Gate}
 use Rattle.scan_model.specs.declared.parts.Chain.{Chain}

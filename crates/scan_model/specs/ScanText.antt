@@ -1,5 +1,5 @@
 -- The chains of a scan text.
-use Rattle.std.specs.Prelude.{ℕ, Bool, true, false, not, ◌&&◌, ◌||◌, nat_lt, nat_le, if◌then◌else◌, is_some, is_none, List, [], ◌∷◌, ◌++◌, length, map, take, filter_map, flat_map, slice_index_or, Option, Some, None, codes, Result}
+use Rattle.std.specs.Prelude.{ℕ, Bool, true, false, not, ◌&&◌, ◌||◌, nat_le, if◌then◌else◌, is_some, is_none, List, [], ◌∷◌, ◌++◌, length, map, take, filter_map, flat_map, slice_index_or, Option, Some, None, codes, Result}
 use Rattle.std.specs.List.{list_any, list_all}
 use Rattle.std.specs.Str.{bytes_eq}
 use Rattle.scan_model.specs.Lines.{text_lines, line_at, has_refused_byte}

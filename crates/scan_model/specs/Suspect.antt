@@ -1,7 +1,6 @@
 -- Which faults can explain a failing bit, judged by the fault-free values alone.
-use Rattle.std.specs.Prelude.{ℕ, ◌+◌, List, [], ◌∷◌, map, filter, drop, Bool, true, false, ◌&&◌, ◌||◌, ◌==◌, Some, None, nat_lt, nat_le, slice_index}
+use Rattle.std.specs.Prelude.{ℕ, ◌+◌, List, map, filter, drop, Bool, false, ◌&&◌, ◌||◌, ◌==◌, nat_lt, nat_le, slice_index}
 use Rattle.std.specs.List.{list_any, enumerate_from}
-use Rattle.scan_model.specs.declared.values.Tri.{Tri}
 use Rattle.scan_model.specs.declared.circuit.PinPlace.{PinPlace}
 use Rattle.scan_model.specs.declared.circuit.PinPlace.TheVariants as place
 use Rattle.scan_model.specs.declared.circuit.Driver.{Driver}
@@ -12,10 +11,9 @@ use Rattle.scan_model.specs.declared.parts.Point.{Point}
 use Rattle.scan_model.specs.declared.parts.Point.TheVariants.{Output, Cell}
 use Rattle.scan_model.specs.declared.fault.Fault.{Fault}
 use Rattle.scan_model.specs.declared.fault.Fault.TheVariants as fault
-use Rattle.scan_model.specs.declared.logs.Bit.{Bit}
 use Rattle.scan_model.specs.declared.logs.LogFacts.{LogFacts}
 use Rattle.scan_model.specs.Values.{are_opposite}
-use Rattle.scan_model.specs.Netlist.{Netlist, pin_at, driver_of}
+use Rattle.scan_model.specs.Netlist.{pin_at, driver_of}
 use Rattle.scan_model.specs.Cone.{in_fan_in}
 use Rattle.scan_model.specs.ScanTest.{ScanTest, chain_at, pattern_at, point_at}
 use Rattle.scan_model.specs.Faults.{stuck_value, bridged}

@@ -9,6 +9,7 @@ mod fault;
 mod logs;
 mod parts;
 mod rows;
+mod test_order;
 mod values;
 
 pub use circuit::{Circuit, Driver, GateKind, MakeFault, Net, Pin, PinPlace};

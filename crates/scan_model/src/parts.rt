@@ -3,6 +3,7 @@ ghost use Rattle.scan_model.specs.ScanTest.{scan_test, points_of, IsScanTest};
 
 use crate::circuit::Circuit;
 use crate::rows::{Name, NoMemory, Rows};
+use crate::test_order::points_in_order;
 use crate::values::Tri;
 use std::alloc::Global;
 use std::marker::Model;
@@ -80,12 +81,14 @@ impl Parts {
         requires { IsScanTest (scan_test circuit chains patterns pairs) }
         ensures { IfOk result (λ p. p ≡ scan_test circuit chains patterns pairs) }
     {
-        let _ = alloc;
-        let _ = circuit;
-        let _ = chains;
-        let _ = patterns;
-        let _ = pairs;
-        Err(NoMemory)
+        let points = points_in_order(alloc, circuit.outputs().len(), chains.as_slice())?;
+        Ok(Parts {
+            circuit,
+            chains,
+            patterns,
+            pairs,
+            points,
+        })
     }
 
     pub fn circuit(&self) -> &Circuit

@@ -1,0 +1,17 @@
+use Rattle.std.proofs.Common.{arith}
+use Rattle.scan_model.specs.ScanTest.{scan_test}
+use Rattle.scan_model.proofs.PointCount.{outputs_few, longest_few, points_few}
+use Rattle.scan_model.proofs.parts.Parts.make.Goals as goal
+
+pub points_in_order-requires-clause-outputs : goal.points_in_order-requires-clause-outputs
+points_in_order-requires-clause-outputs c = rw (c.len.ensures, c.outputs.ensures.value) (omega (arith, outputs_few c.args.circuit c.requires.circuit))
+
+pub points_in_order-requires-clause-cells : goal.points_in_order-requires-clause-cells
+points_in_order-requires-clause-cells c = rw c.as_slice.ensures (longest_few c.args.circuit c.args.chains c.requires.circuit c.requires.chains)
+
+pub invariant_of-result : goal.invariant_of-result
+invariant_of-result c = record {
+  fits = c.requires;
+  in_order = rw (← c.outputs.ensures.value, ← c.len.ensures, ← c.as_slice.ensures) c.in_ok-points.ensures;
+  few = points_few (scan_test c.args.circuit c.args.chains c.args.patterns c.args.pairs) c.requires;
+}
