@@ -3,6 +3,7 @@ pub mod Netlist
 pub mod Walks
 pub mod Circuits
 pub mod MakeFaults
+pub mod GateSearch
 pub mod Cone
 pub mod ChainShift
 pub mod ScanTest
