@@ -1,5 +1,5 @@
 -- The start of the search for an order of the gates, and what it has found at its end.
-use Rattle.std.proofs.Common.{◌≡◌, ℕ, zero, suc, ◌+◌, ◌<◌, ◌≤◌, Bool, true, false, cond, List, [], ◌∷◌, length, get_or, map, refl, sym, ap, ◌∙◌, inl, inr, arith}
+use Rattle.std.proofs.Common.{◌≡◌, ℕ, zero, suc, ◌+◌, ◌*◌, ◌<◌, ◌≤◌, Bool, true, false, cond, List, [], ◌∷◌, length, get_or, map, refl, sym, ap, ◌∙◌, inl, inr, arith}
 use Rattle.std.specs.Prelude.{Contains, count_by}
 use Rattle.std.specs.List.{sum, sum_by, range_with_len}
 use Rattle.std.proofs.lemmas.Bool.{cases_lt, false≢true}
@@ -39,10 +39,10 @@ counts_gate Input = refl
 counts_gate Flop = refl
 counts_gate (Gate kind) = refl
 
-abbrev mark_of : Net → Mark
+abbrev pub mark_of : Net → Mark
 mark_of n = first_mark n.driver
 
-abbrev count_of : Net → ℕ
+abbrev pub count_of : Net → ℕ
 count_of n = n.pin_count
 
 -- at first each gate is fresh, and counts as one that is not in the order
@@ -55,30 +55,33 @@ gates_counted c =
     (λ k lt. get_or-map unsettled (map mark_of c.nets) k Settled 0 (omega (arith, length-map c.nets mark_of)) ∙ ap unsettled (get_or-map mark_of c.nets k no_net Settled lt) ∙ counts_gate (driver_of c k)) in
     sym (sum-map unsettled (map mark_of c.nets)) ∙ ap sum same ∙ sum-map counts (range_with_len 0 N)
 
-pub search_starts : (c : Netlist) → IsSearch c 0 (state (map count_of c.nets) (map mark_of c.nets) [] [])
+pub search_starts : (c : Netlist) → IsAtRest c 0 (state (map count_of c.nets) (map mark_of c.nets) [] [])
 search_starts c =
     let mark : (g : ℕ) → g < length c.nets → mark_at (map mark_of c.nets) g ≡ first_mark (driver_of c g) = λ g lt. get_or-map mark_of c.nets g no_net Settled lt in
     let count : (g : ℕ) → g < length c.nets → get_or (map count_of c.nets) g 0 ≡ (net_at c g).pin_count = λ g lt. get_or-map count_of c.nets g no_net 0 lt in
     record {
-      left_size = length-map c.nets count_of;
-      marks_size = length-map c.nets mark_of;
-      left_fits = λ g lt. omega (arith, count g lt);
-      passed = λ g i lt ge low. absurd (omega (arith, count g lt));
-      gates = λ g lt h. gate_from_mark (driver_of c g) (λ e. h (mark g lt ∙ e));
-      settled = λ g lt is e. absurd (no_gate_from_mark (driver_of c g) (sym (mark g lt) ∙ e) is);
-      ordered = record {
-        gates = λ k lt. absurd (omega arith);
-        after_read = λ k h lt read is. absurd (omega arith);
+      search = record {
+        left_size = length-map c.nets count_of;
+        marks_size = length-map c.nets mark_of;
+        left_fits = λ g lt. omega (arith, count g lt);
+        passed = λ g i lt ge low. absurd (omega (arith, count g lt));
+        gates = λ g lt h. gate_from_mark (driver_of c g) (λ e. h (mark g lt ∙ e));
+        settled = λ g lt is e. absurd (no_gate_from_mark (driver_of c g) (sym (mark g lt) ∙ e) is);
+        ordered = record {
+          gates = λ k lt. absurd (omega arith);
+          after_read = λ k h lt read is. absurd (omega arith);
+        };
+        counted = omega (arith, gates_counted c);
+        smaller = λ g lt. absurd (omega arith);
+        line = tt;
+        open_on_path = λ g e. elim (cases_lt g (length c.nets)) [
+          | inl lt ↦ absurd (never_open (driver_of c g) (sym (mark g lt) ∙ e))
+          | inr past ↦
+              let settled : mark_at (map mark_of c.nets) g ≡ Settled = get_or_past (map mark_of c.nets) g Settled (omega (arith, length-map c.nets mark_of)) in
+              absurd (open_or_settled (mark_at (map mark_of c.nets) g) e settled)
+        ];
       };
-      counted = omega (arith, gates_counted c);
-      smaller = λ g lt. absurd (omega arith);
-      line = tt;
-      open_on_path = λ g e. elim (cases_lt g (length c.nets)) [
-        | inl lt ↦ absurd (never_open (driver_of c g) (sym (mark g lt) ∙ e))
-        | inr past ↦
-            let settled : mark_at (map mark_of c.nets) g ≡ Settled = get_or_past (map mark_of c.nets) g Settled (omega (arith, length-map c.nets mark_of)) in
-            absurd (open_or_settled (mark_at (map mark_of c.nets) g) e settled)
-      ];
+      empty = refl;
     }
   where
     open_or_settled : (m : Mark) → m ≡ Open → m ≡ Settled → ⊥
@@ -86,14 +89,14 @@ search_starts c =
 
 -- the order is whole once the walks from all nets have ended
 pub search_ends : (c : Netlist) (root : ℕ) (s : State) → length c.nets ≤ root → IsSearch c root s → IsEvaluationOrder c s.order
-search_ends c root s past search =
+search_ends c root s past known =
     let none : sum_by unsettled s.marks ≤ length s.marks * 0 = sum_by-le unsettled 0 s.marks (All-from_get_or (λ m. unsettled m ≤ 0) s.marks Settled (λ g lt.
-    omega (arith, ap unsettled (search.smaller g (omega (arith, search.marks_size)))))) in
+    omega (arith, ap unsettled (known.smaller g (omega (arith, known.marks_size)))))) in
     record {
-      gates = search.ordered.gates;
-      all = λ g lt is. search.settled g lt is (search.smaller g (omega arith));
-      count = omega (arith, none, search.counted);
-      after_read = search.ordered.after_read;
+      gates = known.ordered.gates;
+      all = λ g lt is. known.settled g lt is (known.smaller g (omega arith));
+      count = omega (arith, none, known.counted);
+      after_read = known.ordered.after_read;
     }
 
 -- inputs and outputs bear on no walk

@@ -142,58 +142,58 @@ order_more c order g ordered lt gate before = record {
 }
 
 order_short : (c : Netlist) (root : ℕ) (s : State) → IsSearch c root s → length s.order ≤ length c.nets
-order_short c root s search = omega (arith, search.counted, count_by-le-length (is_gate c) (net_numbers c), length-range_with_len 0 (length c.nets))
+order_short c root s known = omega (arith, known.counted, count_by-le-length (is_gate c) (net_numbers c), length-range_with_len 0 (length c.nets))
 
 -- the steps
 
 pub entered : (c : Netlist) (root : ℕ) (left : List ℕ) (marks : List Mark) (path order : List ℕ) (g : ℕ) → IsSearch c root (state left marks path order) → g < length c.nets → mark_at marks g ≡ Fresh → IsReached c root left (reverse path) g → IsSearch c root (state left (set marks g Open) (path ++ g ∷ []) order)
-entered c root left marks path order g search lt fresh reached =
-    let inside : g < length marks = omega (arith, search.marks_size) in
-    let not_on : Contains (reverse path) g → ⊥ = λ at. open_or_fresh (mark_at marks g) (line_open c root left marks (reverse path) search.line at.0 g at.1 at.2) fresh in
-    let line : IsLine c root left (set marks g Open) (g ∷ reverse path) = (lt, get_or-set_same marks g Open Settled inside, not_on, reached, line_same c root left left marks (set marks g Open) (reverse path) search.line (λ x at. refl) (λ x at. get_or-set_other marks g x Open Settled (λ e. not_on (subst (λ (n : ℕ). Contains (reverse path) n) e at)))) in
+entered c root left marks path order g known lt fresh reached =
+    let inside : g < length marks = omega (arith, known.marks_size) in
+    let not_on : Contains (reverse path) g → ⊥ = λ at. open_or_fresh (mark_at marks g) (line_open c root left marks (reverse path) known.line at.0 g at.1 at.2) fresh in
+    let line : IsLine c root left (set marks g Open) (g ∷ reverse path) = (lt, get_or-set_same marks g Open Settled inside, not_on, reached, line_same c root left left marks (set marks g Open) (reverse path) known.line (λ x at. refl) (λ x at. get_or-set_other marks g x Open Settled (λ e. not_on (subst (λ (n : ℕ). Contains (reverse path) n) e at)))) in
     record {
-      left_size = search.left_size;
-      marks_size = length-set marks g Open ∙ search.marks_size;
-      left_fits = search.left_fits;
-      passed = λ x i in' ge below. mark_kept marks g Open Settled (operand c x i) (search.passed x i in' ge below) (fresh_or_settled (mark_at marks g) fresh);
-      gates = λ x in' not_settled. search.gates x in' (λ e. not_settled (mark_kept marks g Open Settled x e (fresh_or_settled (mark_at marks g) fresh)));
-      settled = λ x in' gate e. search.settled x in' gate (mark_before marks g Open Settled x inside e (open_or_settled Open refl));
-      ordered = search.ordered;
-      counted = omega (arith, search.counted, sum_by-set unsettled marks g Open Settled inside, ap unsettled fresh);
-      smaller = λ x below. mark_kept marks g Open Settled x (search.smaller x below) (fresh_or_settled (mark_at marks g) fresh);
+      left_size = known.left_size;
+      marks_size = length-set marks g Open ∙ known.marks_size;
+      left_fits = known.left_fits;
+      passed = λ x i in' ge below. mark_kept marks g Open Settled (operand c x i) (known.passed x i in' ge below) (fresh_or_settled (mark_at marks g) fresh);
+      gates = λ x in' not_settled. known.gates x in' (λ e. not_settled (mark_kept marks g Open Settled x e (fresh_or_settled (mark_at marks g) fresh)));
+      settled = λ x in' gate e. known.settled x in' gate (mark_before marks g Open Settled x inside e (open_or_settled Open refl));
+      ordered = known.ordered;
+      counted = omega (arith, known.counted, sum_by-set unsettled marks g Open Settled inside, ap unsettled fresh);
+      smaller = λ x below. mark_kept marks g Open Settled x (known.smaller x below) (fresh_or_settled (mark_at marks g) fresh);
       line = subst (λ (l : List ℕ). IsLine c root left (set marks g Open) l) (sym (pushed_line path g)) line;
       open_on_path = λ x e. subst (λ (l : List ℕ). Contains l x) (sym (pushed_line path g)) (elim (cases_eq x g) [
         | inl same ↦ (0, omega arith, sym same)
-        | inr other ↦ Contains-cons g (reverse path) x (search.open_on_path x (sym (get_or-set_other marks g x Open Settled other) ∙ e))
+        | inr other ↦ Contains-cons g (reverse path) x (known.open_on_path x (sym (get_or-set_other marks g x Open Settled other) ∙ e))
       ]);
     }
 
 pub settled_top : (c : Netlist) (root : ℕ) (left : List ℕ) (marks : List Mark) (path order : List ℕ) (g : ℕ) → IsSearch c root (state left marks path order) → IsTop path g → get_or left g 0 ≡ 0 → IsSearch c root (state left (set marks g Settled) (take (length path - 1) path) (order ++ g ∷ []))
-settled_top c root left marks path order g search top none =
+settled_top c root left marks path order g known top none =
     let below = reverse (take (length path - 1) path) in
-    let line : IsLine c root left marks (g ∷ below) = subst (λ (l : List ℕ). IsLine c root left marks l) (top_line path g top) search.line in
-    let inside : g < length marks = omega (arith, search.marks_size, line.0) in
-    let gate : is_gate c g ≡ true = search.gates g line.0 (open_or_settled (mark_at marks g) line.1) in
+    let line : IsLine c root left marks (g ∷ below) = subst (λ (l : List ℕ). IsLine c root left marks l) (top_line path g top) known.line in
+    let inside : g < length marks = omega (arith, known.marks_size, line.0) in
+    let gate : is_gate c g ≡ true = known.gates g line.0 (open_or_settled (mark_at marks g) line.1) in
     record {
-      left_size = search.left_size;
-      marks_size = length-set marks g Settled ∙ search.marks_size;
-      left_fits = search.left_fits;
-      passed = λ x i in' ge low. settled_kept marks g (operand c x i) inside (search.passed x i in' ge low);
-      gates = λ x in' not_settled. search.gates x in' (λ e. not_settled (settled_kept marks g x inside e));
+      left_size = known.left_size;
+      marks_size = length-set marks g Settled ∙ known.marks_size;
+      left_fits = known.left_fits;
+      passed = λ x i in' ge low. settled_kept marks g (operand c x i) inside (known.passed x i in' ge low);
+      gates = λ x in' not_settled. known.gates x in' (λ e. not_settled (settled_kept marks g x inside e));
       settled = λ x in' is e. elim (cases_eq x g) [
         | inl same ↦ subst (λ (n : ℕ). Contains (order ++ g ∷ []) n) (sym same) (Contains-push order g)
-        | inr other ↦ Contains-append_left order (g ∷ []) x (search.settled x in' is (sym (get_or-set_other marks g x Settled Settled other) ∙ e))
+        | inr other ↦ Contains-append_left order (g ∷ []) x (known.settled x in' is (sym (get_or-set_other marks g x Settled Settled other) ∙ e))
       ];
-      ordered = order_more c order g search.ordered line.0 gate (λ h read is.
+      ordered = order_more c order g known.ordered line.0 gate (λ h read is.
         let at = reads_from c g h read in
-        let settled : mark_at marks h ≡ Settled = ap (λ (n : ℕ). mark_at marks n) (sym at.2) ∙ search.passed g at.0 line.0 (omega arith) at.1 in
-        search.settled h (gate_in_range c h is) is settled);
-      counted = omega (arith, search.counted, length_push order g, sum_by-set unsettled marks g Settled Settled inside, ap unsettled line.1);
-      smaller = λ x low. settled_kept marks g x inside (search.smaller x low);
+        let settled : mark_at marks h ≡ Settled = ap (λ (n : ℕ). mark_at marks n) (sym at.2) ∙ known.passed g at.0 line.0 (omega arith) at.1 in
+        known.settled h (gate_in_range c h is) is settled);
+      counted = omega (arith, known.counted, length_push order g, sum_by-set unsettled marks g Settled Settled inside, ap unsettled line.1);
+      smaller = λ x low. settled_kept marks g x inside (known.smaller x low);
       line = line_same c root left left marks (set marks g Settled) below line.4 (λ x at. refl) (λ x at. get_or-set_other marks g x Settled Settled (λ e. line.2 (subst (λ (n : ℕ). Contains below n) e at)));
       open_on_path = λ x e.
         let was : mark_at marks x ≡ Open = mark_before marks g Settled Open x inside e (λ d. open_or_settled Open refl (sym d)) in
-        let at : Contains (g ∷ below) x = subst (λ (l : List ℕ). Contains l x) (top_line path g top) (search.open_on_path x was) in
+        let at : Contains (g ∷ below) x = subst (λ (l : List ℕ). Contains l x) (top_line path g top) (known.open_on_path x was) in
         in_rest g below x at.0 at.1 at.2 (λ same. open_or_settled (mark_at (set marks g Settled) x) e (ap (λ (n : ℕ). mark_at (set marks g Settled) n) (sym same) ∙ get_or-set_same marks g Settled Settled inside));
     }
   where
@@ -202,19 +202,19 @@ settled_top c root left marks path order g search top none =
     in_rest g gs x (suc k) lt is other = (k, omega arith, is)
 
 pub passed_operand : (c : Netlist) (root : ℕ) (left : List ℕ) (marks : List Mark) (path order : List ℕ) (g : ℕ) → IsSearch c root (state left marks path order) → IsTop path g → 0 < get_or left g 0 → mark_at marks (operand c g (get_or left g 0 - 1)) ≡ Settled → IsSearch c root (state (set left g (get_or left g 0 - 1)) marks path order)
-passed_operand c root left marks path order g search top some is_settled =
+passed_operand c root left marks path order g known top some is_settled =
     let below = reverse (take (length path - 1) path) in
     let fewer = get_or left g 0 - 1 in
-    let line : IsLine c root left marks (g ∷ below) = subst (λ (l : List ℕ). IsLine c root left marks l) (top_line path g top) search.line in
-    let here : get_or (set left g fewer) g 0 ≡ fewer = get_or-set_same left g fewer 0 (omega (arith, search.left_size, line.0)) in
+    let line : IsLine c root left marks (g ∷ below) = subst (λ (l : List ℕ). IsLine c root left marks l) (top_line path g top) known.line in
+    let here : get_or (set left g fewer) g 0 ≡ fewer = get_or-set_same left g fewer 0 (omega (arith, known.left_size, line.0)) in
     let same : (x : ℕ) → Contains below x → get_or (set left g fewer) x 0 ≡ get_or left x 0 = λ x at. get_or-set_other left g x fewer 0 (λ e. line.2 (subst (λ (n : ℕ). Contains below n) e at)) in
     let new : IsLine c root (set left g fewer) marks (g ∷ below) = (line.0, line.1, line.2, reached_same c root left (set left g fewer) below g line.3 same, line_same c root left (set left g fewer) marks marks below line.4 same (λ x at. refl)) in
     record {
-      left_size = length-set left g fewer ∙ search.left_size;
-      marks_size = search.marks_size;
+      left_size = length-set left g fewer ∙ known.left_size;
+      marks_size = known.marks_size;
       left_fits = λ x in'. elim (cases_eq x g) [
-        | inl at ↦ omega (arith, search.left_fits g line.0, ap (λ (n : ℕ). get_or (set left g fewer) n 0) at, here, ap (λ (n : ℕ). (net_at c n).pin_count) at)
-        | inr other ↦ omega (arith, search.left_fits x in', get_or-set_other left g x fewer 0 other)
+        | inl at ↦ omega (arith, known.left_fits g line.0, ap (λ (n : ℕ). get_or (set left g fewer) n 0) at, here, ap (λ (n : ℕ). (net_at c n).pin_count) at)
+        | inr other ↦ omega (arith, known.left_fits x in', get_or-set_other left g x fewer 0 other)
       ];
       passed = λ x i in' ge low. elim (cases_eq x g) [
         | inl at ↦
@@ -222,59 +222,59 @@ passed_operand c root left marks path order g search top some is_settled =
             let inside : i < (net_at c g).pin_count = omega (arith, ap (λ (n : ℕ). (net_at c n).pin_count) at) in
             ap (λ (n : ℕ). mark_at marks (operand c n i)) at ∙ elim (cases_eq i fewer) [
               | inl now ↦ ap (λ (n : ℕ). mark_at marks (operand c g n)) now ∙ is_settled
-              | inr before ↦ search.passed g i line.0 (omega arith) inside
+              | inr before ↦ known.passed g i line.0 (omega arith) inside
             ]
-        | inr other ↦ search.passed x i in' (omega (arith, get_or-set_other left g x fewer 0 other)) low
+        | inr other ↦ known.passed x i in' (omega (arith, get_or-set_other left g x fewer 0 other)) low
       ];
-      gates = search.gates;
-      settled = search.settled;
-      ordered = search.ordered;
-      counted = search.counted;
-      smaller = search.smaller;
+      gates = known.gates;
+      settled = known.settled;
+      ordered = known.ordered;
+      counted = known.counted;
+      smaller = known.smaller;
       line = subst (λ (l : List ℕ). IsLine c root (set left g fewer) marks l) (sym (top_line path g top)) new;
-      open_on_path = search.open_on_path;
+      open_on_path = known.open_on_path;
     }
 
 -- the last gate reads one that is on the path
 pub closes_loop : (c : Netlist) (root : ℕ) (s : State) (g : ℕ) → IsSearch c root s → IsTop s.path g → 0 < get_or s.left g 0 → mark_at s.marks (operand c g (get_or s.left g 0 - 1)) ≡ Open → IsLeastWithoutLevel c root
-closes_loop c root s g search top some stands =
+closes_loop c root s g known top some stands =
     let below = reverse (take (length s.path - 1) s.path) in
-    let line : IsLine c root s.left s.marks (g ∷ below) = subst (λ (l : List ℕ). IsLine c root s.left s.marks l) (top_line s.path g top) search.line in
+    let line : IsLine c root s.left s.marks (g ∷ below) = subst (λ (l : List ℕ). IsLine c root s.left s.marks l) (top_line s.path g top) known.line in
     let begins : mark_at s.marks root ≡ Open = root_open c root s.left s.marks g below line in
-    let read : Contains (reads c g) (operand c g (get_or s.left g 0 - 1)) = reads_at c g (get_or s.left g 0 - 1) (omega (arith, search.left_fits g line.0)) in
-    let in_range : (x : ℕ) → mark_at s.marks x ≡ Open → x < length c.nets = λ x is. omega (arith, open_in_range s.marks x is, search.marks_size) in
-    let is_open_gate : (x : ℕ) → mark_at s.marks x ≡ Open → is_gate c x ≡ true = λ x is. search.gates x (in_range x is) (open_or_settled (mark_at s.marks x) is) in
+    let read : Contains (reads c g) (operand c g (get_or s.left g 0 - 1)) = reads_at c g (get_or s.left g 0 - 1) (omega (arith, known.left_fits g line.0)) in
+    let in_range : (x : ℕ) → mark_at s.marks x ≡ Open → x < length c.nets = λ x is. omega (arith, open_in_range s.marks x is, known.marks_size) in
+    let is_open_gate : (x : ℕ) → mark_at s.marks x ≡ Open → is_gate c x ≡ true = λ x is. known.gates x (in_range x is) (open_or_settled (mark_at s.marks x) is) in
     record {
       in_range = in_range root begins;
       gate = is_open_gate root begins;
       no_level = stuck_has_no_level c (λ x. mark_at s.marks x ≡ Open) (λ x is.
-        let at : Contains (g ∷ below) x = subst (λ (l : List ℕ). Contains l x) (top_line s.path g top) (search.open_on_path x is) in
-        (is_open_gate x is, line_reads c root s.left s.marks search.left_fits g below line (operand c g (get_or s.left g 0 - 1)) read stands at.0 x at.1 at.2)) root begins;
-      least = λ x lt is. listed_has_level c s.order search.ordered (order_short c root s search) x (search.settled x (gate_in_range c x is) is (search.smaller x lt));
+        let at : Contains (g ∷ below) x = subst (λ (l : List ℕ). Contains l x) (top_line s.path g top) (known.open_on_path x is) in
+        (is_open_gate x is, line_reads c root s.left s.marks known.left_fits g below line (operand c g (get_or s.left g 0 - 1)) read stands at.0 x at.1 at.2)) root begins;
+      least = λ x lt is. listed_has_level c s.order known.ordered (order_short c root s known) x (known.settled x (gate_in_range c x is) is (known.smaller x lt));
     }
 
 -- the root after a root whose walk has ended
 pub at_rest_more : (c : Netlist) (root : ℕ) (s : State) → IsSearch c root s → s.path ≡ [] → (mark_at s.marks root ≡ Fresh → ⊥) → IsAtRest c (root + 1) s
-at_rest_more c root s search empty begun =
+at_rest_more c root s known empty begun =
     let not_open : mark_at s.marks root ≡ Open → ⊥ = λ e.
-      let at : Contains [] root = subst (λ (p : List ℕ). Contains (reverse p) root) empty (search.open_on_path root e) in
+      let at : Contains [] root = subst (λ (p : List ℕ). Contains (reverse p) root) empty (known.open_on_path root e) in
       absurd (omega (arith, at.1)) in
     record {
       search = record {
-        left_size = search.left_size;
-        marks_size = search.marks_size;
-        left_fits = search.left_fits;
-        passed = search.passed;
-        gates = search.gates;
-        settled = search.settled;
-        ordered = search.ordered;
-        counted = search.counted;
+        left_size = known.left_size;
+        marks_size = known.marks_size;
+        left_fits = known.left_fits;
+        passed = known.passed;
+        gates = known.gates;
+        settled = known.settled;
+        ordered = known.ordered;
+        counted = known.counted;
         smaller = λ g lt. elim (cases_eq g root) [
           | inl same ↦ ap (λ (n : ℕ). mark_at s.marks n) same ∙ settled_remains (mark_at s.marks root) begun not_open
-          | inr other ↦ search.smaller g (omega arith)
+          | inr other ↦ known.smaller g (omega arith)
         ];
         line = subst (λ (p : List ℕ). IsLine c (root + 1) s.left s.marks (reverse p)) (sym empty) tt;
-        open_on_path = search.open_on_path;
+        open_on_path = known.open_on_path;
       };
       empty = empty;
     }
