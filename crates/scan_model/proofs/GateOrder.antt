@@ -9,6 +9,8 @@ use Rattle.std.proofs.lemmas.List.Sums.{sum_by-le, sum-map}
 use Rattle.std.proofs.lemmas.List.FromFn.{fill_by_all}
 use Rattle.scan_model.specs.declared.circuit.Driver.{Driver}
 use Rattle.scan_model.specs.declared.circuit.Driver.TheVariants.{Input, Flop, Gate}
+use Rattle.scan_model.specs.declared.circuit.MakeFault.{MakeFault}
+use Rattle.scan_model.specs.declared.circuit.MakeFault.TheVariants.{NoLevel, NoMemory}
 use Rattle.scan_model.specs.declared.circuit.Net.{Net}
 use Rattle.scan_model.specs.declared.circuit.Pin.{Pin}
 use Rattle.scan_model.specs.declared.evaluation.Mark.{Mark}
@@ -16,6 +18,7 @@ use Rattle.scan_model.specs.declared.evaluation.Mark.TheVariants.{Fresh, Open, S
 use Rattle.scan_model.specs.Netlist.{Netlist, netlist, net_at, is_gate, is_gate_driver, driver_of, net_numbers, no_net}
 use Rattle.scan_model.specs.Walks.{IsWalk, HasLevel, HasLevels, IsEvaluationOrder, IsLeastWithoutLevel}
 use Rattle.scan_model.specs.Circuits.{IsCircuit}
+use Rattle.scan_model.specs.MakeFaults.{IfNoLevel}
 use Rattle.scan_model.specs.GateSearch.{wiring, IsWired, State, state, first_mark, mark_at, unsettled, IsSearch, IsAtRest}
 use Rattle.scan_model.proofs.Levels.{order_gives_levels}
 
@@ -115,10 +118,14 @@ order_of_circuit nets pins inputs outputs order ordered = record { gates = order
 pub levels_of_circuit : (c : Netlist) (order : List ℕ) → IsEvaluationOrder c order → HasLevels c
 levels_of_circuit c order ordered = order_gives_levels c order ordered
 
-pub least_of_circuit : (nets : List Net) (pins : List Pin) (inputs outputs : List ℕ) (n : ℕ) → IsLeastWithoutLevel (wiring nets pins) n → IsLeastWithoutLevel (netlist nets pins inputs outputs) n
+least_of_circuit : (nets : List Net) (pins : List Pin) (inputs outputs : List ℕ) (n : ℕ) → IsLeastWithoutLevel (wiring nets pins) n → IsLeastWithoutLevel (netlist nets pins inputs outputs) n
 least_of_circuit nets pins inputs outputs n least = record {
   in_range = least.in_range;
   gate = least.gate;
   no_level = λ level. least.no_level (λ gs walk. level gs (same_walk nets pins [] [] inputs outputs (n ∷ gs) walk));
   least = λ g lt is gs walk. least.least g lt is gs (same_walk nets pins inputs outputs [] [] (g ∷ gs) walk);
 }
+
+pub fault_of_circuit : (nets : List Net) (pins : List Pin) (inputs outputs : List ℕ) (fault : MakeFault) → IfNoLevel fault (IsLeastWithoutLevel (wiring nets pins)) → IfNoLevel fault (IsLeastWithoutLevel (netlist nets pins inputs outputs))
+fault_of_circuit nets pins inputs outputs (NoLevel n) least = least_of_circuit nets pins inputs outputs n least
+fault_of_circuit nets pins inputs outputs NoMemory least = tt
