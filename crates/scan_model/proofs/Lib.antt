@@ -12,6 +12,9 @@ pub mod Outputs
 pub mod Points
 pub mod Sites
 pub mod Levels
+pub mod GateSearch
+pub mod GateSteps
+pub mod GateOrder
 pub mod BitTables
 pub mod Definite
 pub mod FaultSteps

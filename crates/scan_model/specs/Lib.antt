@@ -4,6 +4,7 @@ pub mod Walks
 pub mod Circuits
 pub mod MakeFaults
 pub mod TestOrder
+pub mod GateSearch
 pub mod Cone
 pub mod ChainShift
 pub mod ScanTest

@@ -4,6 +4,7 @@ ghost use Rattle.scan_model.specs.Walks.{IsEvaluationOrder, HasLevels, IsLeastWi
 ghost use Rattle.scan_model.specs.Circuits.{IsCircuit};
 ghost use Rattle.scan_model.specs.MakeFaults.{IfNoLevel};
 
+use crate::evaluation::evaluation_order;
 use crate::rows::{Name, NoMemory, Rows};
 use std::alloc::Global;
 use std::marker::Model;
@@ -100,12 +101,14 @@ impl Circuit {
         ensures levels { OnOk result (HasLevels (netlist nets pins inputs outputs)) }
         ensures no_level { IfErr result (λ e. IfNoLevel e (IsLeastWithoutLevel (netlist nets pins inputs outputs))) }
     {
-        let _ = alloc;
-        let _ = nets;
-        let _ = pins;
-        let _ = inputs;
-        let _ = outputs;
-        Err(MakeFault::NoMemory)
+        let order = evaluation_order(alloc, nets.as_slice(), pins.as_slice())?;
+        Ok(Circuit {
+            nets,
+            pins,
+            inputs,
+            outputs,
+            order,
+        })
     }
 
     pub fn nets(&self) -> &Rows<Net>

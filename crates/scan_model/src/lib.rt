@@ -4,6 +4,7 @@
 mod bits;
 mod circuit;
 mod digest;
+mod evaluation;
 mod expected;
 mod fault;
 mod logs;
