@@ -1,8 +1,11 @@
 //! Plain simulation: the response of a fault in one pattern, and the expected values of all patterns.
 #![tactic(auto)]
 
+mod effect;
+mod evaluate;
 mod expected;
 mod response;
+mod source;
 
 pub use expected::expected_all;
 pub use response::plain_response;
