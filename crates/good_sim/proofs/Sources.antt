@@ -7,10 +7,10 @@ use Rattle.scan_model.specs.declared.values.Tri.{Tri}
 use Rattle.scan_model.specs.declared.values.Tri.TheVariants.{Unknown}
 use Rattle.scan_model.specs.declared.parts.Chain.{Chain}
 use Rattle.scan_model.specs.ChainShift.{value_at}
-use Rattle.scan_model.specs.declared.parts.PatternKind.{PatternKind}
+use Rattle.scan_model.specs.declared.parts.Pattern.{Pattern}
 use Rattle.scan_model.specs.declared.parts.PatternKind.TheVariants.{Capture, Shift}
 use Rattle.scan_model.specs.Netlist.{Netlist}
-use Rattle.scan_model.specs.ScanTest.{cells_of, no_chain, input_count}
+use Rattle.scan_model.specs.ScanTest.{cells_of, no_chain, input_count, FitsPattern}
 use Rattle.scan_model.specs.NetValue.{assigned}
 use Rattle.scan_model.proofs.Assigned.{assigned_agree, assigned-append}
 
@@ -25,7 +25,7 @@ pub cells_within : (P : ℕ → Type 0) (chains : List Chain) (j : ℕ) (c : Cha
 cells_within P chains j c lt is all = All-from_get_or P c.cells 0 (λ k inside. All-contains P (cells_of chains) (get_or c.cells k 0) all
     (cell_of_chain chains j (get_or c.cells k 0) c lt (rw (← is) (Contains-get_or c.cells k 0 inside))))
 
-same_len : (chains : List Chain) (rows : List (List Tri)) (j : ℕ) (d : Chain) (e : List Tri) → map length rows ≡ map (λ h. length h.cells) chains → j < length chains → length (get_or chains j d).cells ≡ length (get_or rows j e)
+pub same_len : (chains : List Chain) (rows : List (List Tri)) (j : ℕ) (d : Chain) (e : List Tri) → map length rows ≡ map (λ h. length h.cells) chains → j < length chains → length (get_or chains j d).cells ≡ length (get_or rows j e)
 same_len [] rows j d e fit lt = absurd (omega arith)
 same_len (c ∷ cs) [] j d e fit lt = absurd cc
 same_len (c ∷ cs) (r ∷ rs) zero d e fit lt = cc
@@ -58,5 +58,5 @@ unknowns (suc k) zero = refl
 unknowns (suc k) (suc n) = unknowns k n
 
 -- a pattern that captures has a value for each input
-pub input_values : (c : Netlist) (kind : PatternKind) (n : ℕ) → kind ≡ Capture → n ≡ input_count c kind → n ≡ length c.inputs
-input_values c kind n captures has = has ∙ ap (input_count c) captures
+pub inputs_of_capture : (c : Netlist) (chains : List Chain) (w : Pattern) → w.kind ≡ Capture → FitsPattern c chains w → length w.inputs ≡ length c.inputs
+inputs_of_capture c chains w captures fits = fits.inputs ∙ ap (input_count c) captures

@@ -1,9 +1,12 @@
 //! Plain simulation: the response of a fault in one pattern, and the expected values of all patterns.
 #![tactic(auto)]
 
+mod chains;
 mod effect;
 mod evaluate;
 mod expected;
+mod force;
+mod observe;
 mod response;
 mod source;
 
