@@ -1,8 +1,8 @@
 -- What the points show, where the values of all nets and what is forced are known.
-use Rattle.std.proofs.Common.{◌≡◌, ◌≢◌, ℕ, ◌+◌, ◌<◌, ◌≤◌, Bool, true, false, cond, eqb, List, [], ◌∷◌, ◌++◌, length, map, get_or, replicate, Option, Some, None, unwrap_or, refl, sym, ap, subst, ◌∙◌, inl, inr, arith}
-use Rattle.std.specs.Prelude.{All, slice_index, slice_index_or, IfSome, flat_map}
-use Rattle.std.specs.List.{enumerate_from, AllByRecursion, range_with_len}
-use Rattle.std.proofs.lemmas.Bool.{cases_eq, eq-eqb, ne_eqb, both_ways}
+use Rattle.std.proofs.Common.{◌≡◌, ℕ, ◌<◌, true, false, cond, eqb, List, [], ◌∷◌, length, map, get_or, replicate, Option, Some, None, refl, sym, ap, subst, ◌∙◌, arith}
+use Rattle.std.specs.Prelude.{All, slice_index, slice_index_or}
+use Rattle.std.specs.List.{AllByRecursion}
+use Rattle.std.proofs.lemmas.Bool.{eq-eqb, ne_eqb, both_ways}
 use Rattle.std.proofs.lemmas.List.{get_or_default, get_or-map, length-map}
 use Rattle.std.proofs.lemmas.List.FromFn.{get_or-map-range_with_len, length-map-range_with_len}
 use Rattle.std.proofs.lemmas.List.Elements.{recursion_from_All}
@@ -11,25 +11,20 @@ use Rattle.scan_model.specs.declared.values.Tri.{Tri}
 use Rattle.scan_model.specs.declared.values.Tri.TheVariants.{Unknown}
 use Rattle.scan_model.specs.declared.circuit.Driver.{Driver}
 use Rattle.scan_model.specs.declared.circuit.Driver.TheVariants.{Input, Flop, Gate}
-use Rattle.scan_model.specs.declared.circuit.Net.{Net}
 use Rattle.scan_model.specs.declared.parts.Chain.{Chain}
 use Rattle.scan_model.specs.declared.parts.Point.{Point}
 use Rattle.scan_model.specs.declared.parts.Point.TheVariants.{Output, Cell}
-use Rattle.scan_model.specs.declared.parts.PatternKind.{PatternKind}
 use Rattle.scan_model.specs.declared.parts.PatternKind.TheVariants.{Capture, Shift}
 use Rattle.scan_model.specs.declared.fault.Fault.{Fault}
 use Rattle.scan_model.specs.declared.fault.Fault.TheVariants as fault
-use Rattle.scan_model.specs.Netlist.{Netlist, IsNetlist, IsOperandCount, driver_of, net_at, pin_at, no_net}
+use Rattle.scan_model.specs.Netlist.{Netlist, IsNetlist, IsOperandCount, driver_of, net_at, pin_at}
 use Rattle.scan_model.specs.ChainShift.{value_at}
 use Rattle.scan_model.specs.ScanTest.{ScanTest, IsScanTest, IsFlop, IsPoint, chain_at, no_chain, no_pattern, pattern_at, points_of}
-use Rattle.scan_model.specs.Faults.{loaded, unloaded}
-use Rattle.scan_model.specs.NetValue.{Forced, seen, assigned, values_of, source_of, loads_of, forced_by, net_value, pin_value, nothing_forced}
+use Rattle.scan_model.specs.Faults.{unloaded}
+use Rattle.scan_model.specs.NetValue.{Forced, seen, values_of, source_of, loads_of, forced_by, net_value, pin_value}
 use Rattle.scan_model.specs.Response.{is_at_output, output_pin, data_pin, response, observed, captured, held, output_value}
 use Rattle.scan_model.proofs.Outputs.{output_pin-in_range, output_pin-only, output_pin-at, output_pin-net, output_in_range}
 use Rattle.scan_model.proofs.Points.{points_are_points}
-use Rattle.good_sim.specs.declared.effect.Effect.{Effect}
-use Rattle.good_sim.specs.declared.effect.Effect.TheVariants as effect
-use Rattle.good_sim.specs.Effect.{forces}
 use Rattle.good_sim.specs.Valuation.{AreValues}
 use Rattle.good_sim.specs.declared.chains.Direction.TheVariants.{In, Out}
 use Rattle.good_sim.specs.Shifts.{shifted_rows, FitChains}
@@ -58,7 +53,6 @@ pub shown_by_net : (c : Netlist) (forced : Forced) (values : List Tri) (k : ℕ)
     → get_or values (slice_index c.outputs k) d ≡ seen c forced (value_at values) (output_pin c k)
 shown_by_net c forced values k d sound lt fits free =
     rw (← free, output_pin-net c k sound lt) (get_or_default values (slice_index c.outputs k) d Unknown (omega (arith, fits, output_in_range c k sound lt)))
-
 
 seen_same : (c : Netlist) (e f : Forced) (u v : ℕ → Tri) (p : ℕ) → IsNetlist c → e ≡ f → ((n : ℕ) → n < length c.nets → u n ≡ v n) → p < length c.pins → seen c e u p ≡ seen c f v p
 seen_same c e f u v p sound same agree lt = rw (same, agree (pin_at c p).net (sound.pin_nets p lt)) refl

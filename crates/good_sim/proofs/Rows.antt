@@ -1,10 +1,8 @@
 -- The rows of expected values.
-use Rattle.std.proofs.Common.{◌≡◌, ℕ, ◌<◌, List, [], length, get_or, map, None, ap, ◌∙◌, arith}
+use Rattle.std.proofs.Common.{◌≡◌, ◌<◌, length, None, ap, ◌∙◌, arith}
 use Rattle.std.specs.Prelude.{All}
-use Rattle.std.specs.List.{range_with_len}
 use Rattle.std.proofs.lemmas.List.{length-map}
 use Rattle.std.proofs.lemmas.List.FromFn.{get_or-map-range_with_len, length-map-range_with_len}
-use Rattle.scan_model.specs.declared.values.Tri.{Tri}
 use Rattle.scan_model.specs.ScanTest.{ScanTest, points_of}
 use Rattle.scan_model.specs.Response.{response, observed, expected_rows}
 

@@ -1,5 +1,5 @@
 -- Rows of values as they move through the chains.
-use Rattle.std.proofs.Common.{◌≡◌, ℕ, ◌+◌, ◌<◌, Bool, true, false, cond, eqb, List, [], ◌∷◌, length, map, get_or, Option, Some, None, refl, sym, ap, ◌∙◌, inl, inr, arith}
+use Rattle.std.proofs.Common.{◌≡◌, ℕ, ◌+◌, ◌<◌, eqb, List, [], ◌∷◌, length, map, get_or, Option, Some, None, refl, sym, ap, ◌∙◌, inl, inr, arith}
 use Rattle.std.specs.Prelude.{slice_index_or, IfSome}
 use Rattle.std.specs.List.{enumerate_from, range_with_len}
 use Rattle.std.proofs.lemmas.Bool.{cases_Bool}
@@ -14,8 +14,8 @@ use Rattle.scan_model.specs.ChainShift.{loaded_at, unloaded_at}
 use Rattle.scan_model.specs.ScanTest.{ScanTest, HasSite, no_chain}
 use Rattle.good_sim.specs.declared.chains.Direction.{Direction}
 use Rattle.good_sim.specs.declared.chains.Direction.TheVariants.{In, Out}
-use Rattle.good_sim.specs.Shifts.{shifted_past, shifted, shifted_rows, FitChains, SitsWithin, SitsWithinRows}
-use Rattle.good_sim.proofs.Sources.{same_len, as_many}
+use Rattle.good_sim.specs.Shifts.{shifted_past, shifted, shifted_rows, FitChains, SitsWithinRows}
+use Rattle.good_sim.proofs.Sources.{same_len}
 
 -- a row keeps its length
 length-shifted_past : (d : Direction) (kind : CellKind) (c : ℕ) (row : List Tri) → length (shifted_past d kind c row) ≡ length row

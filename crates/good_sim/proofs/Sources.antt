@@ -1,16 +1,16 @@
 -- Rows of values written to chains, the last first.
-use Rattle.std.proofs.Common.{◌≡◌, ℕ, zero, suc, ◌+◌, ◌<◌, ◌≤◌, List, [], ◌∷◌, ◌++◌, length, map, get_or, drop, replicate, refl, sym, ap, ◌∙◌, arith}
+use Rattle.std.proofs.Common.{◌≡◌, ℕ, zero, suc, ◌+◌, ◌<◌, List, [], ◌∷◌, length, map, get_or, drop, replicate, refl, sym, ap, ◌∙◌, arith}
 use Rattle.std.specs.Prelude.{All, Contains, flat_map}
-use Rattle.std.proofs.lemmas.List.{get_or_default, drop_more, length-map}
+use Rattle.std.proofs.lemmas.List.{drop_more, length-map}
 use Rattle.std.proofs.lemmas.List.Elements.{Contains-append_left, Contains-append_right, Contains-get_or, All-contains, All-from_get_or}
 use Rattle.scan_model.specs.declared.values.Tri.{Tri}
 use Rattle.scan_model.specs.declared.values.Tri.TheVariants.{Unknown}
 use Rattle.scan_model.specs.declared.parts.Chain.{Chain}
 use Rattle.scan_model.specs.ChainShift.{value_at}
 use Rattle.scan_model.specs.declared.parts.Pattern.{Pattern}
-use Rattle.scan_model.specs.declared.parts.PatternKind.TheVariants.{Capture, Shift}
+use Rattle.scan_model.specs.declared.parts.PatternKind.TheVariants.{Capture}
 use Rattle.scan_model.specs.Netlist.{Netlist}
-use Rattle.scan_model.specs.ScanTest.{cells_of, no_chain, input_count, FitsPattern}
+use Rattle.scan_model.specs.ScanTest.{cells_of, input_count, FitsPattern}
 use Rattle.scan_model.specs.NetValue.{assigned}
 use Rattle.scan_model.proofs.Assigned.{assigned_agree, assigned-append}
 

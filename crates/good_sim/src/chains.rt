@@ -57,11 +57,13 @@ fn shift_row(
     ensures { IfOk result (λ into. into ≡ shifted direction fault chain row.now) }
 {
     match fault {
-        Some(Fault::Cell {
-            chain: faulty,
-            pos,
-            kind,
-        }) => {
+        Some(
+            Fault::Cell {
+                chain: faulty,
+                pos,
+                kind,
+            },
+        ) => {
             if chain == faulty as usize {
                 faulty_row(alloc, direction, kind, pos as usize, row)
             } else {

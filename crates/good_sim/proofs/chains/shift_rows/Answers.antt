@@ -1,8 +1,7 @@
-use Rattle.std.proofs.Common.{◌≡◌, ◌∙◌, [], sym, ap, length, map, arith}
+use Rattle.std.proofs.Common.{◌≡◌, ◌∙◌, [], length, arith}
 use Rattle.std.specs.Prelude.{slice_index_or}
-use Rattle.std.specs.List.{range_with_len}
 use Rattle.std.proofs.lemmas.List.{get_or_default}
-use Rattle.good_sim.specs.Shifts.{shifted, SitsWithin}
+use Rattle.good_sim.specs.Shifts.{shifted}
 use Rattle.good_sim.proofs.Evaluated.{mapped_more}
 use Rattle.good_sim.proofs.Shifting.{shifted_rows-from}
 use Rattle.good_sim.proofs.chains.shift_rows.Goals as goal

@@ -1,4 +1,4 @@
-use Rattle.std.proofs.Common.{arith, ap, length, ◌≡◌, ◌∙◌}
+use Rattle.std.proofs.Common.{arith}
 use Rattle.good_sim.proofs.Rows.{length-expected_rows, rows_are_whole}
 use Rattle.good_sim.proofs.expected.expected_all.Goals as goal
 

@@ -1,4 +1,4 @@
-use Rattle.std.proofs.Common.{◌≡◌, ◌++◌, ◌∙◌, sym, length, arith, ap}
+use Rattle.std.proofs.Common.{◌∙◌, sym}
 use Rattle.std.specs.Prelude.{flat_map}
 use Rattle.scan_model.specs.ChainShift.{value_at}
 use Rattle.scan_model.specs.ScanTest.{cells_of}
