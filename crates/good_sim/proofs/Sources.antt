@@ -56,7 +56,3 @@ pub unknowns : (k n : ℕ) → value_at (replicate k Unknown) n ≡ Unknown
 unknowns zero n = refl
 unknowns (suc k) zero = refl
 unknowns (suc k) (suc n) = unknowns k n
-
--- a pattern that captures has a value for each input
-pub inputs_of_capture : (c : Netlist) (chains : List Chain) (w : Pattern) → w.kind ≡ Capture → FitsPattern c chains w → length w.inputs ≡ length c.inputs
-inputs_of_capture c chains w captures fits = fits.inputs ∙ ap (input_count c) captures

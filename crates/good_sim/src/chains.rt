@@ -5,7 +5,7 @@ use chain_faults::{faulty_load, faulty_unload};
 use scan_model::{CellKind, Fault, NoMemory, Rows, Tri};
 use std::alloc::Global;
 
-/// Which way rows move through the chains.
+/// Which way rows move through the chains: in as they are loaded, out as they are unloaded.
 #[derive(Clone, Copy, Debug, PartialEq, Eq)]
 pub(crate) enum Direction {
     In,
@@ -24,6 +24,7 @@ fn shift_past(direction: Direction, kind: CellKind, pos: usize, row: &[Tri], int
     }
 }
 
+/// What becomes of a row that moves past a fault.
 fn faulty_row(
     alloc: Global,
     direction: Direction,
@@ -32,15 +33,16 @@ fn faulty_row(
     row: &[Tri],
 ) -> Result<Rows<Tri>, NoMemory>
     requires { pos < length row.now }
-    ensures { IfOk result (λ into. into ≡ shifted_past direction kind pos row.now) }
+    ensures { IfOk result (λ moved. moved ≡ shifted_past direction kind pos row.now) }
 {
-    let mut into = vec![in alloc; Tri::Unknown; row.len()]?;
-    shift_past(direction, kind, pos, row, &mut into);
-    Ok(Rows::from_vec(into))
+    let mut moved = vec![in alloc; Tri::Unknown; row.len()]?;
+    shift_past(direction, kind, pos, row, &mut moved);
+    Ok(Rows::from_vec(moved))
 }
 
+/// A copy of a row.
 fn same_row(alloc: Global, row: &[Tri]) -> Result<Rows<Tri>, NoMemory>
-    ensures { IfOk result (λ into. into ≡ row.now) }
+    ensures { IfOk result (λ moved. moved ≡ row.now) }
 {
     Ok(Rows::from_vec(Vec::from_slice(alloc, row)?))
 }
@@ -54,7 +56,7 @@ fn shift_row(
     row: &[Tri],
 ) -> Result<Rows<Tri>, NoMemory>
     requires { SitsWithin fault chain (length row.now) }
-    ensures { IfOk result (λ into. into ≡ shifted direction fault chain row.now) }
+    ensures { IfOk result (λ moved. moved ≡ shifted direction fault chain row.now) }
 {
     match fault {
         Some(
@@ -82,11 +84,11 @@ pub(crate) fn shift_rows(
     rows: &[Rows<Tri>],
 ) -> Result<Vec<Rows<Tri>>, NoMemory>
     requires { SitsWithinRows fault rows.now }
-    ensures { IfOk result (λ into. into.items ≡ shifted_rows direction fault rows.now) }
+    ensures { IfOk result (λ moved. moved.items ≡ shifted_rows direction fault rows.now) }
 {
-    let mut into = Vec::new(alloc);
-    for h in 0..rows.len() {
-        into.push(shift_row(alloc, direction, fault, h, rows[h].as_slice())?)?;
+    let mut moved = Vec::new(alloc);
+    for (chain, row) in rows.iter().enumerate() {
+        moved.push(shift_row(alloc, direction, fault, chain, row.as_slice())?)?;
     }
-    Ok(into)
+    Ok(moved)
 }

@@ -12,6 +12,7 @@ use crate::evaluate::pin_value;
 use scan_model::{Circuit, NoMemory, Parts, PinPlace, Point, Rows, Tri};
 use std::alloc::Global;
 
+/// Whether a pin is that of an output.
 fn is_at_output(place: PinPlace, output: usize) -> bool
     ensures { result ≡ model_is_at_output output place }
 {
@@ -21,7 +22,7 @@ fn is_at_output(place: PinPlace, output: usize) -> bool
     }
 }
 
-/// What is forced on the pin of an output.
+/// What is forced on the pin of an output. The forced pin tells by its place, so that no pin is searched for.
 fn on_output(circuit: &Circuit, effect: Effect, output: usize) -> Option<Tri>
     requires output { output < length circuit.now.outputs }
     requires effect { FitsEffect (length circuit.now.pins) effect }
@@ -64,8 +65,8 @@ pub(crate) fn output_values(
     ensures { IfOk result (λ row. row.items ≡ shown.outputs_over circuit.now (forces effect) (value_at values.now)) }
 {
     let mut row = Vec::new(alloc);
-    for k in 0..circuit.outputs().len() {
-        row.push(output_value(circuit, values, effect, k))?;
+    for output in 0..circuit.outputs().len() {
+        row.push(output_value(circuit, values, effect, output))?;
     }
     Ok(row)
 }
@@ -94,8 +95,8 @@ fn captured_row(
     ensures { IfOk result (λ row. row ≡ shown.captured_over circuit.now (forces effect) (value_at values.now) cells.now) }
 {
     let mut row = Vec::new(alloc);
-    for i in 0..cells.len() {
-        row.push(captured(circuit, values, effect, cells[i]))?;
+    for cell in cells {
+        row.push(captured(circuit, values, effect, *cell))?;
     }
     Ok(Rows::from_vec(row))
 }
@@ -113,8 +114,8 @@ pub(crate) fn captured_rows(
     let circuit = parts.circuit();
     let chains = parts.chains().as_slice();
     let mut rows = Vec::new(alloc);
-    for h in 0..chains.len() {
-        rows.push(captured_row(alloc, circuit, values, effect, chains[h].cells.as_slice())?)?;
+    for chain in chains {
+        rows.push(captured_row(alloc, circuit, values, effect, chain.cells.as_slice())?)?;
     }
     Ok(rows)
 }
@@ -141,8 +142,8 @@ pub(crate) fn values_of_points(
     ensures { IfOk result (λ values. values ≡ map (shown.shown_at outputs.now rows.now) points.now) }
 {
     let mut values = Vec::new(alloc);
-    for i in 0..points.len() {
-        values.push(value_of_point(outputs, rows, points[i]))?;
+    for point in points {
+        values.push(value_of_point(outputs, rows, *point))?;
     }
     Ok(Rows::from_vec(values))
 }

@@ -4,5 +4,5 @@ use Rattle.std.specs.List.{range_with_len}
 use Rattle.good_sim.specs.Shifts.{shifted}
 use Rattle.good_sim.proofs.chains.shift_rows.Given as goal
 
-abbrev pub invariant-loop-h : goal.invariant-loop-h
-invariant-loop-h l = l.into.items ≡ map (λ h. shifted l.direction l.fault h (slice_index_or l.rows h [])) (range_with_len 0 l.h)
+abbrev pub invariant-loop-chain : goal.invariant-loop-chain
+invariant-loop-chain l = l.moved.items ≡ map (λ h. shifted l.direction l.fault h (slice_index_or l.rows h [])) (range_with_len 0 l.chain)

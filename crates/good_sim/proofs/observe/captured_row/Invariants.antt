@@ -4,5 +4,5 @@ use Rattle.good_sim.specs.Effect.{forces}
 use Rattle.good_sim.specs.Shown.{captured_over}
 use Rattle.good_sim.proofs.observe.captured_row.Given as goal
 
-abbrev pub invariant-loop-i : goal.invariant-loop-i
-invariant-loop-i l = l.row.items ≡ captured_over l.circuit (forces l.effect) (value_at l.values) (take l.i l.cells)
+abbrev pub invariant-loop-cell : goal.invariant-loop-cell
+invariant-loop-cell l = l.row.items ≡ captured_over l.circuit (forces l.effect) (value_at l.values) (take l.cell-index l.cells)

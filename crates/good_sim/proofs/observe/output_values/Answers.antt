@@ -5,6 +5,6 @@ use Rattle.good_sim.specs.Effect.{forces}
 use Rattle.good_sim.proofs.Evaluated.{mapped_more}
 use Rattle.good_sim.proofs.observe.output_values.Goals as goal
 
-pub loop-k-preserved : goal.loop-k-preserved
-loop-k-preserved c = mapped_more (λ k. seen c.args.circuit.now (forces c.args.effect) (value_at c.args.values.now) (output_pin c.args.circuit.now k)) c.loop-k.k c.loop-k.row.items c.push.new.self.items c.output_value.result
-    c.in_ok-push.ensures.items c.loop-k.invariant c.output_value.ensures
+pub loop-output-preserved : goal.loop-output-preserved
+loop-output-preserved c = mapped_more (λ k. seen c.args.circuit.now (forces c.args.effect) (value_at c.args.values.now) (output_pin c.args.circuit.now k)) c.loop-output.output c.loop-output.row.items c.push.new.self.items c.output_value.result
+    c.in_ok-push.ensures.items c.loop-output.invariant c.output_value.ensures

@@ -6,5 +6,5 @@ use Rattle.scan_model.specs.Response.{output_pin}
 use Rattle.good_sim.specs.Effect.{forces}
 use Rattle.good_sim.proofs.observe.output_values.Given as goal
 
-abbrev pub invariant-loop-k : goal.invariant-loop-k
-invariant-loop-k l = l.row.items ≡ map (λ k. seen l.circuit (forces l.effect) (value_at l.values) (output_pin l.circuit k)) (range_with_len 0 l.k)
+abbrev pub invariant-loop-output : goal.invariant-loop-output
+invariant-loop-output l = l.row.items ≡ map (λ k. seen l.circuit (forces l.effect) (value_at l.values) (output_pin l.circuit k)) (range_with_len 0 l.output)
