@@ -1,0 +1,8 @@
+use Rattle.std.proofs.Common.{◌≡◌, take}
+use Rattle.scan_model.specs.ChainShift.{value_at}
+use Rattle.good_sim.specs.Effect.{forces}
+use Rattle.good_sim.specs.Shown.{captured_rows_over}
+use Rattle.good_sim.proofs.observe.captured_rows.Given as goal
+
+abbrev pub invariant-loop-chain : goal.invariant-loop-chain
+invariant-loop-chain l = l.rows.items ≡ captured_rows_over l.circuit (forces l.effect) (value_at l.values) (take l.chain-index l.chains)

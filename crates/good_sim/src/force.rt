@@ -1,0 +1,62 @@
+ghost use Rattle.std.specs.Prelude.{◌≡◌, length, IfOk, IfSome};
+ghost use Rattle.scan_model.specs.Faults as model;
+ghost use Rattle.scan_model.specs.ChainShift.{value_at};
+ghost use Rattle.scan_model.specs.ScanTest.{HasSite};
+ghost use Rattle.good_sim.specs.Effect.{forces, FitsEffect};
+ghost use Rattle.good_sim.specs.Shown.{forced_over};
+
+use crate::effect::Effect;
+use crate::evaluate::net_values;
+use scan_model::{BridgeKind, Fault, NoMemory, Parts, Stuck, Tri, tri_and, tri_or};
+use std::alloc::Global;
+
+fn stuck_value(value: Stuck) -> Tri
+    ensures { result ≡ model.stuck_value value }
+{
+    match value {
+        Stuck::Zero => Tri::Zero,
+        Stuck::One => Tri::One,
+    }
+}
+
+/// The value that both nets of a bridge take.
+fn bridged(kind: BridgeKind, a: Tri, b: Tri) -> Tri
+    ensures { result ≡ model.bridged kind a b }
+{
+    match kind {
+        BridgeKind::Dominant => a,
+        BridgeKind::WiredAnd => tri_and(a, b),
+        BridgeKind::WiredOr => tri_or(a, b),
+    }
+}
+
+/// What a fault forces in the logic. One in a chain forces nothing there.
+pub(crate) fn effect_of(
+    alloc: Global,
+    parts: &Parts,
+    source: &[Tri],
+    fault: Option<Fault>,
+) -> Result<Effect, NoMemory>
+    requires source { length source.now ≡ length parts.now.netlist.nets }
+    requires fault { IfSome fault (HasSite parts.now) }
+    ensures forces { IfOk result (λ effect. forces effect ≡ forced_over parts.now.netlist (value_at source.now) fault) }
+    ensures fits { IfOk result (FitsEffect (length parts.now.netlist.pins)) }
+{
+    match fault {
+        None => Ok(Effect::Nothing),
+        Some(Fault::Cell { .. }) => Ok(Effect::Nothing),
+        Some(Fault::Stem { net, value }) => Ok(Effect::Net {
+            net,
+            value: stuck_value(value),
+        }),
+        Some(Fault::Branch { pin, value }) => Ok(Effect::Pin {
+            pin,
+            value: stuck_value(value),
+        }),
+        Some(Fault::Bridge { a, b, kind }) => {
+            let good = net_values(alloc, parts.circuit(), source, Effect::Nothing)?;
+            let value = bridged(kind, good[a as usize], good[b as usize]);
+            Ok(Effect::Nets { a, b, value })
+        }
+    }
+}
