@@ -41,4 +41,46 @@ impl Joined {
         let _ = points;
         Err(NoMemory)
     }
+
+    /// Joins one more log.
+    pub fn add(&mut self, facts: &LogFacts)
+        requires { FitsLog self.old.patterns self.old.points facts.now }
+        ensures size { IsJoinedOf self.old.patterns self.old.points self.new }
+        ensures joined { (logs : List LogFacts) → StandsFor logs self.old → StandsFor (logs ++ facts.now ∷ []) self.new }
+    {
+    }
+
+    /// The class of a bit over all logs added.
+    pub fn class(&self, expected: &Expected, bit: &Bit) -> BitClass
+        requires expected { FitsExpected expected.now self.now }
+        requires pattern { bit.now.pattern < self.now.patterns }
+        requires point { bit.now.point < self.now.points }
+        ensures { (logs : List LogFacts) → StandsFor logs self.now → result ≡ class_of logs (value_at (slice_index_or expected.now bit.now.pattern []) bit.now.point) bit.now }
+    {
+        BitClass::Uncounted
+    }
+
+    /// The Failing bits of a point in 64 patterns: bit j is 1 exactly where pattern 64 * word + j exists and its bit is Failing.
+    pub fn failing_word(&self, expected: &Expected, word: u32, point: u32) -> u64
+        requires expected { FitsExpected expected.now self.now }
+        requires word { 64 * word < self.now.patterns }
+        requires point { point < self.now.points }
+        ensures { (logs : List LogFacts) → StandsFor logs self.now → (j : ℕ) → j < 64
+            → (bit_at result j == 1) ≡ (nat_lt (64 * word + j) self.now.patterns
+            && is_failing (class_of logs (value_at (slice_index_or expected.now (64 * word + j) []) point) (bit_of (64 * word + j) point))) }
+    {
+        0
+    }
+
+    /// The Passing bits of a point in 64 patterns, in the same way.
+    pub fn passing_word(&self, expected: &Expected, word: u32, point: u32) -> u64
+        requires expected { FitsExpected expected.now self.now }
+        requires word { 64 * word < self.now.patterns }
+        requires point { point < self.now.points }
+        ensures { (logs : List LogFacts) → StandsFor logs self.now → (j : ℕ) → j < 64
+            → (bit_at result j == 1) ≡ (nat_lt (64 * word + j) self.now.patterns
+            && is_passing (class_of logs (value_at (slice_index_or expected.now (64 * word + j) []) point) (bit_of (64 * word + j) point))) }
+    {
+        0
+    }
 }
