@@ -11,6 +11,7 @@ mod parts;
 mod rows;
 mod values;
 
+pub use bits::{bit, set_bit, set_bits, write_bit};
 pub use circuit::{Circuit, Driver, GateKind, MakeFault, Net, Pin, PinPlace};
 pub use digest::Digest;
 pub use expected::Expected;
