@@ -87,7 +87,7 @@ impl Joined {
     {
         let place = word as usize * self.points as usize + point as usize;
         let decided = self.decided_word(expected, word, point);
-        self.failed[place] & !self.passed[place] & decided
+        self.failed.as_slice()[place] & !self.passed.as_slice()[place] & decided
     }
 
     /// The Passing bits of a point in 64 patterns, in the same way.
@@ -101,7 +101,7 @@ impl Joined {
     {
         let place = word as usize * self.points as usize + point as usize;
         let decided = self.decided_word(expected, word, point);
-        self.passed[place] & !self.failed[place] & decided
+        self.passed.as_slice()[place] & !self.failed.as_slice()[place] & decided
     }
 
     /// The patterns that exist and whose expected value is known, of 64 at a point.
