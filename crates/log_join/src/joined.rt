@@ -6,7 +6,7 @@ ghost use Rattle.scan_model.specs.Values.{is_unknown};
 ghost use Rattle.scan_model.specs.ChainShift.{value_at};
 ghost use Rattle.scan_model.specs.Coverage.{bit_of, lists, covers, FitsLog};
 ghost use Rattle.scan_model.specs.Classes.{class_by, class_of, is_failing, is_passing};
-ghost use Rattle.log_join.specs.Joining.{StandsFor, IsJoinedOf, FitsExpected};
+ghost use Rattle.log_join.specs.Joining.{StandsFor, HaveSameLogs, IsJoinedOf, FitsExpected};
 
 use crate::coverage::cover;
 use crate::fails::{copy_bits, set_listed};
@@ -52,11 +52,12 @@ impl Joined {
         })
     }
 
-    /// Joins one more log.
+    /// Joins one more log. The result stands for the logs in any order and with any repeats.
     pub fn add(&mut self, facts: &LogFacts)
         requires { FitsLog self.old.patterns self.old.points facts.now }
         ensures size { IsJoinedOf self.old.patterns self.old.points self.new }
         ensures joined { (logs : List LogFacts) → StandsFor logs self.old → StandsFor (logs ++ facts.now ∷ []) self.new }
+        ensures any_order { (logs others : List LogFacts) → StandsFor logs self.old → HaveSameLogs (logs ++ facts.now ∷ []) others → StandsFor others self.new }
     {
         join(&mut self.failed, &mut self.passed, self.points, facts);
     }
@@ -127,9 +128,9 @@ fn join(failed: &mut [u64], passed: &mut [u64], points: u32, facts: &LogFacts)
     let width = points as usize;
     let fails = facts.fails.as_slice();
     // `failed` keeps meanwhile whether a listed bit had passed: its own bit becomes 1 in any case.
-    copy_bits(&*passed, failed, width, fails);
+    copy_bits(passed, failed, width, fails);
     cover(passed, points, facts);
-    copy_bits(&*failed, passed, width, fails);
+    copy_bits(failed, passed, width, fails);
     set_listed(failed, width, fails);
 }
 

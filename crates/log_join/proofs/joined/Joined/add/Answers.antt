@@ -1,9 +1,10 @@
-use Rattle.std.proofs.Common.{◌≡◌, List, sym, subst, ◌∙◌}
+use Rattle.std.proofs.Common.{◌≡◌, [], ◌∷◌, ◌++◌, List, sym, subst, ◌∙◌}
 use Rattle.scan_model.specs.declared.logs.LogFacts.{LogFacts}
 use Rattle.scan_model.specs.Coverage.{FitsLog}
 use Rattle.scan_model.proofs.BitTables.{written_whole}
 use Rattle.log_join.specs.Joining.{JoinedBits, StandsFor}
 use Rattle.log_join.proofs.Joins.{stands_for_more}
+use Rattle.log_join.proofs.AnyOrder.{stands_for_same_logs}
 use Rattle.log_join.proofs.joined.Joined.add.Goals as goal
 
 pub returns-clause-joined : goal.returns-clause-joined
@@ -16,3 +17,6 @@ returns-clause-joined c = λ logs stands.
         (subst (λ (joined : JoinedBits). FitsLog joined.patterns joined.points facts) (sym c.self.view_is) c.requires)
         (rw c.deref_mut.ensures.value at c.join.ensures.failed) (rw c.deref_mut-2.ensures.value at c.join.ensures.passed)
         (subst (StandsFor logs) (sym c.self.view_is) stands))
+
+pub returns-clause-any_order : goal.returns-clause-any_order
+returns-clause-any_order c = λ logs others stands same. stands_for_same_logs (logs ++ c.args.facts.now ∷ []) others _ same (returns-clause-joined c logs stands)
