@@ -29,10 +29,10 @@ listed_is_covered log patterns points b fits listed =
     let point = eqb-true b.point f.point same.1 in
     let at = fits.fails i b found.2 in
     let range : (leb log.first b.pattern && leb b.pattern log.last) ≡ true =
-        and_from (leb log.first b.pattern) (leb b.pattern log.last) (le-leb log.first b.pattern (omega (arith, at.0, pattern))) (le-leb b.pattern log.last (omega (arith, at.1, pattern))) in
+    and_from (leb log.first b.pattern) (leb b.pattern log.last) (le-leb log.first b.pattern (omega (arith, at.0, pattern))) (le-leb b.pattern log.last (omega (arith, at.1, pattern))) in
     let here : not_after b f ≡ true =
-        or_right (ltb b.pattern f.pattern) (eqb b.pattern f.pattern && leb b.point f.point)
-        (and_from (eqb b.pattern f.pattern) (leb b.point f.point) same.0 (le-leb b.point f.point (omega (arith, point)))) in
+    or_right (ltb b.pattern f.pattern) (eqb b.pattern f.pattern && leb b.point f.point)
+    (and_from (eqb b.pattern f.pattern) (leb b.point f.point) same.0 (le-leb b.point f.point (omega (arith, point)))) in
     and_from (leb log.first b.pattern && leb b.pattern log.last) (not log.truncated || list_any (not_after b) log.fails) range
     (or_right (not log.truncated) (list_any (not_after b) log.fails) (list_any_at (not_after b) log.fails i b found.2 here))
 
@@ -150,8 +150,8 @@ failing_where logs joined word k j decided v stands in_points fits lt is =
     let w = 64 * word + j in
     let b = bit_of w k in
     word_where joined.failed joined.passed joined.points word k j decided (ltb w joined.patterns) (some_fails logs b) (some_passes logs b) (not (is_unknown v)) (is_failing (class_of logs v b)) fits lt is
-        (λ inside. stands.failed w k (ltb-true w joined.patterns inside) in_points) (λ inside. stands.passed w k (ltb-true w joined.patterns inside) in_points)
-        (failing_class (some_fails logs b) (some_passes logs b) v)
+    (λ inside. stands.failed w k (ltb-true w joined.patterns inside) in_points) (λ inside. stands.passed w k (ltb-true w joined.patterns inside) in_points)
+    (failing_class (some_fails logs b) (some_passes logs b) v)
 
 pub passing_where : (logs : List LogFacts) (joined : JoinedBits) (word k j decided : ℕ) (v : Tri) → StandsFor logs joined → k < joined.points
     → get_or joined.failed (word * joined.points + k) 0 < 2 ^ 64 → j < 64 → eqb (bit_at decided j) 1 ≡ (ltb (64 * word + j) joined.patterns && not (is_unknown v))
@@ -161,5 +161,5 @@ passing_where logs joined word k j decided v stands in_points fits lt is =
     let w = 64 * word + j in
     let b = bit_of w k in
     word_where joined.passed joined.failed joined.points word k j decided (ltb w joined.patterns) (some_passes logs b) (some_fails logs b) (not (is_unknown v)) (is_passing (class_of logs v b)) fits lt is
-        (λ inside. stands.passed w k (ltb-true w joined.patterns inside) in_points) (λ inside. stands.failed w k (ltb-true w joined.patterns inside) in_points)
-        (passing_class (some_fails logs b) (some_passes logs b) v)
+    (λ inside. stands.passed w k (ltb-true w joined.patterns inside) in_points) (λ inside. stands.failed w k (ltb-true w joined.patterns inside) in_points)
+    (passing_class (some_fails logs b) (some_passes logs b) v)

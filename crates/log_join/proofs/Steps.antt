@@ -29,9 +29,9 @@ copies_on from into0 into1 into2 points fails i d is_set lt is written so_far w 
     let seen = list_any (same_bit (bit_of w k)) (take i fails) in
     written w k in_row ∙ ap (λ (b : Bool). cond here is_set b) (so_far w k in_row)
     ∙ here_or_there here seen is_set (table_bit from points w k) (table_bit into0 points w k)
-        (λ same.
-            let both = and_parts (eqb w p) (eqb k q) same in
-            is ∙ sym (ap (λ (n : ℕ). table_bit from points n k) (eqb-true w p both.0) ∙ ap (λ (n : ℕ). table_bit from points p n) (eqb-true k q both.1)))
+    (λ same.
+    let both = and_parts (eqb w p) (eqb k q) same in
+    is ∙ sym (ap (λ (n : ℕ). table_bit from points n k) (eqb-true w p both.0) ∙ ap (λ (n : ℕ). table_bit from points p n) (eqb-true k q both.1)))
     ∙ ap (λ (b : Bool). cond b (table_bit from points w k) (table_bit into0 points w k)) (sym (list_any_more (same_bit (bit_of w k)) fails i d lt))
 
 -- the words of the listed bits

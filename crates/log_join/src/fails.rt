@@ -29,6 +29,11 @@ pub fn set_listed(words: &mut [u64], points: usize, fails: &[Bit])
         ≡ (list_any (same_bit (bit_of w k)) fails.now || table_bit words.old points w k) }
 {
     for i in 0..fails.len() {
-        set_bit(words, points, fails[i].pattern as usize, fails[i].point as usize);
+        set_bit(
+            words,
+            points,
+            fails[i].pattern as usize,
+            fails[i].point as usize,
+        );
     }
 }

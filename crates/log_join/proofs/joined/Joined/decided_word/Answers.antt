@@ -16,5 +16,5 @@ returns c = λ j lt.
     let patterns = c.args.self.now.patterns in
     bit_of_and known mask j
     ∙ decided_by (eqb (bit_at known j) 1) (eqb (bit_at mask j) 1) (ltb w patterns) (not (is_unknown (value_at (get_or c.args.expected.now w []) c.args.point)))
-        (c.pattern_mask.ensures j lt ∙ ap (λ b. b && ltb w c.self.inside.patterns) (le-leb 0 w (omega arith)) ∙ ap (λ (joined : JoinedBits). ltb w joined.patterns) c.self.view_is)
-        (λ inside. c.known_word.ensures j lt (omega (arith, ltb-true w patterns inside, c.requires.expected.0)))
+    (c.pattern_mask.ensures j lt ∙ ap (λ b. b && ltb w c.self.inside.patterns) (le-leb 0 w (omega arith)) ∙ ap (λ (joined : JoinedBits). ltb w joined.patterns) c.self.view_is)
+    (λ inside. c.known_word.ensures j lt (omega (arith, ltb-true w patterns inside, c.requires.expected.0)))

@@ -16,6 +16,6 @@ returns c = λ logs stands j lt.
     let fits : get_or c.as_slice-2.result.now (c.args.word * inside.points + c.args.point) 0 < 2 ^ 64 = omega arith in
     rw (c.as_slice.ensures.value, c.as_slice-2.ensures.value) (rw (sym c.self.view_is)
     (passing_where logs joined c.args.word c.args.point j c.decided_word-decided.result value (subst (StandsFor logs) (sym c.self.view_is) stands)
-        (subst (λ (seen : JoinedBits). c.args.point < seen.points) (sym c.self.view_is) c.requires.point)
-        (rw c.as_slice-2.ensures.value at fits) lt
-        (subst (λ (seen : JoinedBits). eqb (bit_at c.decided_word-decided.result j) 1 ≡ (ltb (64 * c.args.word + j) seen.patterns && not (is_unknown value))) (sym c.self.view_is) (c.decided_word-decided.ensures j lt))))
+    (subst (λ (seen : JoinedBits). c.args.point < seen.points) (sym c.self.view_is) c.requires.point)
+    (rw c.as_slice-2.ensures.value at fits) lt
+    (subst (λ (seen : JoinedBits). eqb (bit_at c.decided_word-decided.result j) 1 ≡ (ltb (64 * c.args.word + j) seen.patterns && not (is_unknown value))) (sym c.self.view_is) (c.decided_word-decided.ensures j lt))))
