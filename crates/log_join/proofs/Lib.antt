@@ -1,0 +1,4 @@
+mod WordMasks
+mod Steps
+mod Joins
+pub mod AnyOrder

@@ -1,5 +1,5 @@
 -- What joined logs stand for.
-use Rattle.std.specs.Prelude.{◌≡◌, ℕ, ◌<◌, List, length, All}
+use Rattle.std.specs.Prelude.{◌≡◌, ℕ, ◌<◌, List, length, All, Contains}
 use Rattle.scan_model.specs.declared.values.Tri.{Tri}
 use Rattle.scan_model.specs.declared.logs.LogFacts.{LogFacts}
 use Rattle.scan_model.specs.BitTable.{table_bit}
@@ -17,6 +17,10 @@ pub record JoinedBits : Type 0 where
 pub record StandsFor (logs : List LogFacts) (joined : JoinedBits) : Type 0 where
   pub failed : (w k : ℕ) → w < joined.patterns → k < joined.points → table_bit joined.failed joined.points w k ≡ some_fails logs (bit_of w k)
   pub passed : (w k : ℕ) → w < joined.patterns → k < joined.points → table_bit joined.passed joined.points w k ≡ some_passes logs (bit_of w k)
+
+-- each log of one list is in the other, so that they differ in order and repeats alone
+abbrev pub HaveSameLogs : List LogFacts → List LogFacts → Type 0
+HaveSameLogs logs others = All (Contains others) logs × All (Contains logs) others
 
 -- for so many patterns and points
 abbrev pub IsJoinedOf : ℕ → ℕ → JoinedBits → Type 0

@@ -1,12 +1,17 @@
-ghost use Rattle.std.specs.Prelude.{◌≡◌, ◌<◌, ◌*◌, ◌+◌, ◌&&◌, ◌==◌, ◌∷◌, ◌++◌, [], ℕ, List, nat_lt, slice_index_or, IfOk};
+ghost use Rattle.std.specs.Prelude.{◌≡◌, ◌<◌, ◌≤◌, ◌*◌, ◌/◌, ◌+◌, ◌&&◌, ◌||◌, ◌==◌, ◌∷◌, ◌++◌, [], ℕ, List, length, not, nat_lt, slice_index_or, IfOk};
 ghost use Rattle.std.specs.Int.{bit_at};
 ghost use Rattle.scan_model.specs.declared.logs.LogFacts.{LogFacts};
+ghost use Rattle.scan_model.specs.BitTable.{table_bit};
+ghost use Rattle.scan_model.specs.Values.{is_unknown};
 ghost use Rattle.scan_model.specs.ChainShift.{value_at};
-ghost use Rattle.scan_model.specs.Coverage.{bit_of, FitsLog};
-ghost use Rattle.scan_model.specs.Classes.{class_of, is_failing, is_passing};
-ghost use Rattle.log_join.specs.Joining.{StandsFor, IsJoinedOf, FitsExpected};
+ghost use Rattle.scan_model.specs.Coverage.{bit_of, lists, covers, FitsLog};
+ghost use Rattle.scan_model.specs.Classes.{class_by, class_of, is_failing, is_passing};
+ghost use Rattle.log_join.specs.Joining.{StandsFor, HaveSameLogs, IsJoinedOf, FitsExpected};
 
-use scan_model::{Bit, BitClass, Expected, LogFacts, NoMemory, Rows};
+use crate::coverage::cover;
+use crate::fails::{copy_bits, set_listed};
+use crate::masks::pattern_mask;
+use scan_model::{Bit, BitClass, Expected, LogFacts, NoMemory, Tri, bit};
 use std::alloc::Global;
 use std::marker::Model;
 
@@ -15,19 +20,19 @@ use std::marker::Model;
 pub struct Joined {
     patterns: u32,
     points: u32,
-    failed: Rows<u64>,
-    passed: Rows<u64>,
+    failed: Vec<u64>,
+    passed: Vec<u64>,
 }
 
 impl Model for Joined {
-    ghost use Rattle.std.specs.Prelude.{◌≡◌, ◌+◌, ◌*◌, ◌/◌, length};
+    ghost use Rattle.std.specs.Prelude.{◌≡◌, ◌+◌, ◌*◌, ◌/◌, vec_len};
     ghost use Rattle.log_join.specs.Joining.{JoinedBits};
 
     ghost Value = { JoinedBits };
 
-    ghost view = { λ j. record { patterns = j.patterns; points = j.points; failed = j.failed; passed = j.passed } };
+    ghost view = { λ j. record { patterns = j.patterns; points = j.points; failed = j.failed.items; passed = j.passed.items } };
 
-    ghost invariant = { λ j. (length j.failed ≡ (j.patterns + 63) / 64 * j.points) × (length j.passed ≡ (j.patterns + 63) / 64 * j.points) };
+    ghost invariant = { λ j. (vec_len j.failed ≡ (j.patterns + 63) / 64 * j.points) × (vec_len j.passed ≡ (j.patterns + 63) / 64 * j.points) };
 }
 
 impl Joined {
@@ -36,9 +41,144 @@ impl Joined {
         ensures size { IfOk result (IsJoinedOf patterns points) }
         ensures empty { IfOk result (StandsFor []) }
     {
-        let _ = alloc;
-        let _ = patterns;
-        let _ = points;
-        Err(NoMemory)
+        let words = (patterns as usize + 63) / 64 * points as usize;
+        let failed = vec![in alloc; 0u64; words]?;
+        let passed = vec![in alloc; 0u64; words]?;
+        Ok(Joined {
+            patterns,
+            points,
+            failed,
+            passed,
+        })
+    }
+
+    /// Joins one more log. The result stands for the logs in any order and with any repeats.
+    pub fn add(&mut self, facts: &LogFacts)
+        requires { FitsLog self.old.patterns self.old.points facts.now }
+        ensures size { IsJoinedOf self.old.patterns self.old.points self.new }
+        ensures joined { (logs : List LogFacts) → StandsFor logs self.old → StandsFor (logs ++ facts.now ∷ []) self.new }
+        ensures any_order { (logs others : List LogFacts) → StandsFor logs self.old → HaveSameLogs (logs ++ facts.now ∷ []) others → StandsFor others self.new }
+    {
+        join(&mut self.failed, &mut self.passed, self.points, facts);
+    }
+
+    /// The class of a bit over all logs added.
+    pub fn class(&self, expected: &Expected, at: &Bit) -> BitClass
+        requires expected { FitsExpected expected.now self.now }
+        requires pattern { at.now.pattern < self.now.patterns }
+        requires point { at.now.point < self.now.points }
+        ensures { (logs : List LogFacts) → StandsFor logs self.now → result ≡ class_of logs (value_at (slice_index_or expected.now at.now.pattern []) at.now.point) at.now }
+    {
+        let points = self.points as usize;
+        let pattern = at.pattern as usize;
+        let point = at.point as usize;
+        let failed = bit(&self.failed, points, pattern, point);
+        let passed = bit(&self.passed, points, pattern, point);
+        class_by(failed, passed, expected.get(at))
+    }
+
+    /// The Failing bits of a point in 64 patterns: bit j is 1 exactly where pattern 64 * word + j exists and its bit is Failing.
+    pub fn failing_word(&self, expected: &Expected, word: u32, point: u32) -> u64
+        requires expected { FitsExpected expected.now self.now }
+        requires word { 64 * word < self.now.patterns }
+        requires point { point < self.now.points }
+        ensures { (logs : List LogFacts) → StandsFor logs self.now → (j : ℕ) → j < 64
+            → (bit_at result j == 1) ≡ (nat_lt (64 * word + j) self.now.patterns
+            && is_failing (class_of logs (value_at (slice_index_or expected.now (64 * word + j) []) point) (bit_of (64 * word + j) point))) }
+    {
+        let place = word as usize * self.points as usize + point as usize;
+        let decided = self.decided_word(expected, word, point);
+        self.failed.as_slice()[place] & !self.passed.as_slice()[place] & decided
+    }
+
+    /// The Passing bits of a point in 64 patterns, in the same way.
+    pub fn passing_word(&self, expected: &Expected, word: u32, point: u32) -> u64
+        requires expected { FitsExpected expected.now self.now }
+        requires word { 64 * word < self.now.patterns }
+        requires point { point < self.now.points }
+        ensures { (logs : List LogFacts) → StandsFor logs self.now → (j : ℕ) → j < 64
+            → (bit_at result j == 1) ≡ (nat_lt (64 * word + j) self.now.patterns
+            && is_passing (class_of logs (value_at (slice_index_or expected.now (64 * word + j) []) point) (bit_of (64 * word + j) point))) }
+    {
+        let place = word as usize * self.points as usize + point as usize;
+        let decided = self.decided_word(expected, word, point);
+        self.passed.as_slice()[place] & !self.failed.as_slice()[place] & decided
+    }
+
+    /// The patterns that exist and whose expected value is known, of 64 at a point.
+    fn decided_word(&self, expected: &Expected, word: u32, point: u32) -> u64
+        requires expected { FitsExpected expected.now self.now }
+        requires word { 64 * word < self.now.patterns }
+        requires point { point < self.now.points }
+        ensures { (j : ℕ) → j < 64 → (bit_at result j == 1) ≡ (nat_lt (64 * word + j) self.now.patterns
+            && not (is_unknown (value_at (slice_index_or expected.now (64 * word + j) []) point))) }
+    {
+        expected.known_word(word, point) & pattern_mask(word as usize, 0, self.patterns as usize)
+    }
+}
+
+/// Joins a log to the tables of what failed and what passed.
+fn join(failed: &mut [u64], passed: &mut [u64], points: u32, facts: &LogFacts)
+    requires facts { FitsLog (facts.now.last + 1) points facts.now }
+    requires failed { facts.now.last / 64 * points + points ≤ length failed.old }
+    requires passed { facts.now.last / 64 * points + points ≤ length passed.old }
+    ensures failed { (w k : ℕ) → k < points → table_bit failed.new points w k ≡ (lists facts.now (bit_of w k) || table_bit failed.old points w k) }
+    ensures passed { (w k : ℕ) → k < points → table_bit passed.new points w k ≡ (covers facts.now (bit_of w k) && not (lists facts.now (bit_of w k)) || table_bit passed.old points w k) }
+{
+    let width = points as usize;
+    let fails = facts.fails.as_slice();
+    // `failed` keeps meanwhile whether a listed bit had passed: its own bit becomes 1 in any case.
+    copy_bits(passed, failed, width, fails);
+    cover(passed, points, facts);
+    copy_bits(failed, passed, width, fails);
+    set_listed(failed, width, fails);
+}
+
+/// The class of a bit by the tables and its expected value.
+fn class_by(failed: bool, passed: bool, value: Tri) -> BitClass
+    ensures { result ≡ class_by failed passed value }
+{
+    match (failed, passed) {
+        (true, true) => BitClass::Conflict,
+        (true, false) => match value {
+            Tri::Unknown => BitClass::Masked,
+            _ => BitClass::Failing,
+        },
+        (false, true) => match value {
+            Tri::Unknown => BitClass::Uncounted,
+            _ => BitClass::Passing,
+        },
+        (false, false) => BitClass::Uncounted,
+    }
+}
+
+#[cfg(test)]
+mod tests {
+    use super::*;
+    use scan_model::Rows;
+
+    #[test]
+    fn joins_a_log_that_was_cut_short(rt: HostRuntime) -> Result<(), NoMemory> {
+        let alloc = rt.alloc();
+        let first = Rows::from_vec(vec![in alloc; Tri::Zero, Tri::Unknown]?);
+        let second = Rows::from_vec(vec![in alloc; Tri::One, Tri::Zero]?);
+        let rows = Rows::from_vec(vec![in alloc; first, second]?);
+        let expected = Expected::of_rows(alloc, 2, &rows)?;
+        let at = |pattern, point| Bit { pattern, point };
+        let facts = LogFacts {
+            first: 0,
+            last: 1,
+            truncated: true,
+            fails: Rows::from_vec(vec![in alloc; at(1, 0), at(0, 1)]?),
+        };
+        let mut joined = Joined::make(alloc, 2, 2)?;
+        joined.add(&facts);
+        assert_eq!(rt; joined.class(&expected, &at(0, 0)), BitClass::Passing);
+        assert_eq!(rt; joined.class(&expected, &at(0, 1)), BitClass::Masked);
+        assert_eq!(rt; joined.class(&expected, &at(1, 0)), BitClass::Failing);
+        assert_eq!(rt; joined.class(&expected, &at(1, 1)), BitClass::Uncounted);
+        assert_eq!(rt; joined.failing_word(&expected, 0, 0), 0b10);
+        assert_eq!(rt; joined.passing_word(&expected, 0, 0), 0b01);
+        Ok(())
     }
 }

@@ -1,4 +1,6 @@
-ghost use Rattle.std.specs.Prelude.{◌≡◌, ◌<◌, ◌^◌, [], length, slice_index_or, All, IfOk};
+ghost use Rattle.std.specs.Prelude.{◌≡◌, ℕ, ◌+◌, ◌*◌, ◌<◌, ◌^◌, ◌==◌, not, [], length, slice_index_or, All, IfOk};
+ghost use Rattle.std.specs.Int.{bit_at};
+ghost use Rattle.scan_model.specs.Values.{is_unknown};
 ghost use Rattle.scan_model.specs.ChainShift.{value_at};
 
 use crate::bits::{value, write_rows};
@@ -46,6 +48,17 @@ impl Expected {
             known: Rows::from_vec(known),
             ones: Rows::from_vec(ones),
         })
+    }
+
+    /// The known values of a point in 64 patterns: bit j is 1 where pattern 64 * word + j is expected to have 0 or 1. The
+    /// bits past the last pattern say nothing.
+    pub fn known_word(&self, word: u32, point: u32) -> u64
+        requires word { 64 * word < length self.now }
+        requires point { point < length (slice_index_or self.now (64 * word) []) }
+        ensures { (j : ℕ) → j < 64 → 64 * word + j < length self.now
+            → (bit_at result j == 1) ≡ not (is_unknown (value_at (slice_index_or self.now (64 * word + j) []) point)) }
+    {
+        self.known.as_slice()[word as usize * self.points as usize + point as usize]
     }
 
     /// The value at a bit.

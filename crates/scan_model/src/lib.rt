@@ -13,6 +13,7 @@ mod rows;
 mod test_order;
 mod values;
 
+pub use bits::{bit, set_bit, set_bits, write_bit};
 pub use circuit::{Circuit, Driver, GateKind, MakeFault, Net, Pin, PinPlace};
 pub use digest::Digest;
 pub use expected::Expected;
