@@ -1,0 +1,2 @@
+pub mod NamedChains
+pub mod AfterChains

@@ -1,6 +1,8 @@
 //! Reads scan texts and pattern texts.
 #![tactic(auto)]
 
+mod chain;
+mod chains;
 mod patterns;
 mod scan;
 
