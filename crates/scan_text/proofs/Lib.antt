@@ -1,1 +1,3 @@
+pub mod Tables
+pub mod SoundChains
 pub mod ScanLoop

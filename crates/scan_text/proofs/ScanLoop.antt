@@ -7,9 +7,10 @@ use Rattle.scan_model.specs.declared.circuit.Net.{Net}
 use Rattle.scan_model.specs.Lines.{line_at, text_lines}
 use Rattle.scan_model.specs.Words.{words, word_lines}
 use Rattle.scan_model.specs.TextFaults.{lowest, fault_from, refused_or}
-use Rattle.scan_model.specs.ScanText.{chain_of, chains, chains_before, scan_rule, scan_rules, scan_fault, scan_reading, numbered, chains_of}
+use Rattle.scan_model.specs.ScanText.{chain_of, chains, chains_before, cells_in, titles_in, scan_rule, scan_rules, scan_fault, scan_reading, numbered, chains_of}
 use Rattle.scan_model.proofs.FaultSteps.{fault_goes_on, fault_is_here, fault_is_none}
 use Rattle.text_parts.specs.Views.{nows}
+use Rattle.scan_text.proofs.SoundChains.{AreSound, line_more}
 use Rattle.scan_text.specs.AfterChains.{IsAfter}
 use Rattle.scan_text.specs.declared.chains.Chains.{Chains}
 
@@ -60,6 +61,13 @@ module _ (nets : List Net) (bytes : List ℕ) (items : List (Bor (List ℕ))) (i
   after_more new lt h =
       let lt' : i < length (text_lines bytes) = omega (arith, lines_length) in
       rw (chains_before_more (text_lines bytes) i lt', ← line_is lt) h
+
+  pub sound_more : i < length items → None ≡ lowest (scan_rules nets kept.cells kept.titles (get_or items i d).now)
+      → AreSound nets (chains_before (text_lines bytes) i) → AreSound nets (chains_before (text_lines bytes) (i + 1))
+  sound_more lt none sound =
+      let lt' : i < length (text_lines bytes) = omega (arith, lines_length) in
+      let none' : None ≡ lowest (scan_rules nets (cells_in (chains_before (text_lines bytes) i)) (titles_in (chains_before (text_lines bytes) i)) (line_at (text_lines bytes) i)) = none ∙ rule_is lt in
+      rw (chains_before_more (text_lines bytes) i lt') (line_more nets (chains_before (text_lines bytes) i) sound (line_at (text_lines bytes) i) none')
 
   -- past the last line
   pub text_is_whole : length items ≤ i → scan_reading nets bytes ≡ Ok (kept.chains.items)

@@ -1,4 +1,5 @@
 ghost use Rattle.std.specs.Prelude.{◌≡◌, ◌≤◌, length, IfOk};
+ghost use Rattle.scan_model.specs.Netlist.{Netlist};
 ghost use Rattle.scan_model.specs.ScanText.{net_names, scan_reading};
 ghost use Rattle.scan_model.specs.ScanTest.{AreChains};
 ghost use Rattle.text_parts.specs.Gives.{Gives};
@@ -21,7 +22,8 @@ fn names_of(alloc: Global, nets: &[Net]) -> Result<Names<'_>, AllocError>
 // The chains of a text over these nets.
 fn read_chains(alloc: Global, nets: &[Net], bytes: &[u8]) -> Result<Vec<Chain>, ReadFault>
     requires { length nets.now ≤ 65536 }
-    ensures { Gives (λ v. v.items) result (scan_reading nets.now bytes.now) }
+    ensures reading { Gives (λ v. v.items) result (scan_reading nets.now bytes.now) }
+    ensures fits { (c : Netlist) → c.nets ≡ nets.now → IfOk result (λ v. AreChains c v.items) }
 {
     let names = names_of(alloc, nets)?;
     let lines = lines_of(alloc, bytes)?;
