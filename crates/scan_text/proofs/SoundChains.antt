@@ -145,9 +145,9 @@ numbered_fit c cs sound =
     record {
       cells = rw (cells_numbered c.nets cs) (All-map (λ n. (n < length c.nets) × IsFlop (driver_of c n)) number ws (λ k d lt. (number_within c.nets (get_or ws k d) (sound.are_nets k d lt), flop_from (driver_of c (number (get_or ws k d))) (sound.are_flops k d lt))));
       cells_differ = rw (cells_numbered c.nets cs) (IsDistinct-from_apart nat_eq (map number ws) (λ i j d lt lt'.
-        let high : j < length ws = omega arith in
-        let low : i < length ws = omega arith in
-        rw (get_or-map number ws i [] d low, get_or-map number ws j [] d high) (names_apart c.nets (get_or ws i []) (get_or ws j []) (sound.are_nets i [] low) (sound.are_nets j [] high) (apart_from_distinct bytes_eq ws i j [] sound.cells_differ lt high))));
+          let high : j < length ws = omega arith in
+          let low : i < length ws = omega arith in
+          rw (get_or-map number ws i [] d low, get_or-map number ws j [] d high) (names_apart c.nets (get_or ws i []) (get_or ws j []) (sound.are_nets i [] low) (sound.are_nets j [] high) (apart_from_distinct bytes_eq ws i j [] sound.cells_differ lt high))));
       names_differ = rw (names_numbered c.nets cs) sound.names_differ;
       names_fit = All-map (λ h. length h.name ≤ 64) (numbered c.nets) cs sound.names_fit;
       few = rw (length-map cs (numbered c.nets)) sound.few;

@@ -1,2 +1,3 @@
 pub mod NamedChains
 pub mod AfterChains
+pub mod Frames

@@ -3,6 +3,7 @@
 
 mod chain;
 mod chains;
+mod pattern;
 mod patterns;
 mod scan;
 
