@@ -1,0 +1,5 @@
+pub mod Tables
+pub mod SoundChains
+pub mod ScanLoop
+pub mod SoundPatterns
+pub mod PatternLoop

@@ -1,0 +1,3 @@
+pub mod NamedChains
+pub mod AfterChains
+pub mod Frames

@@ -1,6 +1,9 @@
 //! Reads scan texts and pattern texts.
 #![tactic(auto)]
 
+mod chain;
+mod chains;
+mod pattern;
 mod patterns;
 mod scan;
 

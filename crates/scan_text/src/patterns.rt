@@ -1,11 +1,73 @@
-ghost use Rattle.std.specs.Prelude.{IfOk};
-ghost use Rattle.scan_model.specs.PatternText.{pattern_frame, pattern_reading};
+ghost use Rattle.std.specs.Prelude.{◌≡◌, length, IfOk, Ok, None, [], ◌∷◌, ◌++◌};
+ghost use Rattle.scan_model.specs.Netlist.{Netlist};
+ghost use Rattle.scan_model.specs.TextFaults.{lowest};
+ghost use Rattle.scan_model.specs.PatternText.{pattern_frame, pattern_rules, patterns_of, pattern_reading};
 ghost use Rattle.scan_model.specs.ScanTest.{ArePatterns};
 ghost use Rattle.text_parts.specs.Gives.{Gives};
+ghost use Rattle.scan_text.specs.Frames.{frame_view};
 
-use scan_model::{Chain, Circuit, Pattern, Rows};
+use crate::pattern::{
+    Frame, has_other_value, has_wrong_length, has_wrong_words, kind_of, pattern_of,
+};
+use scan_model::{Chain, Circuit, NoMemory, Pattern, Rows};
 use std::alloc::Global;
-use text_parts::ReadFault;
+use text_parts::{ReadFault, TextFault, has_refused_byte, lines_of, words_of};
+
+/// The most patterns that a pattern text may have.
+const PATTERN_LIMIT: usize = 4096;
+
+// Takes the pattern of a line, or answers the lowest rule that the line breaks.
+fn take_line(
+    alloc: Global,
+    frame: &Frame<'_>,
+    patterns: &mut Rows<Pattern>,
+    line: &[u8],
+) -> Result<Option<u32>, NoMemory>
+    ensures rule { IfOk result (λ r. r ≡ lowest (pattern_rules (frame_view frame.now) (length patterns.old) line.now)) }
+    ensures taken { result ≡ Ok None → patterns.new ≡ patterns.old ++ patterns_of (frame_view frame.now) (line.now ∷ []) }
+{
+    let words = words_of(alloc, line)?;
+    if has_refused_byte(line) {
+        return Ok(Some(21));
+    }
+    let Some(kind) = kind_of(&words) else {
+        return Ok(if words.is_empty() { None } else { Some(21) });
+    };
+    if has_wrong_words(frame, kind, &words) {
+        return Ok(Some(22));
+    }
+    if has_wrong_length(frame, kind, &words) {
+        return Ok(Some(23));
+    }
+    if has_other_value(frame, kind, &words) {
+        return Ok(Some(24));
+    }
+    if patterns.len() >= PATTERN_LIMIT {
+        return Ok(Some(25));
+    }
+    patterns.push(pattern_of(alloc, frame, &words)?)?;
+    Ok(None)
+}
+
+// The patterns of a text in a frame.
+fn read_lines(alloc: Global, frame: &Frame<'_>, bytes: &[u8]) -> Result<Rows<Pattern>, ReadFault>
+    ensures reading { Gives (λ patterns. patterns) result (pattern_reading (frame_view frame.now) bytes.now) }
+    ensures fits { (c : Netlist) → length c.inputs ≡ frame.now.inputs → IfOk result (ArePatterns c frame.now.chains.now) }
+{
+    let lines = lines_of(alloc, bytes)?;
+    let mut patterns = Rows::new(alloc);
+    for (i, line) in lines.iter().enumerate() {
+        if let Some(rule) = take_line(alloc, frame, &mut patterns, line)? {
+            let line = i as u64 + 1;
+            return Err(ReadFault::Text(TextFault { line, rule }));
+        }
+    }
+    if patterns.is_empty() {
+        let line = lines.len() as u64 + 1;
+        return Err(ReadFault::Text(TextFault { line, rule: 26 }));
+    }
+    Ok(patterns)
+}
 
 /// The patterns that a pattern text stands for, or its first fault by rules 21 to 26.
 pub fn read_patterns(
@@ -17,9 +79,9 @@ pub fn read_patterns(
     ensures reading { Gives (λ patterns. patterns) result (pattern_reading (pattern_frame circuit.now chains.now) bytes.now) }
     ensures fits { IfOk result (ArePatterns circuit.now chains.now) }
 {
-    let _ = alloc;
-    let _ = circuit;
-    let _ = chains;
-    let _ = bytes;
-    Err(ReadFault::NoMemory)
+    let frame = Frame {
+        inputs: circuit.inputs().len(),
+        chains: chains.as_slice(),
+    };
+    read_lines(alloc, &frame, bytes)
 }

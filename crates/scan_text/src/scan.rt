@@ -1,19 +1,48 @@
-ghost use Rattle.std.specs.Prelude.{IfOk};
-ghost use Rattle.scan_model.specs.ScanText.{scan_reading};
+ghost use Rattle.std.specs.Prelude.{◌≡◌, ◌≤◌, length, IfOk};
+ghost use Rattle.scan_model.specs.Netlist.{Netlist};
+ghost use Rattle.scan_model.specs.ScanText.{net_names, scan_reading};
 ghost use Rattle.scan_model.specs.ScanTest.{AreChains};
 ghost use Rattle.text_parts.specs.Gives.{Gives};
 
-use scan_model::{Chain, Circuit, Rows};
-use std::alloc::Global;
-use text_parts::ReadFault;
+use crate::chains::Chains;
+use scan_model::{Chain, Circuit, Net, Rows};
+use std::alloc::{AllocError, Global};
+use text_parts::{Names, ReadFault, TextFault, lines_of};
+
+fn names_of(alloc: Global, nets: &[Net]) -> Result<Names<'_>, AllocError>
+    ensures { IfOk result (λ names. names ≡ net_names nets.now) }
+{
+    let mut names = Names::new(alloc);
+    for net in nets {
+        names.add(net.name.as_slice())?;
+    }
+    Ok(names)
+}
+
+// The chains of a text over these nets.
+fn read_chains(alloc: Global, nets: &[Net], bytes: &[u8]) -> Result<Vec<Chain>, ReadFault>
+    requires { length nets.now ≤ 65536 }
+    ensures reading { Gives (λ v. v.items) result (scan_reading nets.now bytes.now) }
+    ensures fits { (c : Netlist) → c.nets ≡ nets.now → IfOk result (λ v. AreChains c v.items) }
+{
+    let names = names_of(alloc, nets)?;
+    let lines = lines_of(alloc, bytes)?;
+    let mut chains = Chains::new(alloc);
+    for (i, line) in lines.iter().enumerate() {
+        if let Some(rule) = chains.take_line(alloc, nets, &names, line)? {
+            let line = i as u64 + 1;
+            return Err(ReadFault::Text(TextFault { line, rule }));
+        }
+    }
+    Ok(chains.chains)
+}
 
 /// The chains that a scan text stands for, or its first fault by rules 11 to 15.
 pub fn read_scan(alloc: Global, circuit: &Circuit, bytes: &[u8]) -> Result<Rows<Chain>, ReadFault>
     ensures reading { Gives (λ chains. chains) result (scan_reading circuit.now.nets bytes.now) }
     ensures fits { IfOk result (AreChains circuit.now) }
 {
-    let _ = alloc;
-    let _ = circuit;
-    let _ = bytes;
-    Err(ReadFault::NoMemory)
+    let nets = circuit.nets().as_slice();
+    let chains = read_chains(alloc, nets, bytes)?;
+    Ok(Rows::from_vec(chains))
 }

@@ -1,0 +1,11 @@
+use Rattle.std.proofs.Common.{rules, tests, sym, ◌∙◌, not}
+use Rattle.std.proofs.lemmas.Iterator.{YieldsList-from_slice}
+use Rattle.std.proofs.lemmas.Iterator.Search.{any_from_yields_List}
+use Rattle.text_parts.proofs.Parts.{list_any-map}
+use Rattle.scan_model.specs.ScanText.{is_flop_net}
+use Rattle.scan_text.proofs.chains.has_other_net.Goals as goal
+
+pub returns : goal.returns
+returns c =
+    any_from_yields_List (λ w. not (is_flop_net c.args.nets.now w.now)) _ _ c.any.result c.any.ensures.ran (YieldsList-from_slice c.args.cells.now c.iter.ensures.rest) (λ x b q k. search (rules, tests))
+    ∙ sym (list_any-map (λ w. not (is_flop_net c.args.nets.now w)) (λ w. w.now) c.args.cells.now)
