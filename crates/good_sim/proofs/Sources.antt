@@ -7,10 +7,7 @@ use Rattle.scan_model.specs.declared.values.Tri.{Tri}
 use Rattle.scan_model.specs.declared.values.Tri.TheVariants.{Unknown}
 use Rattle.scan_model.specs.declared.parts.Chain.{Chain}
 use Rattle.scan_model.specs.ChainShift.{value_at}
-use Rattle.scan_model.specs.declared.parts.Pattern.{Pattern}
-use Rattle.scan_model.specs.declared.parts.PatternKind.TheVariants.{Capture}
-use Rattle.scan_model.specs.Netlist.{Netlist}
-use Rattle.scan_model.specs.ScanTest.{cells_of, input_count, FitsPattern}
+use Rattle.scan_model.specs.ScanTest.{cells_of}
 use Rattle.scan_model.specs.NetValue.{assigned}
 use Rattle.scan_model.proofs.Assigned.{assigned_agree, assigned-append}
 
