@@ -1,0 +1,4 @@
+pub mod Tokens
+pub mod Lines
+pub mod Lists
+pub mod Kept

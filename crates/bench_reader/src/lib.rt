@@ -1,6 +1,10 @@
 //! Reads ISCAS'89 `.bench` netlists.
 #![tactic(auto)]
 
+mod driver;
+mod first;
+mod line;
 mod reading;
+mod token;
 
 pub use reading::read_netlist;
