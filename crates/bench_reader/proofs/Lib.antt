@@ -1,2 +1,4 @@
 pub mod Names
 pub mod Operands
+pub mod FirstRound
+pub mod SecondRound

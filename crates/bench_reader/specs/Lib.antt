@@ -2,3 +2,4 @@ pub mod Tokens
 pub mod Lines
 pub mod Lists
 pub mod Kept
+pub mod Clean

@@ -1,15 +1,88 @@
-ghost use Rattle.scan_model.specs.NetlistText.{netlist_reading};
-ghost use Rattle.text_parts.specs.Gives.{Gives};
+//! The rounds over a whole netlist.
 
+ghost use Rattle.std.specs.Prelude.{◌≡◌, IfOk, length};
+ghost use Rattle.scan_model.specs.Lines.{text_lines};
+ghost use Rattle.scan_model.specs.TextFaults.{first_fault, refused_or};
+ghost use Rattle.scan_model.specs.NetlistRules.{forms_of, first_rule, early_fault};
+ghost use Rattle.scan_model.specs.NetlistText.{netlist_reading};
+ghost use Rattle.text_parts.specs.Views.{nows};
+ghost use Rattle.text_parts.specs.Gives.{Gives};
+ghost use Rattle.std.specs.Prelude.{not};
+ghost use Rattle.std.specs.List.{list_any};
+ghost use Rattle.scan_model.specs.Words.{has_word};
+ghost use Rattle.bench_reader.specs.Lines.{line_view};
+ghost use Rattle.bench_reader.specs.Kept.{kept_views, filled_from, uses_undefined, first_line};
+ghost use Rattle.bench_reader.specs.Clean.{IsRead, AreKnown};
+
+use crate::first::Lines;
+use crate::line::Line;
 use scan_model::Circuit;
 use std::alloc::Global;
-use text_parts::ReadFault;
+use text_parts::{Names, ReadFault, TextFault, lines_of};
+
+// The lines of a netlist that are not empty, or its first fault by the first round.
+fn first_round(alloc: Global, bytes: &[u8]) -> Result<Lines<'_>, ReadFault>
+    ensures fault { Gives (λ kept. kept_views kept.lines.items) result (refused_or (first_fault (first_rule (text_lines bytes.now)) (length (text_lines bytes.now))) (filled_from 1 (forms_of (text_lines bytes.now)))) }
+    ensures read { IfOk result (λ kept. IsRead kept (forms_of (text_lines bytes.now))) }
+{
+    let texts = lines_of(alloc, bytes)?;
+    let mut kept = Lines::new(alloc);
+    for (i, text) in texts.iter().enumerate() {
+        let line = i as u64 + 1;
+        if let Some(rule) = kept.take_line(alloc, line, text)? {
+            return Err(ReadFault::Text(TextFault { line, rule }));
+        }
+    }
+    Ok(kept)
+}
+
+fn lacks(defined: &Names<'_>, names: &[&[u8]]) -> bool
+    ensures { result ≡ list_any (λ n. not (has_word defined.now n)) (nows names.now) }
+{
+    names.iter().any(|n| !defined.contains(n))
+}
+
+// The line uses a net that no line defines.
+fn uses_undefined(defined: &Names<'_>, line: &Line<'_>) -> bool
+    ensures { result ≡ uses_undefined defined.now (line_view line.now) }
+{
+    match line {
+        Line::Output(n) => !defined.contains(n),
+        Line::Definition { operands, .. } => lacks(defined, operands),
+        _ => false,
+    }
+}
+
+// The number of the first line that uses a net that no line defines.
+fn first_undefined(kept: &Lines<'_>) -> Option<u64>
+    ensures { result ≡ first_line (uses_undefined kept.now.defined) (kept_views kept.now.lines.items) }
+{
+    for line in &kept.lines {
+        if uses_undefined(&kept.defined, &line.line) {
+            return Some(line.number);
+        }
+    }
+    None
+}
+
+// The same, or its first fault by the first two rounds.
+fn read_lines(alloc: Global, bytes: &[u8]) -> Result<Lines<'_>, ReadFault>
+    ensures fault { Gives (λ kept. kept_views kept.lines.items) result (refused_or (early_fault (text_lines bytes.now)) (filled_from 1 (forms_of (text_lines bytes.now)))) }
+    ensures read { IfOk result (λ kept. IsRead kept (forms_of (text_lines bytes.now))) }
+    ensures known { IfOk result (λ kept. AreKnown (forms_of (text_lines bytes.now))) }
+{
+    let kept = first_round(alloc, bytes)?;
+    if let Some(line) = first_undefined(&kept) {
+        return Err(ReadFault::Text(TextFault { line, rule: 7 }));
+    }
+    Ok(kept)
+}
 
 /// The circuit that a netlist stands for, or its first fault by rules 1 to 9.
 pub fn read_netlist(alloc: Global, bytes: &[u8]) -> Result<Circuit, ReadFault>
     ensures { Gives (λ c. c) result (netlist_reading bytes.now) }
 {
-    let _ = alloc;
-    let _ = bytes;
+    let kept = read_lines(alloc, bytes)?;
+    let _ = kept;
     Err(ReadFault::NoMemory)
 }
