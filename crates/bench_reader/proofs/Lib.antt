@@ -2,3 +2,4 @@ pub mod Names
 pub mod Operands
 pub mod FirstRound
 pub mod SecondRound
+pub mod OneMoreLine

@@ -60,3 +60,13 @@ uses_undefined defined f = list_any (λ n. not (has_word defined n)) (uses_of f)
 abbrev pub first_line : (Form → Bool) → List (ℕ × Form) → Option ℕ
 first_line passes [] = None
 first_line passes (e ∷ es) = if passes e.1 then Some e.0 else first_line passes es
+
+-- the forms of numbered lines
+abbrev pub forms_in : List (ℕ × Form) → List Form
+forms_in es = map (λ e. e.1) es
+
+-- the names and the number of pins are those of the lines that are kept
+pub record IsWhole (kept : Lines) : Type 0 where
+  pub defined : kept.defined ≡ defined_names (forms_in (kept_views kept.lines.items))
+  pub pins : kept.pins ≡ length (pins_after [] (forms_in (kept_views kept.lines.items)))
+  pub within : IsWithin kept

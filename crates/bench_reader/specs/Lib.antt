@@ -3,3 +3,4 @@ pub mod Lines
 pub mod Lists
 pub mod Kept
 pub mod Clean
+pub mod Built

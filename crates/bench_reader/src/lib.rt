@@ -1,6 +1,7 @@
 //! Reads ISCAS'89 `.bench` netlists.
 #![tactic(auto)]
 
+mod build;
 mod driver;
 mod first;
 mod line;
