@@ -15,3 +15,4 @@ pub mod Levels
 pub mod BitTables
 pub mod Definite
 pub mod FaultSteps
+pub mod LevelTests
