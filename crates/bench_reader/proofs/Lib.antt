@@ -3,3 +3,5 @@ pub mod Operands
 pub mod FirstRound
 pub mod SecondRound
 pub mod OneMoreLine
+pub mod OneMoreNet
+pub mod OneMoreOutput
