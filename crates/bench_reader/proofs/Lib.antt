@@ -5,3 +5,5 @@ pub mod SecondRound
 pub mod OneMoreLine
 pub mod OneMoreNet
 pub mod OneMoreOutput
+pub mod NamesDiffer
+pub mod PartsOfLines
