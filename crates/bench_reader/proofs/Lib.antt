@@ -7,3 +7,6 @@ pub mod OneMoreNet
 pub mod OneMoreOutput
 pub mod NamesDiffer
 pub mod PartsOfLines
+pub mod CircuitOfLines
+pub mod EmptyLines
+pub mod ThirdRound
