@@ -96,7 +96,7 @@ first_at fs k none =
     (λ j lt. let lt' : j < k = omega (arith, length-take k fs) in rw (get_or-take k fs j nothing lt') (none j lt'))
     used)
 
-not_refused : {X : Type 0} (f : Option (ℕ × ℕ)) (x y : X) → refused_or f x ≡ Ok y → f ≡ None
+pub not_refused : {X : Type 0} (f : Option (ℕ × ℕ)) (x y : X) → refused_or f x ≡ Ok y → f ≡ None
 not_refused None x y e = refl
 not_refused (Some f) x y e = absurd cc
 

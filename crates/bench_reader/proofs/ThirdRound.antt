@@ -19,7 +19,7 @@ use Rattle.bench_reader.proofs.NamesDiffer.{number_after}
 use Rattle.bench_reader.proofs.CircuitOfLines.{length-nets_after}
 
 no_gate_past : (c : Netlist) (g : ℕ) → length c.nets ≤ g → is_gate c g ≡ false
-no_gate_past c g past = ap (λ (n : Net). is_gate_driver n.driver) (get_or_past c.nets no_net g past)
+no_gate_past c g past = ap (λ (n : Net). is_gate_driver n.driver) (get_or_past c.nets g no_net past)
 
 level_everywhere : (c : Netlist) → HasLevels c → (g : ℕ) → has_level c g ≡ true
 level_everywhere c levels g = test-from_gate_level c g (λ gate. elim (cases_lt g (length c.nets)) [
@@ -99,6 +99,7 @@ level_fault ls net differ least =
     ∙ level_fault_from (defined_names fs) differ (λ m. not (has_level c m)) net (ap not (test-from_no_level c net least.no_level))
     (λ m lt. ap not (test-from_gate_level c m (least.least m lt))) (omega (arith, least.in_range, length-nets_after fs)) (third_rule ls)
     fs [] 0 refl (omega arith) (λ k lt. let at : 0 + k ≡ k = omega arith in ap (third_rule ls) at)
+    ∙ (let place : net - 0 ≡ net = omega arith in ap (λ i. Some (get_or (net_lines_from 1 fs) i 0, 8)) place)
 
 -- ---- the whole reading
 
@@ -114,3 +115,12 @@ module _ (bytes : List ℕ) (early : early_fault (text_lines bytes) ≡ None) wh
       ap (λ f. refused_or (or_else f (first_fault (third_rule (text_lines bytes)) (length (text_lines bytes)))) (circuit_of bytes)) early
       ∙ ap (λ f. refused_or f (circuit_of bytes)) (level_fault (text_lines bytes) net differ least)
       ∙ ap (λ l. Err (l, 8)) (sym is)
+
+-- each net has the number of its line
+pub length-net_lines_from : (n : ℕ) (fs : List Form) → length (net_lines_from n fs) ≡ length (defined_names fs)
+length-net_lines_from n [] = refl
+length-net_lines_from n (nothing ∷ fs) = length-net_lines_from (n + 1) fs
+length-net_lines_from n (output w ∷ fs) = length-net_lines_from (n + 1) fs
+length-net_lines_from n (no_form ∷ fs) = length-net_lines_from (n + 1) fs
+length-net_lines_from n (input w ∷ fs) = ap suc (length-net_lines_from (n + 1) fs)
+length-net_lines_from n (definition w word operands ∷ fs) = ap suc (length-net_lines_from (n + 1) fs)

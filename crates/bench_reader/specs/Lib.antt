@@ -4,3 +4,4 @@ pub mod Lists
 pub mod Kept
 pub mod Clean
 pub mod Built
+pub mod Drafts
