@@ -1,0 +1,12 @@
+pub mod Names
+pub mod Operands
+pub mod FirstRound
+pub mod SecondRound
+pub mod OneMoreLine
+pub mod OneMoreNet
+pub mod OneMoreOutput
+pub mod NamesDiffer
+pub mod PartsOfLines
+pub mod CircuitOfLines
+pub mod EmptyLines
+pub mod ThirdRound

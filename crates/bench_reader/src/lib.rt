@@ -1,6 +1,11 @@
 //! Reads ISCAS'89 `.bench` netlists.
 #![tactic(auto)]
 
+mod build;
+mod driver;
+mod first;
+mod line;
 mod reading;
+mod token;
 
 pub use reading::read_netlist;

@@ -19,3 +19,4 @@ pub mod BitTables
 pub mod Definite
 pub mod FaultSteps
 pub mod PointCount
+pub mod LevelTests

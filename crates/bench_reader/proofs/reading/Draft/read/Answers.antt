@@ -1,0 +1,38 @@
+use Rattle.std.proofs.Common.{◌≡◌, ◌≤◌, Ok, None, length, [], map, sym, ap, ◌∙◌}
+use Rattle.scan_model.specs.Lines.{text_lines}
+use Rattle.scan_model.specs.TextFaults.{refused_or}
+use Rattle.scan_model.specs.NetlistRules.{forms_of, early_fault, defined_names, pins_after, net_limit, pin_limit}
+use Rattle.scan_model.specs.NetlistText.{circuit_of, net_number}
+use Rattle.text_parts.specs.Views.{nows}
+use Rattle.bench_reader.specs.Kept.{filled_from, kept_views}
+use Rattle.bench_reader.proofs.SecondRound.{not_refused}
+use Rattle.bench_reader.proofs.EmptyLines.{whole, built_circuit}
+use Rattle.bench_reader.proofs.CircuitOfLines.{circuit_is_sound}
+use Rattle.bench_reader.proofs.reading.Draft.read.Goals as goal
+
+pub built_of-requires : goal.built_of-requires
+built_of-requires c = whole c.in_ok-kept.kept (forms_of (text_lines c.args.bytes.now)) c.in_ok-kept.ensures.read
+
+pub returns-clause-fault : goal.returns-clause-fault
+returns-clause-fault c =
+    let ls = text_lines c.args.bytes.now in
+    let kept = c.in_ok-kept.kept in
+    let outputs = c.in_ok-outputs.ensures ∙ ap (map (net_number kept.defined)) c.as_slice.ensures in
+    let early : early_fault ls ≡ None = not_refused (early_fault ls) (filled_from 1 (forms_of ls)) (kept_views kept.lines.items) c.in_ok-kept.ensures.fault in
+    ap (λ f. refused_or f (circuit_of c.args.bytes.now)) early
+    ∙ ap Ok (sym (built_circuit kept c.in_ok-built.built (forms_of ls) c.in_ok-outputs.outputs c.in_ok-kept.ensures.read c.in_ok-built.ensures outputs))
+
+pub returns-clause-draft : goal.returns-clause-draft
+returns-clause-draft c =
+    let fs = forms_of (text_lines c.args.bytes.now) in
+    let kept = c.in_ok-kept.kept in
+    let read = c.in_ok-kept.ensures.read in
+    let outputs = c.in_ok-outputs.ensures ∙ ap (map (net_number kept.defined)) c.as_slice.ensures in
+    let few_nets : length (defined_names fs) ≤ net_limit = rw (← read.after.defined) read.within.nets in
+    let few_pins : length (pins_after [] fs) ≤ pin_limit = rw (← read.after.pins) read.within.pins in
+    record {
+      lists = built_circuit kept c.in_ok-built.built fs c.in_ok-outputs.outputs read c.in_ok-built.ensures outputs;
+      circuit = circuit_is_sound fs read.clean c.in_ok-kept.ensures.known few_nets few_pins;
+      differ = read.clean.differ;
+      net_lines = read.after.net_lines;
+    }

@@ -1,0 +1,33 @@
+use Rattle.std.proofs.Common.{◌≡◌, ◌-◌, length, arith, ap, ◌∙◌, sym, Ok}
+use Rattle.text_parts.specs.Views.{nows}
+use Rattle.scan_model.specs.Lines.{text_lines}
+use Rattle.scan_model.specs.TextFaults.{refused_or, fault_from}
+use Rattle.scan_model.specs.NetlistRules.{forms_of, first_rule}
+use Rattle.bench_reader.specs.Kept.{filled_from}
+use Rattle.bench_reader.proofs.FirstRound.{clean_none, line_is_faulty, no_fault_more, after_more, clean_after}
+use Rattle.bench_reader.proofs.reading.first_round.Goals as goal
+
+pub returns-in-Some-clause-fault : goal.returns-in-Some-clause-fault
+returns-in-Some-clause-fault c =
+    let same : nows c.deref-text-items.result.now ≡ text_lines c.args.bytes.now = ap nows c.deref-text-items.ensures.value ∙ c.in_ok-texts.ensures in
+    ap (λ f. refused_or f (filled_from 1 (forms_of (text_lines c.args.bytes.now)))) (line_is_faulty c.args.bytes.now c.deref-text-items.result.now c.loop-i.i _ c.loop-i.kept same c.loop-i.invariant.no_fault_yet c.loop-i.invariant.read.after c.in-Some.rule c.loop-i-test.true (sym c.in-Some.is ∙ c.in_ok-rule.ensures.rule))
+
+pub loop-i-init : goal.loop-i-init
+loop-i-init c =
+    let ls = text_lines c.args.bytes.now in
+    let all : length ls - 0 ≡ length ls = omega arith in
+    record { no_fault_yet = ap (fault_from (first_rule ls) 0) all; read = record { after = c.new-kept.ensures.after; within = c.new-kept.ensures.within; clean = clean_none } }
+
+pub loop-i-preserved : goal.loop-i-preserved
+loop-i-preserved c =
+    let same : nows c.deref-text-items.result.now ≡ text_lines c.args.bytes.now = ap nows c.deref-text-items.ensures.value ∙ c.in_ok-texts.ensures in
+    let taken = c.in_ok-rule.was ∙ ap Ok c.in_default.is in
+    let none = sym c.in_default.is ∙ c.in_ok-rule.ensures.rule in
+    record {
+      no_fault_yet = no_fault_more c.args.bytes.now c.deref-text-items.result.now c.loop-i.i _ c.loop-i.kept same c.loop-i.invariant.no_fault_yet c.loop-i.invariant.read.after c.loop-i-test.true none;
+      read = record {
+        after = after_more c.args.bytes.now c.deref-text-items.result.now c.loop-i.i _ c.loop-i.kept same c.loop-i.invariant.no_fault_yet c.loop-i.invariant.read.after c.take_line.new.self c.loop-i-test.true (c.take_line.ensures.taken taken);
+        within = c.take_line.ensures.within taken;
+        clean = clean_after c.args.bytes.now c.deref-text-items.result.now c.loop-i.i _ c.loop-i.kept same c.loop-i.invariant.no_fault_yet c.loop-i.invariant.read.after c.loop-i-test.true none c.loop-i.invariant.read.clean;
+      };
+    }

@@ -1,0 +1,46 @@
+use Rattle.std.proofs.Common.{◌≡◌, ℕ, ◌<◌, List, Ok, Err, None, length, get_or, vec_len, sym, ap, subst, ◌∙◌, arith}
+use Rattle.std.proofs.lemmas.List.{get_or_default}
+use Rattle.scan_model.specs.Netlist.{Netlist, netlist}
+use Rattle.scan_model.specs.Walks.{HasLevels, IsLeastWithoutLevel}
+use Rattle.scan_model.specs.Lines.{text_lines}
+use Rattle.scan_model.specs.TextFaults.{refused_or}
+use Rattle.scan_model.specs.NetlistRules.{forms_of, early_fault, defined_names}
+use Rattle.scan_model.specs.NetlistText.{circuit_of, circuit_in, netlist_reading}
+use Rattle.bench_reader.specs.declared.reading.Draft.{Draft}
+use Rattle.bench_reader.specs.Drafts.{IsDraft}
+use Rattle.bench_reader.proofs.SecondRound.{not_refused}
+use Rattle.bench_reader.proofs.CircuitOfLines.{length-nets_after}
+use Rattle.bench_reader.proofs.ThirdRound.{reads_circuit, reads_level_fault, length-net_lines_from}
+use Rattle.bench_reader.proofs.reading.read_netlist.Goals as goal
+
+module _ (bytes : List ℕ) (d : Draft) (read : refused_or (early_fault (text_lines bytes)) (circuit_of bytes) ≡ Ok (netlist d.nets d.pins d.inputs d.outputs)) (draft : IsDraft d (forms_of (text_lines bytes))) where
+  early : early_fault (text_lines bytes) ≡ None
+  early = not_refused (early_fault (text_lines bytes)) (circuit_of bytes) (netlist d.nets d.pins d.inputs d.outputs) read
+
+  with_levels : (c : Netlist) → c ≡ netlist d.nets d.pins d.inputs d.outputs → HasLevels (netlist d.nets d.pins d.inputs d.outputs) → netlist_reading bytes ≡ Ok c
+  with_levels c is levels = reads_circuit bytes early (subst HasLevels draft.lists levels) ∙ ap Ok (sym (is ∙ draft.lists))
+
+  module _ (net : ℕ) (least : IsLeastWithoutLevel (netlist d.nets d.pins d.inputs d.outputs) net) where
+    least_in : IsLeastWithoutLevel (circuit_of bytes) net
+    least_in = subst (λ c. IsLeastWithoutLevel c net) draft.lists least
+
+    has_line : net < length d.net_lines.items
+    has_line = omega (arith, least_in.in_range, length-nets_after (forms_of (text_lines bytes)), length-net_lines_from 1 (forms_of (text_lines bytes)), ap length draft.net_lines)
+
+    without_level : (line : ℕ) → line ≡ get_or d.net_lines.items net line → netlist_reading bytes ≡ Err (line, 8)
+    without_level line is =
+        reads_level_fault bytes early net line draft.differ least_in
+        (is ∙ get_or_default d.net_lines.items net line 0 has_line ∙ ap (λ ls. get_or ls net 0) draft.net_lines)
+
+pub returns-in-Ok : goal.returns-in-Ok
+returns-in-Ok c = with_levels c.args.bytes.now c.in_ok-draft.draft c.in_ok-draft.ensures.fault c.in_ok-draft.ensures.draft c.in-Ok.circuit c.in-Ok.ensures.ok c.in-Ok.ensures.levels
+
+pub index-line-requires : goal.index-line-requires
+index-line-requires c =
+    let least = rw c.in-Err-NoLevel.field-0-is at c.in-Err-NoLevel.ensures.no_level in
+    omega (arith, has_line c.args.bytes.now c.in_ok-draft.draft c.in_ok-draft.ensures.fault c.in_ok-draft.ensures.draft c.in-Err-NoLevel.net least)
+
+pub returns-in-Err-NoLevel : goal.returns-in-Err-NoLevel
+returns-in-Err-NoLevel c =
+    let least = rw c.in-Err-NoLevel.field-0-is at c.in-Err-NoLevel.ensures.no_level in
+    without_level c.args.bytes.now c.in_ok-draft.draft c.in_ok-draft.ensures.fault c.in_ok-draft.ensures.draft c.in-Err-NoLevel.net least c.index-line.result.now c.index-line.ensures

@@ -1,0 +1,233 @@
+//! The first round: each line by itself and after those before it.
+
+ghost use Rattle.std.specs.Prelude.{◌≡◌, ◌≤◌, ◌<◌, ◌+◌, ◌^◌, [], length, IfOk, OnOk, Ok, None, not, false};
+ghost use Rattle.std.specs.List.{list_any};
+ghost use Rattle.scan_model.specs.Words.{is_short};
+ghost use Rattle.scan_model.specs.TextFaults.{lowest};
+ghost use Rattle.scan_model.specs.NetlistLines.{form_of};
+ghost use Rattle.scan_model.specs.NetlistRules.{nets_of, new_output, pins_of, is_no_form, has_unknown_word, has_wrong_count, has_long_name, defines_among, first_rules, makes_past, net_limit, pin_limit};
+ghost use Rattle.text_parts.specs.Views.{nows};
+ghost use Rattle.bench_reader.specs.Lines.{line_view};
+
+use crate::driver::{driver_named, takes_one};
+use crate::line::Line;
+use std::alloc::{AllocError, Global};
+use text_parts::{Names, has_refused_byte};
+
+const NET_LIMIT: usize = 65_536;
+
+const PIN_LIMIT: usize = 262_144;
+
+fn is_no_form(line: &Line<'_>) -> bool
+    ensures { result ≡ is_no_form (line_view line.now) }
+{
+    matches!(line, Line::NoForm)
+}
+
+fn has_unknown_word(line: &Line<'_>) -> bool
+    ensures { result ≡ has_unknown_word (line_view line.now) }
+{
+    match line {
+        Line::Definition { word, .. } => driver_named(word).is_none(),
+        _ => false,
+    }
+}
+
+fn has_wrong_count(line: &Line<'_>) -> bool
+    ensures { result ≡ has_wrong_count (line_view line.now) }
+{
+    match line {
+        Line::Definition { word, operands, .. } => {
+            if takes_one(driver_named(word)) {
+                operands.len() != 1
+            } else {
+                operands.is_empty()
+            }
+        }
+        _ => false,
+    }
+}
+
+fn is_short(name: &[u8]) -> bool
+    ensures { result ≡ is_short name.now }
+{
+    name.len() <= 64
+}
+
+fn has_long(names: &[&[u8]]) -> bool
+    ensures { result ≡ list_any (λ n. not (is_short n)) (nows names.now) }
+{
+    names.iter().any(|n| !is_short(n))
+}
+
+fn has_long_name(line: &Line<'_>) -> bool
+    ensures { result ≡ has_long_name (line_view line.now) }
+{
+    match line {
+        Line::Input(n) => !is_short(n),
+        Line::Output(n) => !is_short(n),
+        Line::Definition { net, operands, .. } => !is_short(net) || has_long(operands),
+        _ => false,
+    }
+}
+
+fn defines_among(defined: &Names<'_>, line: &Line<'_>) -> bool
+    ensures { result ≡ defines_among defined.now (line_view line.now) }
+{
+    match line {
+        Line::Input(n) => defined.contains(n),
+        Line::Definition { net, .. } => defined.contains(net),
+        _ => false,
+    }
+}
+
+// How many pins the line makes.
+fn pins_made(outputs: &Names<'_>, line: &Line<'_>) -> usize
+    ensures { result ≡ length (pins_of outputs.now (line_view line.now)) }
+{
+    match line {
+        Line::Output(n) => { if outputs.contains(n) { 0 } else { 1 } }
+        Line::Definition { operands, .. } => operands.len(),
+        _ => 0,
+    }
+}
+
+fn nets_made(line: &Line<'_>) -> usize
+    ensures { result ≡ length (nets_of (line_view line.now)) }
+{
+    match line {
+        Line::Input(_) => 1,
+        Line::Definition { .. } => 1,
+        _ => 0,
+    }
+}
+
+fn makes_past(earlier: usize, made: usize, limit: usize) -> bool
+    requires { earlier ≤ limit }
+    ensures past { result ≡ makes_past earlier made limit }
+    ensures fits { result ≡ false → earlier + made ≤ limit }
+{
+    made > limit - earlier
+}
+
+/// A line that is not empty, and its number, counted from 1.
+#[derive(Drop)]
+pub struct KeptLine<'a> {
+    pub number: u64,
+    pub line: Line<'a>,
+}
+
+/// The lines so far that are not empty, the nets that they define with the number of each net's line, their outputs,
+/// and how many pins they make.
+#[derive(Drop)]
+pub struct Lines<'a> {
+    pub lines: Vec<KeptLine<'a>>,
+    pub defined: Names<'a>,
+    pub net_lines: Vec<u64>,
+    pub outputs: Names<'a>,
+    pub pins: usize,
+}
+
+impl<'a> Lines<'a> {
+    ghost use Rattle.bench_reader.specs.Kept.{AddsNet, Takes, IsWithin, IsAfter};
+
+    pub fn new(alloc: Global) -> Self
+        ensures within { IsWithin result }
+        ensures after { IsAfter result [] }
+    {
+        Lines {
+            lines: Vec::new(alloc),
+            defined: Names::new(alloc),
+            net_lines: Vec::new(alloc),
+            outputs: Names::new(alloc),
+            pins: 0,
+        }
+    }
+
+    // The lowest rule of the first round that a line breaks.
+    fn rule_of(&self, bytes: &[u8], line: &Line<'_>) -> Option<u32>
+        requires within { IsWithin self.now }
+        requires form { line_view line.now ≡ form_of bytes.now }
+        ensures rule { result ≡ lowest (first_rules self.now.defined self.now.outputs self.now.pins bytes.now) }
+        ensures nets { result ≡ None → length self.now.defined + length (nets_of (line_view line.now)) ≤ net_limit }
+        ensures pins { result ≡ None → self.now.pins + length (pins_of self.now.outputs (line_view line.now)) ≤ pin_limit }
+    {
+        if has_refused_byte(bytes) {
+            return Some(1);
+        }
+        if is_no_form(line) {
+            return Some(2);
+        }
+        if has_unknown_word(line) {
+            return Some(3);
+        }
+        if has_wrong_count(line) {
+            return Some(4);
+        }
+        if has_long_name(line) {
+            return Some(5);
+        }
+        if defines_among(&self.defined, line) {
+            return Some(6);
+        }
+        if makes_past(self.defined.len(), nets_made(line), NET_LIMIT) {
+            return Some(9);
+        }
+        if makes_past(self.pins, pins_made(&self.outputs, line), PIN_LIMIT) {
+            return Some(9);
+        }
+        None
+    }
+
+    fn add_net(&mut self, number: u64, name: &'a [u8]) -> Result<(), AllocError>
+        ensures { OnOk result (AddsNet self.old self.new number name.now) }
+    {
+        self.defined.add(name)?;
+        self.net_lines.push(number)?;
+        Ok(())
+    }
+
+    // Takes what a line says.
+    fn add(&mut self, number: u64, line: Line<'a>) -> Result<(), AllocError>
+        requires { self.old.pins + length (pins_of self.old.outputs (line_view line)) < 2 ^ 64 }
+        ensures { OnOk result (Takes self.old self.new number (line_view line.entry)) }
+    {
+        if line.is_nothing() {
+            return Ok(());
+        }
+        self.pins += pins_made(&self.outputs, &line);
+        match &line {
+            Line::Input(n) => self.add_net(number, n)?,
+            Line::Output(n) => {
+                if !self.outputs.contains(n) {
+                    self.outputs.add(n)?;
+                }
+            }
+            Line::Definition { net, .. } => self.add_net(number, net)?,
+            _ => {}
+        }
+        self.lines.push(KeptLine { number, line })?;
+        Ok(())
+    }
+
+    /// Takes the line of this number, or answers the lowest rule that it breaks.
+    pub fn take_line(
+        &mut self,
+        alloc: Global,
+        number: u64,
+        bytes: &'a [u8],
+    ) -> Result<Option<u32>, AllocError>
+        requires { IsWithin self.old }
+        ensures rule { IfOk result (λ r. r ≡ lowest (first_rules self.old.defined self.old.outputs self.old.pins bytes.now)) }
+        ensures taken { result ≡ Ok None → Takes self.old self.new number (form_of bytes.now) }
+        ensures within { result ≡ Ok None → IsWithin self.new }
+    {
+        let line = Line::of_bytes(alloc, bytes)?;
+        let rule = self.rule_of(bytes, &line);
+        if rule.is_some() {
+            return Ok(rule);
+        }
+        self.add(number, line)?;
+        Ok(None)
+    }
+}
