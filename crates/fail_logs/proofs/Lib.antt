@@ -1,0 +1,5 @@
+pub mod Digits
+pub mod Rising
+pub mod Later
+pub mod Loop
+pub mod TestOrder

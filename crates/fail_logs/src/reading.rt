@@ -1,12 +1,44 @@
-ghost use Rattle.std.specs.Prelude.{IfOk, length};
-ghost use Rattle.scan_model.specs.LogText.{log_frame, log_reading};
+//! A whole log.
+
+ghost use Rattle.std.specs.Prelude.{◌≡◌, ◌≤◌, length, IfOk};
+ghost use Rattle.scan_model.specs.Lines.{text_lines};
+ghost use Rattle.scan_model.specs.TextFaults.{refused_or};
+ghost use Rattle.scan_model.specs.LogText.{log_frame, log_reading, log_fault, later_lines};
 ghost use Rattle.scan_model.specs.Coverage.{FitsLog};
 ghost use Rattle.scan_model.specs.ScanTest.{points_of};
 ghost use Rattle.text_parts.specs.Gives.{Gives};
+ghost use Rattle.fail_logs.specs.Frames.{frame_view, places_view};
+ghost use Rattle.fail_logs.specs.LineFacts.{facts_of, kept_facts};
 
+use crate::frame::Frame;
+use crate::kept::Kept;
 use scan_model::{LogFacts, Parts};
 use std::alloc::Global;
-use text_parts::ReadFault;
+use text_parts::{ReadFault, TextFault, lines_of};
+
+// What the lines of a log say, or its first fault.
+fn read_lines(alloc: Global, frame: Frame<'_>, bytes: &[u8]) -> Result<Kept, ReadFault>
+    requires outputs { length frame.outputs.now ≤ 131072 }
+    requires points { length frame.points.now ≤ 131072 }
+    ensures { Gives kept_facts result (refused_or (log_fault (frame_view frame.entry) bytes.now) (facts_of (frame_view frame.entry) (places_view frame.entry) (later_lines (text_lines bytes.now)))) }
+{
+    let texts = lines_of(alloc, bytes)?;
+    let mut kept = Kept::new(alloc);
+    for (i, text) in texts.iter().enumerate() {
+        if let Some(rule) = kept.take_line(alloc, frame, text)? {
+            let line = i as u64 + 1;
+            return Err(ReadFault::Text(TextFault { line, rule }));
+        }
+    }
+    let line = texts.len() as u64 + 1;
+    if !kept.titled {
+        return Err(ReadFault::Text(TextFault { line, rule: 52 }));
+    }
+    if !kept.closed {
+        return Err(ReadFault::Text(TextFault { line, rule: 61 }));
+    }
+    Ok(kept)
+}
 
 /// What a fail log of the design and the die stands for, or its first fault by rules 51 to 63.
 pub fn read_log(
