@@ -1,6 +1,6 @@
 //! The tables that a log is read with.
 
-ghost use Rattle.std.specs.Prelude.{◌≡◌, ◌≤◌, map, length, IfOk, replicate};
+ghost use Rattle.std.specs.Prelude.{◌≡◌, ◌<◌, ◌≤◌, map, length, IfOk, replicate};
 ghost use Rattle.scan_model.specs.Netlist.{net_at};
 ghost use Rattle.scan_model.specs.LogText.{is_shift};
 ghost use Rattle.fail_logs.specs.Frames.{rows_view};
@@ -10,15 +10,22 @@ use scan_model::{Chain, Circuit, Pattern, PatternKind, Point};
 use std::alloc::{AllocError, Global};
 use text_parts::Names;
 
+fn net_name(circuit: &Circuit, net: u32) -> &[u8]
+    requires { net < length circuit.now.nets }
+    ensures { result.now ≡ (net_at circuit.now net).name }
+{
+    let net = &circuit.nets().as_slice()[net as usize];
+    net.name.as_slice()
+}
+
 /// The names of the outputs, in their order.
 pub fn output_names(alloc: Global, circuit: &Circuit) -> Result<Names<'_>, AllocError>
     ensures { IfOk result (λ names. names ≡ map (λ n. (net_at circuit.now n).name) circuit.now.outputs) }
 {
-    let nets = circuit.nets().as_slice();
     let outputs = circuit.outputs().as_slice();
     let mut names = Names::new(alloc);
     for output in outputs {
-        names.add(nets[*output as usize].name.as_slice())?;
+        names.add(net_name(circuit, *output))?;
     }
     Ok(names)
 }
