@@ -7,11 +7,11 @@ use Rattle.fail_logs.specs.declared.rules.Headers.{Headers}
 
 abbrev pub frame_view : Frame → model.LogFrame
 frame_view f = record {
-  outputs = f.outputs.now;
-  chains = f.chains.now;
-  lengths = f.lengths.now;
+  outputs = f.outputs;
+  chains = f.chains;
+  lengths = f.lengths.items;
   points = f.points.now;
-  shifts = f.shifts.now;
+  shifts = f.shifts.items;
   design = f.design.now;
   die = f.die.now;
 }
@@ -22,7 +22,7 @@ rows_view rows = map (λ r. r.items) rows
 
 -- for each chain a row with the point of each of its cells
 abbrev pub places_view : Frame → List (List ℕ)
-places_view f = rows_view f.places.now
+places_view f = rows_view f.places.items
 
 abbrev pub range_view : Option (ℕ × ℕ) → Option (ℕ × ℕ)
 range_view o = o

@@ -5,3 +5,5 @@ pub mod Kept
 pub mod Taken
 pub mod LineFacts
 pub mod Places
+pub mod IsFrame
+pub mod Rising

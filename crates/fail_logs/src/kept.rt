@@ -122,10 +122,10 @@ impl Kept {
     }
 
     // Adds a line that breaks no rule.
-    fn add(&mut self, frame: Frame<'_>, line: LogLine<'_>) -> Result<(), AllocError>
-        requires outputs { length frame.outputs.now ≤ 131072 }
-        requires points { length frame.points.now ≤ 131072 }
-        ensures { OnOk result (Adds (frame_view frame.entry) (places_view frame.entry) self.old self.new (line_view line.entry)) }
+    fn add(&mut self, frame: &Frame<'_>, line: LogLine<'_>) -> Result<(), AllocError>
+        requires outputs { length frame.now.outputs ≤ 131072 }
+        requires points { length frame.now.points.now ≤ 131072 }
+        ensures { OnOk result (Adds (frame_view frame.now) (places_view frame.now) self.old self.new (line_view line.entry)) }
     {
         add_number(&mut self.fails, number_named(frame, line))?;
         self.headers = with_line(self.headers, line);
@@ -138,13 +138,13 @@ impl Kept {
     pub fn take_line(
         &mut self,
         alloc: Global,
-        frame: Frame<'_>,
+        frame: &Frame<'_>,
         bytes: &[u8],
     ) -> Result<Option<u32>, AllocError>
-        requires outputs { length frame.outputs.now ≤ 131072 }
-        requires points { length frame.points.now ≤ 131072 }
-        ensures rule { IfOk result (λ r. r ≡ lowest (log_rules (frame_view frame.entry) self.old.titled self.old.closed (headers_view self.old.headers) bytes.now)) }
-        ensures taken { result ≡ Ok None → Takes (frame_view frame.entry) (places_view frame.entry) self.old self.new (words bytes.now) }
+        requires outputs { length frame.now.outputs ≤ 131072 }
+        requires points { length frame.now.points.now ≤ 131072 }
+        ensures rule { IfOk result (λ r. r ≡ lowest (log_rules (frame_view frame.now) self.old.titled self.old.closed (headers_view self.old.headers) bytes.now)) }
+        ensures taken { result ≡ Ok None → Takes (frame_view frame.now) (places_view frame.now) self.old self.new (words bytes.now) }
     {
         let words = words_of(alloc, bytes)?;
         if has_refused_byte(bytes) {

@@ -8,8 +8,10 @@ ghost use Rattle.scan_model.specs.Coverage.{FitsLog};
 ghost use Rattle.scan_model.specs.ScanTest.{points_of};
 ghost use Rattle.text_parts.specs.Gives.{Gives};
 ghost use Rattle.fail_logs.specs.Frames.{frame_view, places_view};
+ghost use Rattle.fail_logs.specs.IsFrame.{IsFrame};
 ghost use Rattle.fail_logs.specs.LineFacts.{facts_of, kept_facts};
 
+use crate::bits::bits_in_order;
 use crate::frame::Frame;
 use crate::kept::Kept;
 use scan_model::{LogFacts, Parts};
@@ -17,10 +19,10 @@ use std::alloc::Global;
 use text_parts::{ReadFault, TextFault, lines_of};
 
 // What the lines of a log say, or its first fault.
-fn read_lines(alloc: Global, frame: Frame<'_>, bytes: &[u8]) -> Result<Kept, ReadFault>
-    requires outputs { length frame.outputs.now ≤ 131072 }
-    requires points { length frame.points.now ≤ 131072 }
-    ensures { Gives kept_facts result (refused_or (log_fault (frame_view frame.entry) bytes.now) (facts_of (frame_view frame.entry) (places_view frame.entry) (later_lines (text_lines bytes.now)))) }
+fn read_lines(alloc: Global, frame: &Frame<'_>, bytes: &[u8]) -> Result<Kept, ReadFault>
+    requires outputs { length frame.now.outputs ≤ 131072 }
+    requires points { length frame.now.points.now ≤ 131072 }
+    ensures { Gives kept_facts result (refused_or (log_fault (frame_view frame.now) bytes.now) (facts_of (frame_view frame.now) (places_view frame.now) (later_lines (text_lines bytes.now)))) }
 {
     let texts = lines_of(alloc, bytes)?;
     let mut kept = Kept::new(alloc);
@@ -40,6 +42,29 @@ fn read_lines(alloc: Global, frame: Frame<'_>, bytes: &[u8]) -> Result<Kept, Rea
     Ok(kept)
 }
 
+// What a log stands for, or its first fault.
+fn read_framed(alloc: Global, frame: &Frame<'_>, bytes: &[u8]) -> Result<LogFacts, ReadFault>
+    requires { IsFrame (frame_view frame.now) (places_view frame.now) }
+    ensures reading { Gives (λ log. log) result (log_reading (frame_view frame.now) bytes.now) }
+    ensures fits { IfOk result (FitsLog (length frame.now.shifts.items) (length frame.now.points.now)) }
+{
+    let kept = read_lines(alloc, frame, bytes)?;
+    let Kept {
+        truncated,
+        headers,
+        fails,
+        ..
+    } = kept;
+    let (first, last) = headers.tested.unwrap_or((0, 0));
+    let fails = bits_in_order(alloc, frame.points.len(), fails)?;
+    Ok(LogFacts {
+        first,
+        last,
+        truncated,
+        fails,
+    })
+}
+
 /// What a fail log of the design and the die stands for, or its first fault by rules 51 to 63.
 pub fn read_log(
     alloc: Global,
@@ -51,10 +76,6 @@ pub fn read_log(
     ensures reading { Gives (λ log. log) result (log_reading (log_frame parts.now design.now die.now) bytes.now) }
     ensures fits { IfOk result (FitsLog (length parts.now.patterns) (length (points_of parts.now))) }
 {
-    let _ = alloc;
-    let _ = parts;
-    let _ = design;
-    let _ = die;
-    let _ = bytes;
-    Err(ReadFault::NoMemory)
+    let frame = Frame::of_parts(alloc, parts, design, die)?;
+    read_framed(alloc, &frame, bytes)
 }

@@ -35,8 +35,8 @@ fn has_no_number(line: LogLine<'_>) -> bool
     }
 }
 
-fn has_other_design(frame: Frame<'_>, line: LogLine<'_>) -> bool
-    ensures { result ≡ has_other_design (frame_view frame.entry) (line_view line.entry) }
+fn has_other_design(frame: &Frame<'_>, line: LogLine<'_>) -> bool
+    ensures { result ≡ has_other_design (frame_view frame.now) (line_view line.entry) }
 {
     match line {
         LogLine::Design(w) => w != frame.design,
@@ -44,8 +44,8 @@ fn has_other_design(frame: Frame<'_>, line: LogLine<'_>) -> bool
     }
 }
 
-fn has_other_die(frame: Frame<'_>, line: LogLine<'_>) -> bool
-    ensures { result ≡ has_other_die (frame_view frame.entry) (line_view line.entry) }
+fn has_other_die(frame: &Frame<'_>, line: LogLine<'_>) -> bool
+    ensures { result ≡ has_other_die (frame_view frame.now) (line_view line.entry) }
 {
     match line {
         LogLine::Die(w) => w != frame.die,
@@ -53,8 +53,8 @@ fn has_other_die(frame: Frame<'_>, line: LogLine<'_>) -> bool
     }
 }
 
-fn has_bad_range(frame: Frame<'_>, line: LogLine<'_>) -> bool
-    ensures { result ≡ has_bad_range (frame_view frame.entry) (line_view line.entry) }
+fn has_bad_range(frame: &Frame<'_>, line: LogLine<'_>) -> bool
+    ensures { result ≡ has_bad_range (frame_view frame.now) (line_view line.entry) }
 {
     match line {
         LogLine::Tested(a, b) => {
@@ -67,8 +67,8 @@ fn has_bad_range(frame: Frame<'_>, line: LogLine<'_>) -> bool
 }
 
 // The length of the chain with the name.
-fn chain_length(frame: Frame<'_>, name: &[u8]) -> usize
-    ensures { result ≡ chain_length (frame_view frame.entry) name.now }
+fn chain_length(frame: &Frame<'_>, name: &[u8]) -> usize
+    ensures { result ≡ chain_length (frame_view frame.now) name.now }
 {
     match frame.lengths.get(frame.chains.place_or_len(name)) {
         Some(n) => *n,
@@ -76,8 +76,8 @@ fn chain_length(frame: Frame<'_>, name: &[u8]) -> usize
     }
 }
 
-fn is_nowhere(frame: Frame<'_>, line: LogLine<'_>) -> bool
-    ensures { result ≡ is_nowhere (frame_view frame.entry) (line_view line.entry) }
+fn is_nowhere(frame: &Frame<'_>, line: LogLine<'_>) -> bool
+    ensures { result ≡ is_nowhere (frame_view frame.now) (line_view line.entry) }
 {
     match line {
         LogLine::Out(_, n) => !frame.outputs.contains(n),
@@ -109,8 +109,8 @@ fn is_untested(tested: Option<(u32, u32)>, pattern: Option<u32>) -> bool
     }
 }
 
-fn is_out_of_shift(frame: Frame<'_>, line: LogLine<'_>) -> bool
-    ensures { result ≡ is_out_of_shift (frame_view frame.entry) (line_view line.entry) }
+fn is_out_of_shift(frame: &Frame<'_>, line: LogLine<'_>) -> bool
+    ensures { result ≡ is_out_of_shift (frame_view frame.now) (line_view line.entry) }
 {
     match line {
         LogLine::Out(p, _) => match frame.shifts.get(number(p) as usize) {
@@ -134,8 +134,8 @@ fn is_misplaced(headers: Headers, line: LogLine<'_>) -> bool
 }
 
 /// The lowest rule that a line breaks, after these headers.
-pub fn later_rule(frame: Frame<'_>, headers: Headers, line: LogLine<'_>) -> Option<u32>
-    ensures { result ≡ lowest (later_rules (frame_view frame.entry) (headers_view headers) (line_view line.entry)) }
+pub fn later_rule(frame: &Frame<'_>, headers: Headers, line: LogLine<'_>) -> Option<u32>
+    ensures { result ≡ lowest (later_rules (frame_view frame.now) (headers_view headers) (line_view line.entry)) }
 {
     if is_other(line) {
         return Some(53);
