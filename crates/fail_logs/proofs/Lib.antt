@@ -5,3 +5,7 @@ pub mod Loop
 pub mod TestOrder
 pub mod Named
 pub mod BitOrder
+pub mod CellTable
+pub mod TestFrame
+pub mod Accepted
+pub mod Whole

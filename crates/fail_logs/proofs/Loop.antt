@@ -17,10 +17,10 @@ use Rattle.fail_logs.specs.Taken.{later_of, Takes, IsAfter}
 use Rattle.fail_logs.specs.declared.kept.Kept.{Kept}
 use Rattle.fail_logs.proofs.Later.{later_push, closed_push, truncated_push, headers_push, fails_push, or_false}
 
-differs : (i n : ℕ) → i < n → eqb i n ≡ false
+pub differs : (i n : ℕ) → i < n → eqb i n ≡ false
 differs i n lt = grind (arith, nat_tests)
 
-same : (n : ℕ) → eqb n n ≡ true
+pub same : (n : ℕ) → eqb n n ≡ true
 same n = grind (arith, nat_tests)
 
 -- what is kept after one more line

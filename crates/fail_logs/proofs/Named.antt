@@ -45,10 +45,10 @@ name_at ns w j differ found lt =
       ]
     ]
 
-within : (xs : List ℕ) (q i : ℕ) → i < slice_index xs q → q < length xs
+pub within : (xs : List ℕ) (q i : ℕ) → i < slice_index xs q → q < length xs
 within xs q i lt = elim (cases_lt q (length xs)) [ inl h ↦ h | inr past ↦ absurd (omega (arith, get_or_past xs q 0 past)) ]
 
-holds : (b : Bool) → not b ≡ false → b ≡ true
+pub holds : (b : Bool) → not b ≡ false → b ≡ true
 holds true e = refl
 holds false e = absurd cc
 
@@ -124,7 +124,7 @@ same_number n p k q j k_lt j_lt =
       | inr other ↦ rw (ne_eqb p q other) (ne_eqb _ _ (λ same. other (sym (div-mul-add p n k k_lt) ∙ ap (λ x. x / n) same ∙ div-mul-add q n j j_lt)))
     ]
 
-filter_map-cons : {X Y : Type 0} (f : X → Option Y) (x : X) (xs : List X) → filter_map f (x ∷ xs) ≡ option_to_list (f x) ++ filter_map f xs
+pub filter_map-cons : {X Y : Type 0} (f : X → Option Y) (x : X) (xs : List X) → filter_map f (x ∷ xs) ≡ option_to_list (f x) ++ filter_map f xs
 filter_map-cons {X} {Y} f x xs = go (f x) refl
   where
     go : (o : Option Y) → f x ≡ o → filter_map f (x ∷ xs) ≡ option_to_list (f x) ++ filter_map f xs
