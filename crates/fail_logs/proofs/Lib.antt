@@ -1,0 +1,11 @@
+pub mod Digits
+pub mod Rising
+pub mod Later
+pub mod Loop
+pub mod TestOrder
+pub mod Named
+pub mod BitOrder
+pub mod CellTable
+pub mod TestFrame
+pub mod Accepted
+pub mod Whole

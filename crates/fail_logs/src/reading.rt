@@ -1,12 +1,69 @@
-ghost use Rattle.std.specs.Prelude.{IfOk, length};
-ghost use Rattle.scan_model.specs.LogText.{log_frame, log_reading};
+//! A whole log.
+
+ghost use Rattle.std.specs.Prelude.{◌≡◌, ◌≤◌, length, IfOk};
+ghost use Rattle.scan_model.specs.Lines.{text_lines};
+ghost use Rattle.scan_model.specs.TextFaults.{refused_or};
+ghost use Rattle.scan_model.specs.LogText.{log_frame, log_reading, log_fault, later_lines};
 ghost use Rattle.scan_model.specs.Coverage.{FitsLog};
 ghost use Rattle.scan_model.specs.ScanTest.{points_of};
 ghost use Rattle.text_parts.specs.Gives.{Gives};
+ghost use Rattle.fail_logs.specs.Frames.{frame_view, places_view};
+ghost use Rattle.fail_logs.specs.IsFrame.{IsFrame};
+ghost use Rattle.fail_logs.specs.LineFacts.{facts_of, kept_facts};
 
+use crate::bits::bits_in_order;
+use crate::frame::Frame;
+use crate::kept::Kept;
 use scan_model::{LogFacts, Parts};
 use std::alloc::Global;
-use text_parts::ReadFault;
+use text_parts::{ReadFault, TextFault, lines_of};
+
+// What the lines of a log say, or its first fault.
+fn read_lines(alloc: Global, frame: &Frame<'_>, bytes: &[u8]) -> Result<Kept, ReadFault>
+    requires outputs { length frame.now.outputs ≤ 131072 }
+    requires points { length frame.now.points.now ≤ 131072 }
+    ensures { Gives kept_facts result (refused_or (log_fault (frame_view frame.now) bytes.now) (facts_of (frame_view frame.now) (places_view frame.now) (later_lines (text_lines bytes.now)))) }
+{
+    let texts = lines_of(alloc, bytes)?;
+    let mut kept = Kept::new(alloc);
+    for (i, text) in texts.iter().enumerate() {
+        if let Some(rule) = kept.take_line(alloc, frame, text)? {
+            let line = i as u64 + 1;
+            return Err(ReadFault::Text(TextFault { line, rule }));
+        }
+    }
+    let line = texts.len() as u64 + 1;
+    if !kept.titled {
+        return Err(ReadFault::Text(TextFault { line, rule: 52 }));
+    }
+    if !kept.closed {
+        return Err(ReadFault::Text(TextFault { line, rule: 61 }));
+    }
+    Ok(kept)
+}
+
+// What a log stands for, or its first fault.
+fn read_framed(alloc: Global, frame: &Frame<'_>, bytes: &[u8]) -> Result<LogFacts, ReadFault>
+    requires { IsFrame (frame_view frame.now) (places_view frame.now) }
+    ensures reading { Gives (λ log. log) result (log_reading (frame_view frame.now) bytes.now) }
+    ensures fits { IfOk result (FitsLog (length frame.now.shifts.items) (length frame.now.points.now)) }
+{
+    let kept = read_lines(alloc, frame, bytes)?;
+    let Kept {
+        truncated,
+        headers,
+        fails,
+        ..
+    } = kept;
+    let (first, last) = headers.tested.unwrap_or((0, 0));
+    let fails = bits_in_order(alloc, frame.points.len(), fails)?;
+    Ok(LogFacts {
+        first,
+        last,
+        truncated,
+        fails,
+    })
+}
 
 /// What a fail log of the design and the die stands for, or its first fault by rules 51 to 63.
 pub fn read_log(
@@ -19,10 +76,6 @@ pub fn read_log(
     ensures reading { Gives (λ log. log) result (log_reading (log_frame parts.now design.now die.now) bytes.now) }
     ensures fits { IfOk result (FitsLog (length parts.now.patterns) (length (points_of parts.now))) }
 {
-    let _ = alloc;
-    let _ = parts;
-    let _ = design;
-    let _ = die;
-    let _ = bytes;
-    Err(ReadFault::NoMemory)
+    let frame = Frame::of_parts(alloc, parts, design, die)?;
+    read_framed(alloc, &frame, bytes)
 }

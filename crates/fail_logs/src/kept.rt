@@ -1,0 +1,174 @@
+//! The lines so far, and one more.
+
+ghost use Rattle.std.specs.Prelude.{◌≡◌, ◌≤◌, ◌++◌, [], length, IfOk, OnOk, Ok, None, option_to_list};
+ghost use Rattle.scan_model.specs.Words.{words};
+ghost use Rattle.scan_model.specs.TextFaults.{lowest};
+ghost use Rattle.scan_model.specs.LogText.{is_title, is_end, is_truncated, log_rules};
+ghost use Rattle.text_parts.specs.Views.{nows};
+ghost use Rattle.fail_logs.specs.LogViews.{line_view};
+ghost use Rattle.fail_logs.specs.Frames.{frame_view, places_view, headers_view};
+ghost use Rattle.fail_logs.specs.Kept.{with_line};
+
+use crate::bits::number_named;
+use crate::frame::Frame;
+use crate::line::LogLine;
+use crate::number::number;
+use crate::rules::{Headers, later_rule};
+use std::alloc::{AllocError, Global};
+use text_parts::{has_refused_byte, words_of};
+
+fn is_title(words: &[&[u8]]) -> bool
+    ensures { result ≡ is_title (nows words.now) }
+{
+    match words {
+        [w, v] => {
+            if *w != b"FAILLOG".as_slice() {
+                return false;
+            }
+            *v == b"1".as_slice()
+        }
+        _ => false,
+    }
+}
+
+fn is_end(line: LogLine<'_>) -> bool
+    ensures { result ≡ is_end (line_view line.entry) }
+{
+    match line {
+        LogLine::End => true,
+        LogLine::Truncated => true,
+        _ => false,
+    }
+}
+
+fn is_truncated(line: LogLine<'_>) -> bool
+    ensures { result ≡ is_truncated (line_view line.entry) }
+{
+    matches!(line, LogLine::Truncated)
+}
+
+// The headers after one more line.
+fn with_line(headers: Headers, line: LogLine<'_>) -> Headers
+    ensures { headers_view result ≡ with_line (headers_view headers) (line_view line.entry) }
+{
+    let Headers {
+        die,
+        design,
+        tested,
+    } = headers;
+    match line {
+        LogLine::Die(_) => Headers {
+            die: true,
+            design,
+            tested,
+        },
+        LogLine::Design(_) => Headers {
+            die,
+            design: true,
+            tested,
+        },
+        LogLine::Tested(a, b) => {
+            if tested.is_some() {
+                return headers;
+            }
+            Headers {
+                die,
+                design,
+                tested: Some((number(a), number(b))),
+            }
+        }
+        _ => headers,
+    }
+}
+
+// Adds the number of a bit, if there is one.
+fn add_number(fails: &mut Vec<u64>, number: Option<u64>) -> Result<(), AllocError>
+    ensures { OnOk result (fails.new.items ≡ fails.old.items ++ option_to_list number) }
+{
+    if let Some(n) = number {
+        fails.push(n)?;
+    }
+    Ok(())
+}
+
+/// What the lines so far say: which of the title, the headers and the closing line came, whether the closing line is
+/// `truncated`, and the numbers of the bits that fail lines name, in the order of the lines.
+#[derive(Drop)]
+pub struct Kept {
+    pub titled: bool,
+    pub closed: bool,
+    pub truncated: bool,
+    pub headers: Headers,
+    pub fails: Vec<u64>,
+}
+
+impl Kept {
+    ghost use Rattle.fail_logs.specs.Taken.{Takes, Adds, IsAfter};
+
+    pub fn new(alloc: Global) -> Self
+        ensures { (frame : _) → (rows : _) → IsAfter frame rows result [] }
+    {
+        Kept {
+            titled: false,
+            closed: false,
+            truncated: false,
+            headers: Headers {
+                die: false,
+                design: false,
+                tested: None,
+            },
+            fails: Vec::new(alloc),
+        }
+    }
+
+    // Adds a line that breaks no rule.
+    fn add(&mut self, frame: &Frame<'_>, line: LogLine<'_>) -> Result<(), AllocError>
+        requires outputs { length frame.now.outputs ≤ 131072 }
+        requires points { length frame.now.points.now ≤ 131072 }
+        ensures { OnOk result (Adds (frame_view frame.now) (places_view frame.now) self.old self.new (line_view line.entry)) }
+    {
+        add_number(&mut self.fails, number_named(frame, line))?;
+        self.headers = with_line(self.headers, line);
+        self.truncated = self.truncated || is_truncated(line);
+        self.closed = is_end(line);
+        Ok(())
+    }
+
+    /// Takes a line, or answers the lowest rule that it breaks.
+    pub fn take_line(
+        &mut self,
+        alloc: Global,
+        frame: &Frame<'_>,
+        bytes: &[u8],
+    ) -> Result<Option<u32>, AllocError>
+        requires outputs { length frame.now.outputs ≤ 131072 }
+        requires points { length frame.now.points.now ≤ 131072 }
+        ensures rule { IfOk result (λ r. r ≡ lowest (log_rules (frame_view frame.now) self.old.titled self.old.closed (headers_view self.old.headers) bytes.now)) }
+        ensures taken { result ≡ Ok None → Takes (frame_view frame.now) (places_view frame.now) self.old self.new (words bytes.now) }
+    {
+        let words = words_of(alloc, bytes)?;
+        if has_refused_byte(bytes) {
+            return Ok(Some(51));
+        }
+        if words.is_empty() {
+            return Ok(None);
+        }
+        if !self.titled {
+            if !is_title(&words) {
+                return Ok(Some(52));
+            }
+            self.titled = true;
+            return Ok(None);
+        }
+        if self.closed {
+            return Ok(Some(62));
+        }
+        let line = LogLine::of_words(&words);
+        let rule = later_rule(frame, self.headers, line);
+        if rule.is_some() {
+            return Ok(rule);
+        }
+        self.add(frame, line)?;
+        Ok(None)
+    }
+}

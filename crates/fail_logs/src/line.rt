@@ -1,0 +1,73 @@
+//! The form of a log's line.
+
+ghost use Rattle.std.specs.Prelude.{◌≡◌};
+ghost use Rattle.scan_model.specs.LogText.{log_line};
+ghost use Rattle.text_parts.specs.Views.{nows};
+
+/// A line with words, after the title.
+#[derive(Clone, Copy)]
+pub enum LogLine<'a> {
+    Die(&'a [u8]),
+    Design(&'a [u8]),
+    Tested(&'a [u8], &'a [u8]),
+    Out(&'a [u8], &'a [u8]),
+    Cell(&'a [u8], &'a [u8], &'a [u8]),
+    End,
+    Truncated,
+    Other,
+}
+
+impl<'a> LogLine<'a> {
+    ghost use Rattle.fail_logs.specs.LogViews.{line_view};
+
+    /// The form of a line, by its words.
+    pub fn of_words(words: &[&'a [u8]]) -> Self
+        ensures { line_view result ≡ log_line (nows words.now) }
+    {
+        match words {
+            [w] => {
+                if *w == b"end".as_slice() {
+                    return LogLine::End;
+                }
+                if *w == b"truncated".as_slice() {
+                    return LogLine::Truncated;
+                }
+                LogLine::Other
+            }
+            [w, a] => {
+                if *w == b"die".as_slice() {
+                    return LogLine::Die(*a);
+                }
+                if *w == b"design".as_slice() {
+                    return LogLine::Design(*a);
+                }
+                LogLine::Other
+            }
+            [w, a, b] => {
+                if *w == b"tested".as_slice() {
+                    return LogLine::Tested(*a, *b);
+                }
+                LogLine::Other
+            }
+            [w, p, kind, a] => {
+                if *w != b"fail".as_slice() {
+                    return LogLine::Other;
+                }
+                if *kind != b"out".as_slice() {
+                    return LogLine::Other;
+                }
+                LogLine::Out(*p, *a)
+            }
+            [w, p, kind, a, b] => {
+                if *w != b"fail".as_slice() {
+                    return LogLine::Other;
+                }
+                if *kind != b"cell".as_slice() {
+                    return LogLine::Other;
+                }
+                LogLine::Cell(*p, *a, *b)
+            }
+            _ => LogLine::Other,
+        }
+    }
+}

@@ -1,0 +1,168 @@
+//! The rules of a line after the title and before the closing line.
+
+ghost use Rattle.std.specs.Prelude.{◌≡◌};
+ghost use Rattle.scan_model.specs.TextFaults.{lowest};
+ghost use Rattle.scan_model.specs.LogText.{is_other, has_no_number, has_other_design, has_other_die, has_bad_range, is_nowhere, is_untested, pattern_named, is_out_of_shift, is_misplaced, later_rules, chain_length};
+ghost use Rattle.fail_logs.specs.LogViews.{line_view};
+ghost use Rattle.fail_logs.specs.Frames.{frame_view, headers_view, range_view};
+
+use crate::frame::Frame;
+use crate::line::LogLine;
+use crate::number::{is_number, number, number_of};
+
+/// The header lines that came.
+#[derive(Clone, Copy)]
+pub struct Headers {
+    pub die: bool,
+    pub design: bool,
+    pub tested: Option<(u32, u32)>,
+}
+
+fn is_other(line: LogLine<'_>) -> bool
+    ensures { result ≡ is_other (line_view line.entry) }
+{
+    matches!(line, LogLine::Other)
+}
+
+fn has_no_number(line: LogLine<'_>) -> bool
+    ensures { result ≡ has_no_number (line_view line.entry) }
+{
+    match line {
+        LogLine::Tested(a, b) => !(is_number(a) && is_number(b)),
+        LogLine::Out(p, _) => !is_number(p),
+        LogLine::Cell(p, _, pos) => !(is_number(p) && is_number(pos)),
+        _ => false,
+    }
+}
+
+fn has_other_design(frame: &Frame<'_>, line: LogLine<'_>) -> bool
+    ensures { result ≡ has_other_design (frame_view frame.now) (line_view line.entry) }
+{
+    match line {
+        LogLine::Design(w) => w != frame.design,
+        _ => false,
+    }
+}
+
+fn has_other_die(frame: &Frame<'_>, line: LogLine<'_>) -> bool
+    ensures { result ≡ has_other_die (frame_view frame.now) (line_view line.entry) }
+{
+    match line {
+        LogLine::Die(w) => w != frame.die,
+        _ => false,
+    }
+}
+
+fn has_bad_range(frame: &Frame<'_>, line: LogLine<'_>) -> bool
+    ensures { result ≡ has_bad_range (frame_view frame.now) (line_view line.entry) }
+{
+    match line {
+        LogLine::Tested(a, b) => {
+            let first = number(a);
+            let last = number(b);
+            last < first || frame.shifts.len() <= last as usize
+        }
+        _ => false,
+    }
+}
+
+// The length of the chain with the name.
+fn chain_length(frame: &Frame<'_>, name: &[u8]) -> usize
+    ensures { result ≡ chain_length (frame_view frame.now) name.now }
+{
+    match frame.lengths.get(frame.chains.place_or_len(name)) {
+        Some(n) => *n,
+        None => 0,
+    }
+}
+
+fn is_nowhere(frame: &Frame<'_>, line: LogLine<'_>) -> bool
+    ensures { result ≡ is_nowhere (frame_view frame.now) (line_view line.entry) }
+{
+    match line {
+        LogLine::Out(_, n) => !frame.outputs.contains(n),
+        LogLine::Cell(_, c, pos) => !((number(pos) as usize) < chain_length(frame, c)),
+        _ => false,
+    }
+}
+
+/// The pattern that a fail line names.
+pub fn pattern_named(line: LogLine<'_>) -> Option<u32>
+    ensures { result ≡ pattern_named (line_view line.entry) }
+{
+    match line {
+        LogLine::Out(p, _) => number_of(p),
+        LogLine::Cell(p, _, _) => number_of(p),
+        _ => None,
+    }
+}
+
+fn is_untested(tested: Option<(u32, u32)>, pattern: Option<u32>) -> bool
+    ensures { result ≡ is_untested (range_view tested) pattern }
+{
+    match tested {
+        Some((first, last)) => match pattern {
+            Some(p) => p < first || last < p,
+            None => false,
+        },
+        None => false,
+    }
+}
+
+fn is_out_of_shift(frame: &Frame<'_>, line: LogLine<'_>) -> bool
+    ensures { result ≡ is_out_of_shift (frame_view frame.now) (line_view line.entry) }
+{
+    match line {
+        LogLine::Out(p, _) => match frame.shifts.get(number(p) as usize) {
+            Some(shift) => *shift,
+            None => false,
+        },
+        _ => false,
+    }
+}
+
+fn is_misplaced(headers: Headers, line: LogLine<'_>) -> bool
+    ensures { result ≡ is_misplaced (headers_view headers) (line_view line.entry) }
+{
+    match line {
+        LogLine::Die(_) => headers.die,
+        LogLine::Design(_) => headers.design,
+        LogLine::Tested(_, _) => headers.tested.is_some(),
+        LogLine::Other => false,
+        _ => !(headers.die && headers.design && headers.tested.is_some()),
+    }
+}
+
+/// The lowest rule that a line breaks, after these headers.
+pub fn later_rule(frame: &Frame<'_>, headers: Headers, line: LogLine<'_>) -> Option<u32>
+    ensures { result ≡ lowest (later_rules (frame_view frame.now) (headers_view headers) (line_view line.entry)) }
+{
+    if is_other(line) {
+        return Some(53);
+    }
+    if has_no_number(line) {
+        return Some(54);
+    }
+    if has_other_design(frame, line) {
+        return Some(55);
+    }
+    if has_other_die(frame, line) {
+        return Some(56);
+    }
+    if has_bad_range(frame, line) {
+        return Some(57);
+    }
+    if is_nowhere(frame, line) {
+        return Some(58);
+    }
+    if is_untested(headers.tested, pattern_named(line)) {
+        return Some(59);
+    }
+    if is_out_of_shift(frame, line) {
+        return Some(60);
+    }
+    if is_misplaced(headers, line) {
+        return Some(63);
+    }
+    None
+}
