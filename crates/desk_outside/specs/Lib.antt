@@ -1,0 +1,5 @@
+pub mod Faults
+pub mod Files
+pub mod Bytes
+pub mod Schedule
+pub mod Memory

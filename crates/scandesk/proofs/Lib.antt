@@ -1,0 +1,4 @@
+pub mod WordFacts
+pub mod Chain
+pub mod NoPairs
+pub mod Pages

@@ -1,0 +1,6 @@
+pub mod Words
+pub mod Reading
+pub mod Work
+pub mod Requests
+pub mod Stops
+pub mod Ending

@@ -1,0 +1,116 @@
+-- What a command comes to, from its words and the files.
+use Rattle.std.specs.Prelude.{ℕ, List, [], ◌∷◌, ◌++◌, if◌then◌else◌, codes, Result, Ok, Err}
+use Rattle.std.specs.Fmt.{decimal}
+use Rattle.desk_outside.specs.declared.shelf.File.{File}
+use Rattle.scan_model.specs.declared.parts.Chain.{Chain}
+use Rattle.scan_model.specs.declared.parts.Pattern.{Pattern}
+use Rattle.scan_model.specs.declared.parts.Pairs.{Pairs}
+use Rattle.scan_model.specs.Netlist.{Netlist}
+use Rattle.scan_model.specs.ScanTest.{ScanTest, scan_test}
+use Rattle.scan_model.specs.NetlistText.{netlist_reading}
+use Rattle.scan_model.specs.ScanText.{scan_reading}
+use Rattle.scan_model.specs.PatternText.{pattern_frame, pattern_reading}
+use Rattle.scan_model.specs.LogText.{log_frame, log_reading}
+use Rattle.scan_model.specs.Universe.{listed}
+use Rattle.scan_model.specs.DieReport.{die_report_among}
+use Rattle.scandesk.specs.declared.files.Refusal.{Refusal}
+use Rattle.scandesk.specs.declared.files.Refusal.TheVariants.{Absent, TooLong, Rule, OtherForm}
+use Rattle.scandesk.specs.Words.{Request, are_right, request_of}
+use Rattle.scandesk.specs.Reading.{Reading, value, one_file, and_then}
+
+-- what a text stands for by rules, of which the first fault has a line and a rule
+abbrev pub by_rules : {X : Type 0} → Result X (ℕ × ℕ) → Result X Refusal
+by_rules (Ok x) = Ok x
+by_rules (Err fault) = Err (Rule (record { line = fault.0; rule = fault.1 }))
+
+-- no neighbours
+abbrev pub no_pairs : Pairs
+no_pairs = record { kept = []; left_out = [] }
+
+-- so far a list of neighbours is empty
+abbrev pub neighbour_reading : List ℕ → Result Pairs Refusal
+neighbour_reading [] = Ok no_pairs
+neighbour_reading (b ∷ bs) = Err OtherForm
+
+module _ (files : List File) (r : Request) where
+  -- the circuit, then its chains, then patterns for both
+  abbrev pub netlist_file : Reading Netlist
+  netlist_file = one_file files r.netlist (λ text. by_rules (netlist_reading text))
+
+  abbrev pub scan_file : Netlist → Reading (List Chain)
+  scan_file c = one_file files r.scan (λ text. by_rules (scan_reading c.nets text))
+
+  abbrev pub pattern_file : Netlist → List Chain → Reading (List Pattern)
+  pattern_file c chains = one_file files r.patterns (λ text. by_rules (pattern_reading (pattern_frame c chains) text))
+
+  abbrev pub neighbour_file : Reading Pairs
+  neighbour_file = one_file files r.neighbours neighbour_reading
+
+  -- the scan test, after the files before the neighbours, before the patterns, and before the chains
+  abbrev pub with_patterns : Netlist → List Chain → List Pattern → Reading ScanTest
+  with_patterns c chains patterns = and_then neighbour_file (λ pairs. value (scan_test c chains patterns pairs))
+
+  abbrev pub with_chains : Netlist → List Chain → Reading ScanTest
+  with_chains c chains = and_then (pattern_file c chains) (with_patterns c chains)
+
+  abbrev pub with_circuit : Netlist → Reading ScanTest
+  with_circuit c = and_then (scan_file c) (with_chains c)
+
+  -- the scan test of the four files of a design
+  abbrev pub design_reading : Reading ScanTest
+  design_reading = and_then netlist_file with_circuit
+
+-- the other in place of what was read, where it was read
+abbrev pub in_place_of : {X Y : Type 0} → Result X Refusal → Y → Result Y Refusal
+in_place_of (Ok x) y = Ok y
+in_place_of (Err refusal) y = Err refusal
+
+-- the report of one log, where its text breaks no rule
+abbrev pub log_report : ScanTest → List ℕ → List ℕ → List ℕ → Result (List ℕ) Refusal
+log_report t design die text =
+    in_place_of (by_rules (log_reading (log_frame t design die) text)) (die_report_among (listed t) t design die (text ∷ []))
+
+abbrev pub log_file : List File → Request → ScanTest → Reading (List ℕ)
+log_file files r t = one_file files r.log (log_report t r.design r.die)
+
+-- the report of the files of a request
+abbrev pub report_reading : List File → Request → Reading (List ℕ)
+report_reading files r = and_then (design_reading files r) (log_file files r)
+
+-- a status, the bytes to write, and the names of the files that decide it, in the order in which they are read
+pub record Output : Type 0 where
+  pub status : ℕ
+  pub text : List ℕ
+  pub read : List (List ℕ)
+
+abbrev pub refusal_status : Refusal → ℕ
+refusal_status Absent = 4
+refusal_status TooLong = 11
+refusal_status (Rule fault) = 3
+refusal_status OtherForm = 12
+
+-- the line of a file that is refused
+abbrev pub refusal_line : List ℕ → Refusal → List ℕ
+refusal_line name Absent = name ++ codes " absent\n"
+refusal_line name TooLong = name ++ codes " too long\n"
+refusal_line name (Rule fault) = name ++ (codes " line " ++ (decimal fault.line ++ (codes " rule " ++ (decimal fault.rule ++ codes "\n"))))
+refusal_line name OtherForm = name ++ codes " not of the first form\n"
+
+abbrev pub outcome_status : Result (List ℕ) (List ℕ × Refusal) → ℕ
+outcome_status (Ok text) = 0
+outcome_status (Err refused) = refusal_status refused.1
+
+abbrev pub outcome_text : Result (List ℕ) (List ℕ × Refusal) → List ℕ
+outcome_text (Ok text) = text
+outcome_text (Err refused) = refusal_line refused.0 refused.1
+
+-- the text that the files stand for, or the line of the first that is refused
+abbrev pub output_of : Reading (List ℕ) → Output
+output_of reading = record { status = outcome_status reading.outcome; text = outcome_text reading.outcome; read = reading.read }
+
+abbrev pub misunderstood : Output
+misunderstood = record { status = 2; text = codes "words not understood\n"; read = [] }
+
+-- the status, the bytes and the files read of a command
+abbrev pub work : List (List ℕ) → List File → Output
+work words files = if are_right words then output_of (report_reading files (request_of words)) else misunderstood

@@ -1,0 +1,37 @@
+//! Diagnoses the fail log of a die: the outermost layer.
+#![tactic(auto)]
+
+mod design;
+mod diagnose;
+mod file_shelf;
+mod files;
+mod page;
+mod report;
+mod stdout_sink;
+mod top;
+mod words;
+
+use crate::file_shelf::FileShelf;
+use crate::stdout_sink::StdoutSink;
+use crate::top::{finish, run};
+use std::alloc::Global;
+use std::process::ExitCode;
+use std::rt::Env;
+use std::{env, io};
+
+// The words after the program's name.
+fn words_of<R: Env + AllocGlobal>(rt: &R, alloc: Global) -> io::Result<Vec<String>> {
+    Ok(env::args(rt)?.skip(1).collect(alloc)?)
+}
+
+fn main(rt: HostRuntime) -> ExitCode {
+    let alloc = rt.alloc();
+    let mut shelf = FileShelf::make(&rt, alloc);
+    let mut out = StdoutSink::make(&rt, alloc);
+    let status = match words_of(&rt, alloc) {
+        Ok(words) => run(&rt, alloc, &words, &mut shelf, &mut out),
+        Err(e) if e.kind() == io::ErrorKind::OutOfMemory => finish(&mut out, 8, b"memory\n"),
+        Err(_) => run(&rt, alloc, &[], &mut shelf, &mut out),
+    };
+    ExitCode::from(status)
+}
