@@ -1,9 +1,8 @@
 -- The stem faults: where each stands, and that no other fault is among them.
-use Rattle.std.proofs.Common.{◌≡◌, ℕ, zero, suc, ◌+◌, ◌*◌, ◌<◌, List, [], ◌∷◌, ◌++◌, length, map, Some, refl, sym, ap, ◌∙◌, arith, subst}
+use Rattle.std.proofs.Common.{◌≡◌, ℕ, zero, suc, ◌+◌, ◌*◌, ◌<◌, List, [], ◌∷◌, ◌++◌, length, Some, refl, sym, ap, ◌∙◌, arith, subst}
 use Rattle.std.specs.Prelude.{flat_map, slice_get, Contains}
 use Rattle.std.specs.List.{range_with_len, AllByRecursion}
-use Rattle.std.proofs.lemmas.List.{map-id, flat_map_more}
-use Rattle.std.proofs.lemmas.List.FromFn.{map-range_with_len_more}
+use Rattle.std.proofs.lemmas.List.{flat_map_more}
 use Rattle.std.proofs.lemmas.List.Elements.{All-from_recursion, All-contains}
 use Rattle.scan_model.specs.declared.fault.Stuck.{Stuck}
 use Rattle.scan_model.specs.declared.fault.Stuck.TheVariants.{Zero, One}
@@ -11,6 +10,7 @@ use Rattle.scan_model.specs.declared.fault.Fault.{Fault}
 use Rattle.scan_model.specs.declared.fault.Fault.TheVariants.{Stem, Branch, Bridge, Cell}
 use Rattle.scan_model.specs.ScanTest.{ScanTest}
 use Rattle.scan_model.specs.Universe.{stems, stem_faults}
+use Rattle.fault_universe.proofs.BitSteps.{range_more}
 
 pub length-stems_of : (a n : ℕ) → length (flat_map stem_faults (range_with_len a n)) ≡ 2 * n
 length-stems_of a zero = refl
@@ -50,11 +50,6 @@ no_other t (Stem n v) other there = other n v refl
 no_other t (Branch p v) other there = only_stems t (Branch p v) there
 no_other t (Bridge a b kind) other there = only_stems t (Bridge a b kind) there
 no_other t (Cell h i kind) other there = only_stems t (Cell h i kind) there
-
-range_more : (n : ℕ) → range_with_len 0 (n + 1) ≡ range_with_len 0 n ++ n ∷ []
-range_more n =
-    let e : map (λ (x : ℕ). x) (range_with_len 0 (n + 1)) ≡ map (λ (x : ℕ). x) (range_with_len 0 n) ++ n ∷ [] = map-range_with_len_more (λ x. x) 0 n n (omega arith) in
-    simp map-id at e
 
 -- the stems of one more net
 pub stems_more : (faults : List Fault) (n : ℕ) → (faults ++ flat_map stem_faults (range_with_len 0 n)) ++ Stem n Zero ∷ Stem n One ∷ [] ≡ faults ++ flat_map stem_faults (range_with_len 0 (n + 1))
