@@ -2,5 +2,10 @@
 #![tactic(auto)]
 
 mod places;
+mod stems;
+mod texts;
+mod words;
 
-pub use places::universe;
+pub use places::{fault_at, place_of, universe, universe_len};
+pub use texts::{fault_text, push_fault};
+pub use words::{chain_name, net_name, push_number, push_word};
