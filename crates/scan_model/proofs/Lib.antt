@@ -20,3 +20,4 @@ pub mod Definite
 pub mod FaultSteps
 pub mod PointCount
 pub mod LevelTests
+pub mod CandidatePlaces
