@@ -86,10 +86,10 @@ impl<'a> Chains<'a> {
         ensures rule { IfOk result (λ r. r ≡ lowest (scan_rules nets.now self.old.cells self.old.titles line.now)) }
         ensures taken { result ≡ Ok None → (cs : List ChainNames) → IsAfter nets.now self.old cs → IsAfter nets.now self.new (cs ++ option_to_list (chain_of (words line.now))) }
     {
-        let words = words_of(alloc, line)?;
         if has_refused_byte(line) {
             return Ok(Some(11));
         }
+        let words = words_of(alloc, line)?;
         let Some(chain) = NamedChain::of_words(&words) else {
             return Ok(if words.is_empty() { None } else { Some(11) });
         };

@@ -26,10 +26,10 @@ fn take_line(
     ensures rule { IfOk result (λ r. r ≡ lowest (pattern_rules (frame_view frame.now) (length patterns.old) line.now)) }
     ensures taken { result ≡ Ok None → patterns.new ≡ patterns.old ++ patterns_of (frame_view frame.now) (line.now ∷ []) }
 {
-    let words = words_of(alloc, line)?;
     if has_refused_byte(line) {
         return Ok(Some(21));
     }
+    let words = words_of(alloc, line)?;
     let Some(kind) = kind_of(&words) else {
         return Ok(if words.is_empty() { None } else { Some(21) });
     };
