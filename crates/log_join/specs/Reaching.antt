@@ -1,5 +1,5 @@
 -- How far a log covers the patterns of its range.
-use Rattle.std.specs.Prelude.{◌≡◌, ℕ, ◌≤◌, Bool, ◌&&◌, ◌||◌, ◌==◌, nat_lt}
+use Rattle.std.specs.Prelude.{ℕ, ◌≤◌, Bool, ◌&&◌, ◌||◌, ◌==◌, nat_lt}
 use Rattle.scan_model.specs.declared.logs.Bit.{Bit}
 use Rattle.log_join.specs.declared.coverage.Reach.{Reach}
 

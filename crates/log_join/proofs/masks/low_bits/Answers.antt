@@ -1,4 +1,4 @@
-use Rattle.std.proofs.Common.{ℕ, ◌<◌, arith}
+use Rattle.std.proofs.Common.{arith}
 use Rattle.log_join.proofs.WordMasks.{all_ones, low_ones}
 use Rattle.log_join.proofs.masks.low_bits.Goals as goal
 

@@ -1,4 +1,4 @@
-use Rattle.std.proofs.Common.{◌≡◌, ℕ, ◌*◌, min, ltb, ap, ◌∙◌, arith}
+use Rattle.std.proofs.Common.{ℕ, ◌*◌, min, ltb, ap, ◌∙◌, arith}
 use Rattle.log_join.proofs.WordMasks.{mask_between}
 use Rattle.log_join.proofs.masks.pattern_mask.Goals as goal
 

@@ -1,5 +1,4 @@
-use Rattle.std.proofs.Common.{◌≡◌, [], ◌∷◌, ◌++◌, List, sym, subst, ◌∙◌}
-use Rattle.scan_model.specs.declared.logs.LogFacts.{LogFacts}
+use Rattle.std.proofs.Common.{[], ◌∷◌, ◌++◌, sym, subst, ◌∙◌}
 use Rattle.scan_model.specs.Coverage.{FitsLog}
 use Rattle.scan_model.proofs.BitTables.{written_whole}
 use Rattle.log_join.specs.Joining.{JoinedBits, StandsFor}

@@ -1,4 +1,4 @@
-use Rattle.std.proofs.Common.{◌≡◌, ◌<◌, List, refl, sym, subst, ◌∙◌}
+use Rattle.std.proofs.Common.{◌≡◌, ◌<◌, refl, sym, subst, ◌∙◌}
 use Rattle.scan_model.specs.Classes.{some_fails, some_passes}
 use Rattle.log_join.specs.Joining.{JoinedBits, StandsFor}
 use Rattle.log_join.proofs.joined.Joined.class.Goals as goal

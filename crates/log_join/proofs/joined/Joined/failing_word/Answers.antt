@@ -1,9 +1,7 @@
-use Rattle.std.proofs.Common.{◌≡◌, ℕ, ◌+◌, ◌*◌, ◌<◌, ◌^◌, ◌&&◌, List, sym, subst, not, ltb, eqb, ap, ◌∙◌, [], get_or, arith}
+use Rattle.std.proofs.Common.{◌≡◌, ◌+◌, ◌*◌, ◌<◌, ◌^◌, ◌&&◌, sym, subst, not, ltb, eqb, [], get_or, arith}
 use Rattle.std.specs.Int.{bit_at}
 use Rattle.scan_model.specs.Values.{is_unknown}
 use Rattle.scan_model.specs.ChainShift.{value_at}
-use Rattle.scan_model.specs.Classes.{is_failing, class_of}
-use Rattle.scan_model.specs.Coverage.{bit_of}
 use Rattle.log_join.specs.Joining.{JoinedBits, StandsFor}
 use Rattle.log_join.proofs.Joins.{failing_where}
 use Rattle.log_join.proofs.joined.Joined.failing_word.Goals as goal

@@ -1,5 +1,4 @@
-use Rattle.std.proofs.Common.{◌≡◌, ℕ, ◌+◌, ◌*◌, ◌/◌, ◌<◌, ◌==◌, ap, length, get_or, arith}
-use Rattle.std.specs.Int.{bit_at}
+use Rattle.std.proofs.Common.{◌≡◌, ◌+◌, ◌*◌, ◌/◌, ◌<◌, length, arith}
 use Rattle.scan_model.proofs.BitTables.{bit_inside, place_inside, known_bits}
 use Rattle.scan_model.proofs.expected.Expected.known_word.Goals as goal
 
