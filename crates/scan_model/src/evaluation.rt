@@ -1,9 +1,9 @@
 ghost use Rattle.std.specs.Prelude.{◌≡◌, ◌+◌, ◌-◌, ◌<◌, [], ◌∷◌, ◌++◌, length, map, take, slice_index, slice_set, IfOk, OnOk, IfErr};
-ghost use Rattle.scan_model.specs.declared.evaluation.Mark.TheVariants.{Fresh, Open, Settled};
+ghost use Rattle.scan_model.specs.declared.evaluation.Mark.TheVariants.{Open, Settled};
 ghost use Rattle.scan_model.specs.Netlist.{net_at};
 ghost use Rattle.scan_model.specs.Walks.{IsEvaluationOrder, IsLeastWithoutLevel};
 ghost use Rattle.scan_model.specs.MakeFaults.{IfNoLevel};
-ghost use Rattle.scan_model.specs.GateSearch.{wiring, operand, IsWired, state, first_mark, mark_at, IsReached, IsTop, IsSearch, IsAtRest, Advances};
+ghost use Rattle.scan_model.specs.GateSearch.{wiring, operand, IsWired, state, first_mark, IsTop, IsSearch, IsAtRest, Advances};
 
 use crate::circuit::{Driver, MakeFault, Net, Pin};
 use crate::rows::{NoMemory, Rows};
