@@ -1,6 +1,6 @@
 -- The start of the search for an order of the gates, and what it has found at its end.
-use Rattle.std.proofs.Common.{◌≡◌, ℕ, zero, suc, ◌+◌, ◌*◌, ◌<◌, ◌≤◌, Bool, true, false, cond, List, [], ◌∷◌, length, get_or, map, refl, sym, ap, ◌∙◌, inl, inr, arith}
-use Rattle.std.specs.Prelude.{Contains, count_by}
+use Rattle.std.proofs.Common.{◌≡◌, ℕ, ◌*◌, ◌<◌, ◌≤◌, true, cond, List, [], ◌∷◌, length, get_or, map, refl, sym, ap, ◌∙◌, inl, inr, arith}
+use Rattle.std.specs.Prelude.{count_by}
 use Rattle.std.specs.List.{sum, sum_by, range_with_len}
 use Rattle.std.proofs.lemmas.Bool.{cases_lt, false≢true}
 use Rattle.std.proofs.lemmas.List.{get_or_past, get_or-map, length-map}
@@ -14,9 +14,9 @@ use Rattle.scan_model.specs.declared.circuit.MakeFault.TheVariants.{NoLevel, NoM
 use Rattle.scan_model.specs.declared.circuit.Net.{Net}
 use Rattle.scan_model.specs.declared.circuit.Pin.{Pin}
 use Rattle.scan_model.specs.declared.evaluation.Mark.{Mark}
-use Rattle.scan_model.specs.declared.evaluation.Mark.TheVariants.{Fresh, Open, Settled}
+use Rattle.scan_model.specs.declared.evaluation.Mark.TheVariants.{Open, Settled}
 use Rattle.scan_model.specs.Netlist.{Netlist, netlist, net_at, is_gate, is_gate_driver, driver_of, net_numbers, no_net}
-use Rattle.scan_model.specs.Walks.{IsWalk, HasLevel, HasLevels, IsEvaluationOrder, IsLeastWithoutLevel}
+use Rattle.scan_model.specs.Walks.{IsWalk, HasLevels, IsEvaluationOrder, IsLeastWithoutLevel}
 use Rattle.scan_model.specs.Circuits.{IsCircuit}
 use Rattle.scan_model.specs.MakeFaults.{IfNoLevel}
 use Rattle.scan_model.specs.GateSearch.{wiring, IsWired, State, state, first_mark, mark_at, unsettled, IsSearch, IsAtRest}

@@ -1,21 +1,17 @@
 -- The search for an order of the gates, step by step.
-use Rattle.std.proofs.Common.{◌≡◌, ◌≢◌, ℕ, zero, suc, ◌+◌, ◌-◌, ◌<◌, ◌≤◌, Bool, true, false, cond, List, [], ◌∷◌, ◌++◌, length, get_or, set, take, map, reverse, refl, sym, ap, subst, ◌∙◌, inl, inr, arith}
-use Rattle.std.specs.Prelude.{Contains, IsTrue, count_by, slice_index, sum}
-use Rattle.std.specs.List.{sum_by, range_with_len}
+use Rattle.std.proofs.Common.{◌≡◌, ◌≢◌, ℕ, zero, suc, ◌+◌, ◌-◌, ◌<◌, ◌≤◌, true, List, [], ◌∷◌, ◌++◌, length, get_or, set, take, reverse, refl, sym, ap, subst, ◌∙◌, inl, inr, arith}
+use Rattle.std.specs.Prelude.{Contains}
 use Rattle.std.proofs.lemmas.Bool.{cases_eq, cases_lt, false≢true}
-use Rattle.std.proofs.lemmas.List.{get_or-set_same, get_or-set_other, get_or_past, get_or-map, get_or_append_left, get_or_push, length-set, length-map, length_push, reverse-append, take_more, take_all, take_at, take-append-le}
-use Rattle.std.proofs.lemmas.List.Elements.{All-from_get_or, Contains-append_left, Contains-push}
-use Rattle.std.proofs.lemmas.List.Sums.{sum_by-set, sum_by-le, sum-map, count_by-le-length}
-use Rattle.std.proofs.lemmas.List.FromFn.{get_or-map-range_with_len, length-map-range_with_len, length-range_with_len, fill_by_all}
-use Rattle.scan_model.specs.declared.circuit.Driver.{Driver}
-use Rattle.scan_model.specs.declared.circuit.Driver.TheVariants.{Input, Flop, Gate}
+use Rattle.std.proofs.lemmas.List.{get_or-set_same, get_or-set_other, get_or_past, get_or_append_left, get_or_push, length-set, length_push, reverse-append, take_more, take_all, take_at, take-append-le}
+use Rattle.std.proofs.lemmas.List.Elements.{Contains-append_left, Contains-push}
+use Rattle.std.proofs.lemmas.List.Sums.{sum_by-set, count_by-le-length}
+use Rattle.std.proofs.lemmas.List.FromFn.{get_or-map-range_with_len, length-map-range_with_len, length-range_with_len}
 use Rattle.scan_model.specs.declared.circuit.Net.{Net}
-use Rattle.scan_model.specs.declared.circuit.Pin.{Pin}
 use Rattle.scan_model.specs.declared.evaluation.Mark.{Mark}
 use Rattle.scan_model.specs.declared.evaluation.Mark.TheVariants.{Fresh, Open, Settled}
-use Rattle.scan_model.specs.Netlist.{Netlist, netlist, net_at, pin_at, reads, is_gate, is_gate_driver, driver_of, net_numbers, no_net}
-use Rattle.scan_model.specs.Walks.{HasLevel, IsEvaluationOrder, IsLeastWithoutLevel}
-use Rattle.scan_model.specs.GateSearch.{wiring, operand, State, state, first_mark, mark_at, changes_left, unsettled, steps_left, IsPartOrder, IsTop, IsReached, IsLine, IsSearch, IsAtRest, Advances}
+use Rattle.scan_model.specs.Netlist.{Netlist, net_at, pin_at, reads, is_gate, is_gate_driver, net_numbers, no_net}
+use Rattle.scan_model.specs.Walks.{IsLeastWithoutLevel}
+use Rattle.scan_model.specs.GateSearch.{operand, State, state, mark_at, unsettled, IsPartOrder, IsTop, IsReached, IsLine, IsSearch}
 use Rattle.scan_model.proofs.Orders.{Contains-cons}
 use Rattle.scan_model.proofs.Levels.{listed_has_level, stuck_has_no_level}
 
@@ -29,11 +25,6 @@ open_or_settled m a b = cc
 
 open_or_fresh : (m : Mark) → m ≡ Open → m ≡ Fresh → ⊥
 open_or_fresh m a b = cc
-
-settled_remains : (m : Mark) → (m ≡ Fresh → ⊥) → (m ≡ Open → ⊥) → m ≡ Settled
-settled_remains Fresh a b = absurd (a refl)
-settled_remains Open a b = absurd (b refl)
-settled_remains Settled a b = refl
 
 mark_kept : (marks : List Mark) (n : ℕ) (m k : Mark) (x : ℕ) → mark_at marks x ≡ k → (mark_at marks n ≡ k → ⊥) → mark_at (set marks n m) x ≡ k
 mark_kept marks n m k x is differs =
@@ -95,10 +86,13 @@ reached_same c root left new (f ∷ fs) g reached same =
 
 line_same : (c : Netlist) (root : ℕ) (left new : List ℕ) (marks marked : List Mark) (gs : List ℕ) → IsLine c root left marks gs → ((x : ℕ) → Contains gs x → get_or new x 0 ≡ get_or left x 0) → ((x : ℕ) → Contains gs x → mark_at marked x ≡ mark_at marks x) → IsLine c root new marked gs
 line_same c root left new marks marked [] line same_left same_marks = tt
-line_same c root left new marks marked (g ∷ gs) line same_left same_marks =
-    (line.0, same_marks g (0, omega arith, refl) ∙ line.1, line.2,
-    reached_same c root left new gs g line.3 (λ x at. same_left x (Contains-cons g gs x at)),
-    line_same c root left new marks marked gs line.4 (λ x at. same_left x (Contains-cons g gs x at)) (λ x at. same_marks x (Contains-cons g gs x at)))
+line_same c root left new marks marked (g ∷ gs) line same_left same_marks = (
+  line.0,
+  same_marks g (0, omega arith, refl) ∙ line.1,
+  line.2,
+  reached_same c root left new gs g line.3 (λ x at. same_left x (Contains-cons g gs x at)),
+  line_same c root left new marks marked gs line.4 (λ x at. same_left x (Contains-cons g gs x at)) (λ x at. same_marks x (Contains-cons g gs x at)),
+)
 
 root_open : (c : Netlist) (root : ℕ) (left : List ℕ) (marks : List Mark) (g : ℕ) (gs : List ℕ) → IsLine c root left marks (g ∷ gs) → mark_at marks root ≡ Open
 root_open c root left marks g [] line = ap (λ (n : ℕ). mark_at marks n) line.3 ∙ line.1
@@ -185,16 +179,16 @@ settled_top c root left marks path order g known top none =
         | inr other ↦ Contains-append_left order (g ∷ []) x (known.settled x in' is (sym (get_or-set_other marks g x Settled Settled other) ∙ e))
       ];
       ordered = order_more c order g known.ordered line.0 gate (λ h read is.
-        let at = reads_from c g h read in
-        let settled : mark_at marks h ≡ Settled = ap (λ (n : ℕ). mark_at marks n) (sym at.2) ∙ known.passed g at.0 line.0 (omega arith) at.1 in
-        known.settled h (gate_in_range c h is) is settled);
+          let at = reads_from c g h read in
+          let settled : mark_at marks h ≡ Settled = ap (λ (n : ℕ). mark_at marks n) (sym at.2) ∙ known.passed g at.0 line.0 (omega arith) at.1 in
+          known.settled h (gate_in_range c h is) is settled);
       counted = omega (arith, known.counted, length_push order g, sum_by-set unsettled marks g Settled Settled inside, ap unsettled line.1);
       smaller = λ x low. settled_kept marks g x inside (known.smaller x low);
       line = line_same c root left left marks (set marks g Settled) below line.4 (λ x at. refl) (λ x at. get_or-set_other marks g x Settled Settled (λ e. line.2 (subst (λ (n : ℕ). Contains below n) e at)));
       open_on_path = λ x e.
-        let was : mark_at marks x ≡ Open = mark_before marks g Settled Open x inside e (λ d. open_or_settled Open refl (sym d)) in
-        let at : Contains (g ∷ below) x = subst (λ (l : List ℕ). Contains l x) (top_line path g top) (known.open_on_path x was) in
-        in_rest g below x at.0 at.1 at.2 (λ same. open_or_settled (mark_at (set marks g Settled) x) e (ap (λ (n : ℕ). mark_at (set marks g Settled) n) (sym same) ∙ get_or-set_same marks g Settled Settled inside));
+          let was : mark_at marks x ≡ Open = mark_before marks g Settled Open x inside e (λ d. open_or_settled Open refl (sym d)) in
+          let at : Contains (g ∷ below) x = subst (λ (l : List ℕ). Contains l x) (top_line path g top) (known.open_on_path x was) in
+          in_rest g below x at.0 at.1 at.2 (λ same. open_or_settled (mark_at (set marks g Settled) x) e (ap (λ (n : ℕ). mark_at (set marks g Settled) n) (sym same) ∙ get_or-set_same marks g Settled Settled inside));
     }
   where
     in_rest : (g : ℕ) (gs : List ℕ) (x k : ℕ) → k < length (g ∷ gs) → get_or (g ∷ gs) k x ≡ x → (g ≡ x → ⊥) → Contains gs x
@@ -248,33 +242,7 @@ closes_loop c root s g known top some stands =
       in_range = in_range root begins;
       gate = is_open_gate root begins;
       no_level = stuck_has_no_level c (λ x. mark_at s.marks x ≡ Open) (λ x is.
-        let at : Contains (g ∷ below) x = subst (λ (l : List ℕ). Contains l x) (top_line s.path g top) (known.open_on_path x is) in
-        (is_open_gate x is, line_reads c root s.left s.marks known.left_fits g below line (operand c g (get_or s.left g 0 - 1)) read stands at.0 x at.1 at.2)) root begins;
+          let at : Contains (g ∷ below) x = subst (λ (l : List ℕ). Contains l x) (top_line s.path g top) (known.open_on_path x is) in
+          (is_open_gate x is, line_reads c root s.left s.marks known.left_fits g below line (operand c g (get_or s.left g 0 - 1)) read stands at.0 x at.1 at.2)) root begins;
       least = λ x lt is. listed_has_level c s.order known.ordered (order_short c root s known) x (known.settled x (gate_in_range c x is) is (known.smaller x lt));
-    }
-
--- the root after a root whose walk has ended
-pub at_rest_more : (c : Netlist) (root : ℕ) (s : State) → IsSearch c root s → s.path ≡ [] → (mark_at s.marks root ≡ Fresh → ⊥) → IsAtRest c (root + 1) s
-at_rest_more c root s known empty begun =
-    let not_open : mark_at s.marks root ≡ Open → ⊥ = λ e.
-      let at : Contains [] root = subst (λ (p : List ℕ). Contains (reverse p) root) empty (known.open_on_path root e) in
-      absurd (omega (arith, at.1)) in
-    record {
-      search = record {
-        left_size = known.left_size;
-        marks_size = known.marks_size;
-        left_fits = known.left_fits;
-        passed = known.passed;
-        gates = known.gates;
-        settled = known.settled;
-        ordered = known.ordered;
-        counted = known.counted;
-        smaller = λ g lt. elim (cases_eq g root) [
-          | inl same ↦ ap (λ (n : ℕ). mark_at s.marks n) same ∙ settled_remains (mark_at s.marks root) begun not_open
-          | inr other ↦ known.smaller g (omega arith)
-        ];
-        line = subst (λ (p : List ℕ). IsLine c (root + 1) s.left s.marks (reverse p)) (sym empty) tt;
-        open_on_path = known.open_on_path;
-      };
-      empty = empty;
     }

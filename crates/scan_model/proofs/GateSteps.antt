@@ -1,14 +1,12 @@
 -- What one step of the search for an order of the gates does.
-use Rattle.std.proofs.Common.{◌≡◌, ◌≢◌, ℕ, ◌+◌, ◌-◌, ◌<◌, ◌≤◌, List, [], ◌∷◌, ◌++◌, length, get_or, set, take, reverse, refl, sym, ap, subst, ◌∙◌, arith}
-use Rattle.std.proofs.lemmas.List.{get_or_default, get_or_read, get_or-set_same}
+use Rattle.std.proofs.Common.{◌≡◌, ℕ, ◌-◌, ◌<◌, ◌≤◌, List, [], ◌∷◌, ◌++◌, length, get_or, set, take, reverse, refl, sym, ap, subst, ◌∙◌, arith}
+use Rattle.std.proofs.lemmas.List.{get_or_read, get_or-set_same}
 use Rattle.std.proofs.lemmas.List.Sums.{sum_by-set}
-use Rattle.scan_model.specs.declared.circuit.Net.{Net}
-use Rattle.scan_model.specs.declared.circuit.Pin.{Pin}
 use Rattle.scan_model.specs.declared.evaluation.Mark.{Mark}
 use Rattle.scan_model.specs.declared.evaluation.Mark.TheVariants.{Fresh, Open, Settled}
-use Rattle.scan_model.specs.Netlist.{Netlist, net_at, no_net, no_pin}
-use Rattle.scan_model.specs.GateSearch.{wiring, operand, State, state, mark_at, changes_left, IsWired, IsTop, IsReached, IsLine, IsSearch, IsAtRest, Advances}
-use Rattle.scan_model.proofs.GateSearch.{at_rest_more, mark_before, top_line, entered, settled_top, passed_operand}
+use Rattle.scan_model.specs.Netlist.{Netlist, net_at}
+use Rattle.scan_model.specs.GateSearch.{operand, State, state, mark_at, changes_left, IsTop, IsReached, IsLine, IsSearch, IsAtRest, Advances}
+use Rattle.scan_model.proofs.GateSearch.{mark_before, top_line, entered, settled_top, passed_operand}
 
 pub top_open : (c : Netlist) (root : ℕ) (s : State) (g : ℕ) → IsSearch c root s → IsTop s.path g → (g < length c.nets) × (mark_at s.marks g ≡ Open)
 top_open c root s g known top =
@@ -23,24 +21,8 @@ left_read c root s left g l known top same is =
     let at : l ≡ get_or s.left g 0 = get_or_read s.left g l (omega (arith, known.left_size, here.0)) (is ∙ ap (λ (xs : List ℕ). get_or xs g l) same) 0 in
     (here.0, at, omega (arith, at, known.left_fits g here.0))
 
-pub operand_read : (nets : List Net) (pins : List Pin) (g l : ℕ) (d : Net) (e : Pin) → IsWired (wiring nets pins) → g < length nets → 0 < l → l ≤ (net_at (wiring nets pins) g).pin_count
-    → ((get_or nets g d).first_pin + l - 1 < length pins) × ((get_or pins ((get_or nets g d).first_pin + l - 1) e).net ≡ operand (wiring nets pins) g (l - 1)) × (operand (wiring nets pins) g (l - 1) < length nets)
-operand_read nets pins g l d e wired lt some fits =
-    let first = (net_at (wiring nets pins) g).first_pin in
-    let is : (get_or nets g d).first_pin + l - 1 ≡ first + (l - 1) = omega (arith, ap (λ (n : Net). n.first_pin) (get_or_default nets g d no_net lt)) in
-    let inside : first + (l - 1) < length pins = omega (arith, wired.operand_range g lt) in
-    (omega arith, ap (λ (i : ℕ). (get_or pins i e).net) is ∙ ap (λ (p : Pin). p.net) (get_or_default pins (first + (l - 1)) e no_pin inside), wired.pin_nets (first + (l - 1)) inside)
-
-pub looked_at : (nets : List Net) (pins : List Pin) (root : ℕ) (s : State) (left : List ℕ) (marks : List Mark) (g l : ℕ) (d : Net) (e : Pin) (m : Mark) → IsWired (wiring nets pins) → IsSearch (wiring nets pins) root s → IsTop s.path g → left ≡ s.left → marks ≡ s.marks → l ≡ get_or left g l → (l ≡ 0 → ⊥)
-    → m ≡ get_or marks (get_or pins ((get_or nets g d).first_pin + l - 1) e).net m
-    → (0 < get_or s.left g 0) × ((get_or pins ((get_or nets g d).first_pin + l - 1) e).net < length nets) × (operand (wiring nets pins) g (get_or s.left g 0 - 1) ≡ (get_or pins ((get_or nets g d).first_pin + l - 1) e).net) × (mark_at s.marks (get_or pins ((get_or nets g d).first_pin + l - 1) e).net ≡ m)
-looked_at nets pins root s left marks g l d e m wired known top same_left same_marks at some is =
-    let here = left_read (wiring nets pins) root s left g l known top same_left at in
-    let next = operand_read nets pins g l d e wired here.0 (omega arith) here.2 in
-    let h = (get_or pins ((get_or nets g d).first_pin + l - 1) e).net in
-    let inside : h < length nets = omega (arith, next.1, next.2) in
-    (omega (arith, here.1), inside, ap (λ (n : ℕ). operand (wiring nets pins) g (n - 1)) (sym here.1) ∙ sym next.1,
-    sym (get_or_read s.marks h m (omega (arith, known.marks_size)) (is ∙ ap (λ (xs : List Mark). get_or xs h m) same_marks) Settled))
+pub mark_read : (c : Netlist) (root : ℕ) (s : State) (marks : List Mark) (g : ℕ) (m : Mark) → IsSearch c root s → g < length c.nets → marks ≡ s.marks → m ≡ get_or marks g m → mark_at s.marks g ≡ m
+mark_read c root s marks g m known lt same is = sym (get_or_read s.marks g m (omega (arith, known.marks_size)) (is ∙ ap (λ (xs : List Mark). get_or xs g m) same) Settled)
 
 pub step_settled : (c : Netlist) (root : ℕ) (s new : State) (g : ℕ) → IsSearch c root s → IsTop s.path g → get_or s.left g 0 ≡ 0 → new ≡ state s.left (set s.marks g Settled) (take (length s.path - 1) s.path) (s.order ++ g ∷ []) → Advances c root s new
 step_settled c root s new g known top none is =
@@ -75,9 +57,6 @@ step_passed c root s new g known top some is_settled is =
       fewer = omega (arith, sum_by-set (λ n. n) s.left g (get_or s.left g 0 - 1) 0 inside);
     }
 
-mark_read : (c : Netlist) (root : ℕ) (s : State) (marks : List Mark) (g : ℕ) (m : Mark) → IsSearch c root s → g < length c.nets → marks ≡ s.marks → m ≡ get_or marks g m → mark_at s.marks g ≡ m
-mark_read c root s marks g m known lt same is = sym (get_or_read s.marks g m (omega (arith, known.marks_size)) (is ∙ ap (λ (xs : List Mark). get_or xs g m) same) Settled)
-
 -- a walk begins at a root
 pub begins : (c : Netlist) (root : ℕ) (s new : State) (marks : List Mark) (m : Mark) → IsAtRest c root s → root < length c.nets → marks ≡ s.marks → m ≡ get_or marks root m → m ≡ Fresh → new ≡ state s.left (set s.marks root Open) (s.path ++ root ∷ []) s.order → IsSearch c root new × (mark_at new.marks root ≡ Fresh → ⊥)
 begins c root s new marks m rest lt same at is_fresh is =
@@ -88,7 +67,3 @@ begins c root s new marks m rest lt same at is_fresh is =
   where
     open_or_fresh : (m : Mark) → m ≡ Open → m ≡ Fresh → ⊥
     open_or_fresh m a b = cc
-
--- a root that was met before
-pub was_met : (c : Netlist) (root : ℕ) (s : State) (marks : List Mark) (m : Mark) → IsAtRest c root s → root < length c.nets → marks ≡ s.marks → m ≡ get_or marks root m → (m ≡ Fresh → ⊥) → IsAtRest c (root + 1) s
-was_met c root s marks m rest lt same at not_fresh = at_rest_more c root s rest.search rest.empty (λ e. not_fresh (sym (mark_read c root s marks root m rest.search lt same at) ∙ e))

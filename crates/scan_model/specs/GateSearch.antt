@@ -41,7 +41,7 @@ first_mark (Gate kind) = Fresh
 abbrev pub mark_at : List Mark → ℕ → Mark
 mark_at marks g = slice_index_or marks g Settled
 
--- how often a mark is still to change
+-- how often a mark still changes
 abbrev pub changes_left : Mark → ℕ
 changes_left Fresh = 2
 changes_left Open = 1

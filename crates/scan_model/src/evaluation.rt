@@ -1,8 +1,9 @@
 ghost use Rattle.std.specs.Prelude.{◌≡◌, ◌+◌, ◌-◌, ◌<◌, [], ◌∷◌, ◌++◌, length, map, take, slice_index, slice_set, IfOk, OnOk, IfErr};
-ghost use Rattle.scan_model.specs.declared.evaluation.Mark.TheVariants.{Fresh, Open, Settled};
+ghost use Rattle.scan_model.specs.declared.evaluation.Mark.TheVariants.{Open, Settled};
+ghost use Rattle.scan_model.specs.Netlist.{net_at};
 ghost use Rattle.scan_model.specs.Walks.{IsEvaluationOrder, IsLeastWithoutLevel};
 ghost use Rattle.scan_model.specs.MakeFaults.{IfNoLevel};
-ghost use Rattle.scan_model.specs.GateSearch.{wiring, IsWired, state, first_mark, mark_at, IsReached, IsTop, IsSearch, IsAtRest, Advances};
+ghost use Rattle.scan_model.specs.GateSearch.{wiring, operand, IsWired, state, first_mark, IsTop, IsSearch, IsAtRest, Advances};
 
 use crate::circuit::{Driver, MakeFault, Net, Pin};
 use crate::rows::{NoMemory, Rows};
@@ -47,6 +48,17 @@ fn first_mark(driver: Driver) -> Mark
         Driver::Input | Driver::Flop => Mark::Settled,
         Driver::Gate(_) => Mark::Fresh,
     }
+}
+
+/// The net that a gate reads at one of its operands.
+fn operand(nets: &[Net], pins: &[Pin], gate: u32, index: u32) -> u32
+    requires wired { IsWired (wiring nets.now pins.now) }
+    requires gate { gate < length nets.now }
+    requires index { index < (net_at (wiring nets.now pins.now) gate).pin_count }
+    ensures value { result ≡ operand (wiring nets.now pins.now) gate index }
+    ensures in_range { result < length nets.now }
+{
+    pins[nets[gate as usize].first_pin as usize + index as usize].net
 }
 
 /// How many operands each net has.
@@ -124,8 +136,7 @@ impl Search {
             self.settle(gate)?;
             return Ok(());
         }
-        let pin = nets[gate as usize].first_pin as usize + left as usize - 1;
-        let operand = pins[pin].net;
+        let operand = operand(nets, pins, gate, left - 1);
         match self.marks[operand as usize] {
             Mark::Fresh => {
                 self.enter(operand)?;

@@ -1,8 +1,5 @@
-use Rattle.std.proofs.Common.{◌≡◌, ◌<◌, length, subst, sym}
 use Rattle.std.proofs.lemmas.Result.{err_from_is_err_and}
 use Rattle.scan_model.specs.Netlist.{netlist}
-use Rattle.scan_model.specs.Walks.{IsEvaluationOrder, IsLeastWithoutLevel}
-use Rattle.scan_model.specs.MakeFaults.{IfNoLevel}
 use Rattle.scan_model.proofs.GateOrder.{wired_circuit, order_of_circuit, levels_of_circuit, fault_of_circuit}
 use Rattle.scan_model.proofs.circuit.Circuit.make.Goals as goal
 

@@ -1,6 +1,6 @@
 use Rattle.std.proofs.Common.{ap}
 use Rattle.scan_model.specs.GateSearch.{State, wiring}
-use Rattle.scan_model.proofs.GateSteps.{begins, was_met}
+use Rattle.scan_model.proofs.GateSteps.{begins}
 use Rattle.scan_model.proofs.evaluation.Search.visit.Goals as goal
 
 pub loop-gate-init : goal.loop-gate-init
