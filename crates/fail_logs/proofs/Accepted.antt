@@ -1,6 +1,6 @@
 -- What is known of the later lines of a log without a fault.
-use Rattle.std.proofs.Common.{◌≡◌, ℕ, zero, suc, ◌+◌, ◌*◌, ◌<◌, ◌≤◌, Bool, true, false, not, ◌||◌, ◌&&◌, ltb, leb, List, [], ◌∷◌, ◌++◌, length, take, map, get_or, Option, Some, None, is_some, Result, Ok, refl, sym, ap, ◌∙◌, arith}
-use Rattle.std.specs.Prelude.{filter, filter_map, slice_get, All, option_to_list}
+use Rattle.std.proofs.Common.{◌≡◌, ℕ, zero, suc, ◌+◌, ◌*◌, ◌<◌, ◌≤◌, Bool, true, false, not, ◌||◌, ◌&&◌, ltb, leb, List, [], ◌∷◌, ◌++◌, length, take, Option, Some, None, is_some, refl, ap, ◌∙◌, arith}
+use Rattle.std.specs.Prelude.{filter_map, slice_get, All, option_to_list}
 use Rattle.std.specs.List.{list_any, AllByRecursion}
 use Rattle.std.proofs.Math.Nat.{add-mul, mul-le-mul_right}
 use Rattle.std.proofs.lemmas.Bool.Decides.{nat_tests}
@@ -8,8 +8,8 @@ use Rattle.std.proofs.lemmas.List.{take_more, take_all, map_push}
 use Rattle.std.proofs.lemmas.List.Elements.{All-nil, All-cons, All-append}
 use Rattle.scan_model.specs.Lines.{text_lines, line_at}
 use Rattle.scan_model.specs.Words.{words, word_lines, has_words}
-use Rattle.scan_model.specs.TextFaults.{lowest, or_else, fault_from, first_fault}
-use Rattle.scan_model.specs.LogText.{LogFrame, LogLine, Headers, die_line, design_line, tested_line, out_line, cell_line, end_line, truncated_line, other_line, log_line, is_end, pattern_named, has_bad_range, is_nowhere, is_untested, is_outside, is_misplaced, has_all, later_rules, rules_of_words, log_rules, log_end_rules, log_rule, log_fault, later_lines, is_titled, is_closed, headers_in, range_of, number}
+use Rattle.scan_model.specs.TextFaults.{lowest, or_else}
+use Rattle.scan_model.specs.LogText.{LogFrame, LogLine, Headers, die_line, design_line, tested_line, out_line, cell_line, end_line, truncated_line, other_line, log_line, is_end, pattern_named, has_bad_range, is_nowhere, is_untested, is_misplaced, has_all, later_rules, rules_of_words, log_rules, log_end_rules, log_rule, log_fault, later_lines, is_titled, is_closed, headers_in, range_of, number}
 use Rattle.scan_model.proofs.FaultSteps.{fault_from-clean}
 use Rattle.fail_logs.specs.BitNumbers.{point_named, number_named, numbers_named}
 use Rattle.fail_logs.specs.Kept.{with_line}
@@ -241,8 +241,7 @@ faultless frame rows bytes sound none =
     let each : (k : ℕ) → k < length lines + 1 → log_rule frame lines k ≡ None = λ k lt. fault_from-clean (log_rule frame lines) 0 (length lines + 1) none k (omega arith) (omega arith) in
     let all = all_accepted frame lines each in
     let at = range_after frame (headers_in []) ls all (closed_at_end frame lines each) in
-    let headers : headers_in ls ≡ headers_after (headers_in []) ls = headers_push [] ls in
-    (
+    let headers : headers_in ls ≡ headers_after (headers_in []) ls = headers_push [] ls in (
       at.0,
       record {
         range = ap (λ h. h.tested) headers ∙ at.1;

@@ -12,7 +12,7 @@ use Rattle.scan_model.proofs.FaultSteps.{fault_goes_on, fault_is_here, fault_is_
 use Rattle.text_parts.specs.Views.{nows}
 use Rattle.fail_logs.specs.Frames.{headers_view}
 use Rattle.fail_logs.specs.BitNumbers.{numbers_named}
-use Rattle.fail_logs.specs.LineFacts.{LineFacts, facts_of, kept_facts}
+use Rattle.fail_logs.specs.LineFacts.{facts_of, kept_facts}
 use Rattle.fail_logs.specs.Taken.{later_of, Takes, IsAfter}
 use Rattle.fail_logs.specs.declared.kept.Kept.{Kept}
 use Rattle.fail_logs.proofs.Later.{later_push, closed_push, truncated_push, headers_push, fails_push, or_false}

@@ -1,6 +1,6 @@
 -- The frame of a scan test is sound.
-use Rattle.std.proofs.Common.{◌≡◌, ℕ, ◌+◌, ◌<◌, ◌≤◌, Bool, true, false, List, [], ◌∷◌, ◌++◌, length, map, get_or, replicate, refl, sym, ap, ◌∙◌, inl, inr, arith}
-use Rattle.std.specs.Prelude.{All, flat_map, slice_index, Contains, bytes_eq, nat_eq}
+use Rattle.std.proofs.Common.{◌≡◌, ℕ, ◌+◌, ◌<◌, ◌≤◌, false, List, [], length, map, get_or, replicate, sym, ◌∙◌, inl, inr, arith}
+use Rattle.std.specs.Prelude.{flat_map, bytes_eq, nat_eq}
 use Rattle.std.specs.List.{range_with_len, IsDistinct}
 use Rattle.std.specs.Cmp.Lexicographic.{nat_list_eq_equiv}
 use Rattle.std.proofs.lemmas.Bool.{cases_lt, both_ways, eq-eqb}
@@ -10,8 +10,8 @@ use Rattle.std.proofs.lemmas.List.FromFn.{get_or-map-range_with_len, length-map-
 use Rattle.std.proofs.lemmas.Map.Keys.{apart_from_distinct, IsDistinct-from_apart}
 use Rattle.scan_model.specs.declared.parts.Point.{Point}
 use Rattle.scan_model.specs.declared.parts.Point.TheVariants.{Output, Cell}
-use Rattle.scan_model.specs.Netlist.{no_net, net_at}
-use Rattle.scan_model.specs.ScanTest.{ScanTest, IsScanTest, IsPoint, no_chain, no_pattern, chain_at, name_of, cycle, longest, points_of}
+use Rattle.scan_model.specs.Netlist.{no_net}
+use Rattle.scan_model.specs.ScanTest.{ScanTest, IsScanTest, IsPoint, no_chain, chain_at, name_of, cycle, longest, points_of}
 use Rattle.scan_model.specs.LogText.{log_frame, is_shift}
 use Rattle.scan_model.proofs.Outputs.{output_in_range}
 use Rattle.scan_model.proofs.Points.{points_are_points}
@@ -36,7 +36,7 @@ outputs_apart t sound = IsDistinct-from_apart bytes_eq (map (name_of t) t.netlis
     let n : length (map (name_of t) outputs) ≡ length outputs = length-map outputs (name_of t) in
     let net : (k : ℕ) → k < length outputs → get_or outputs k 0 < length t.netlist.nets = λ k h. output_in_range t.netlist k sound.circuit.netlist h in
     let name : (k : ℕ) → k < length outputs → get_or (map (name_of t) outputs) k d ≡ get_or names (get_or outputs k 0) [] = λ k h.
-        get_or-map (name_of t) outputs k 0 d h ∙ sym (get_or-map (λ n. n.name) t.netlist.nets (get_or outputs k 0) no_net [] (net k h)) in
+    get_or-map (name_of t) outputs k 0 d h ∙ sym (get_or-map (λ n. n.name) t.netlist.nets (get_or outputs k 0) no_net [] (net k h)) in
     let all : length names ≡ length t.netlist.nets = length-map t.netlist.nets (λ n. n.name) in
     let j_lt : j < length outputs = omega arith in
     let i_lt : i < length outputs = omega arith in

@@ -1,10 +1,10 @@
 -- Each output and each cell of a test stands in test order, and no point stands there twice.
-use Rattle.std.proofs.Common.{◌≡◌, ℕ, zero, suc, ◌+◌, ◌-◌, ◌*◌, ◌<◌, ◌≤◌, Bool, true, false, cond, ltb, List, [], ◌∷◌, ◌++◌, length, map, get_or, refl, sym, ap, subst, ◌∙◌, inl, inr, arith}
-use Rattle.std.specs.Prelude.{slice_index_or, flat_map, max, Contains}
+use Rattle.std.proofs.Common.{◌≡◌, ℕ, zero, suc, ◌+◌, ◌-◌, ◌*◌, ◌<◌, ◌≤◌, true, ltb, List, [], ◌∷◌, ◌++◌, length, map, get_or, refl, ap, subst, ◌∙◌, inl, inr, arith}
+use Rattle.std.specs.Prelude.{flat_map, Contains}
 use Rattle.std.specs.List.{range_with_len}
 use Rattle.std.proofs.lemmas.Bool.{cases_Bool, cases_lt, ltb-true}
 use Rattle.std.proofs.lemmas.Bool.Decides.{nat_tests}
-use Rattle.std.proofs.lemmas.List.{get_or_default, get_or-map, length-map}
+use Rattle.std.proofs.lemmas.List.{get_or-map, length-map}
 use Rattle.std.proofs.Math.Nat.{add-mul}
 use Rattle.std.proofs.lemmas.List.Elements.{Contains-append_left, Contains-append_right}
 use Rattle.scan_model.specs.declared.parts.Chain.{Chain}
@@ -37,7 +37,7 @@ in_cycle t h (c ∷ cs) zero lt shows =
 in_cycle t h (c ∷ cs) (suc j) lt shows =
     let s : (h + 1) + j ≡ h + suc j = omega arith in
     let later : Contains (cycle t (h + 1) cs) (Cell (h + suc j) (length (get_or cs j no_chain).cells - 1 - t)) =
-        subst (λ (n : ℕ). Contains (cycle t (h + 1) cs) (Cell n (length (get_or cs j no_chain).cells - 1 - t))) s (in_cycle t (h + 1) cs j (omega arith) shows) in
+    subst (λ (n : ℕ). Contains (cycle t (h + 1) cs) (Cell n (length (get_or cs j no_chain).cells - 1 - t))) s (in_cycle t (h + 1) cs j (omega arith) shows) in
     elim (cases_Bool (ltb t (length c.cells))) [
       | inl shows_c ↦ rw shows_c (contains_later (Cell h (length c.cells - 1 - t)) _ (cycle t (h + 1) cs) later)
       | inr not_there ↦ rw not_there later
@@ -89,8 +89,8 @@ rising_cycle : (f : Point → ℕ) (base t h : ℕ) (cs : List Chain) → ((j : 
 rising_cycle f base t h [] is = (tt, tt)
 rising_cycle f base t h (c ∷ cs) is =
     let later_is : (j : ℕ) → j < length cs → t < length (get_or cs j no_chain).cells → f (Cell ((h + 1) + j) (length (get_or cs j no_chain).cells - 1 - t)) ≡ base + ((h + 1) + j) = λ j lt shows.
-        let s : h + suc j ≡ (h + 1) + j = omega arith in
-        subst (λ (n : ℕ). f (Cell n (length (get_or cs j no_chain).cells - 1 - t)) ≡ base + n) s (is (suc j) (omega arith) shows) in
+    let s : h + suc j ≡ (h + 1) + j = omega arith in
+    subst (λ (n : ℕ). f (Cell n (length (get_or cs j no_chain).cells - 1 - t)) ≡ base + n) s (is (suc j) (omega arith) shows) in
     let rest = rising_cycle f base t (h + 1) cs later_is in
     let up : base + (h + 1) ≡ (base + h) + 1 = omega arith in
     let end : base + ((h + 1) + length cs) ≡ base + (h + suc (length cs)) = omega arith in
@@ -123,9 +123,9 @@ cycle_order : (t : ScanTest) (n : ℕ) → Rising (length t.netlist.outputs + n 
 cycle_order t n =
     let base : ℕ = length t.netlist.outputs + n * length t.chains in
     let is : (j : ℕ) → j < length t.chains → n < length (get_or t.chains j no_chain).cells → order_of t (Cell (0 + j) (length (get_or t.chains j no_chain).cells - 1 - n)) ≡ base + (0 + j) = λ j lt shows.
-        let s : 0 + j ≡ j = omega arith in
-        let back : length (get_or t.chains j no_chain).cells - 1 - (length (get_or t.chains j no_chain).cells - 1 - n) ≡ n = omega arith in
-        rw (s, back) refl in
+    let s : 0 + j ≡ j = omega arith in
+    let back : length (get_or t.chains j no_chain).cells - 1 - (length (get_or t.chains j no_chain).cells - 1 - n) ≡ n = omega arith in
+    rw (s, back) refl in
     let both = rising_cycle (order_of t) base n 0 t.chains is in
     let low : base + 0 ≡ base = omega arith in
     let high : base + (0 + length t.chains) ≡ length t.netlist.outputs + (n + 1) * length t.chains = omega (arith, add-mul n 1 (length t.chains)) in
@@ -139,7 +139,7 @@ order_rises t =
     let below : Below outputs (map (order_of t) (map (λ k. Output k) (range_with_len 0 outputs))) = rw s at front.1 in
     let start : outputs + 0 * length t.chains ≡ outputs = omega arith in
     let cells : Rising outputs (flat_map (λ n. map (order_of t) (cycle n 0 t.chains)) (range_with_len 0 (longest t.chains))) =
-        rw start at (rising_blocks (λ n. map (order_of t) (cycle n 0 t.chains)) outputs (length t.chains) 0 (longest t.chains) (cycle_order t)) in
+    rw start at (rising_blocks (λ n. map (order_of t) (cycle n 0 t.chains)) outputs (length t.chains) 0 (longest t.chains) (cycle_order t)) in
     rw (map-append (order_of t) (map (λ k. Output k) (range_with_len 0 outputs)) (flat_map (λ n. cycle n 0 t.chains) (range_with_len 0 (longest t.chains))), map-flat_map (order_of t) (λ n. cycle n 0 t.chains) (range_with_len 0 (longest t.chains)))
     (Rising-append 0 outputs (map (order_of t) (map (λ k. Output k) (range_with_len 0 outputs))) _ (omega arith) front.0 below cells)
 

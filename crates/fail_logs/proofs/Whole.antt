@@ -1,12 +1,11 @@
 -- A whole log, from what its lines say.
-use Rattle.std.proofs.Common.{◌≡◌, ℕ, ◌+◌, ◌*◌, ◌/◌, ◌%◌, ◌<◌, ◌≤◌, Bool, List, [], ◌∷◌, length, map, get_or, Option, Some, None, unwrap_or, Result, Ok, Err, refl, sym, ap, ◌∙◌, arith}
-use Rattle.std.specs.Prelude.{All, filter, filter_map, flat_map, slice_get}
+use Rattle.std.proofs.Common.{◌≡◌, ℕ, ◌+◌, ◌*◌, ◌/◌, ◌%◌, ◌<◌, ◌≤◌, Bool, List, [], ◌∷◌, length, map, get_or, Option, Some, None, unwrap_or, Ok, refl, sym, ap, ◌∙◌, arith}
+use Rattle.std.specs.Prelude.{All, filter, filter_map, slice_get}
 use Rattle.std.specs.List.{list_any, range_with_len}
 use Rattle.std.proofs.Math.Nat.{mul-le-mul_right, le-div_iff_mul-le, div-lt_iff_lt-mul, mod-lt}
 use Rattle.std.proofs.lemmas.List.Elements.{All-weaker, All-map}
 use Rattle.scan_model.specs.declared.logs.Bit.{Bit}
 use Rattle.scan_model.specs.declared.logs.LogFacts.{LogFacts}
-use Rattle.scan_model.specs.declared.parts.Point.TheVariants.{Output}
 use Rattle.scan_model.specs.Coverage.{bit_of, FitsLog}
 use Rattle.scan_model.specs.Lines.{text_lines}
 use Rattle.scan_model.specs.TextFaults.{refused_or}
@@ -56,7 +55,7 @@ module _ (frame : LogFrame) (rows : List (List ℕ)) (sound : IsFrame frame rows
       let numbers : List ℕ = numbers_named frame rows ls in
       let below : All (λ x. x < patterns * points) numbers = All-weaker (IsInRange frame r) (λ x. x < patterns * points) (number_below frame r patterns is.good.1) numbers is.fails in
       let one : (p : ℕ) → map (bit_of p) (filter (λ k. has_number numbers (p * points + k)) (range_with_len 0 points)) ≡ points_listed frame ls p = λ p.
-          ap (map (bit_of p)) (filter-agree (λ k. has_number numbers (p * points + k)) (λ k. is_listed frame ls p (point_in frame k)) 0 points (λ k low high. sym (is_listed-is frame rows sound p k (omega arith) ls is.somewhere))) in
+      ap (map (bit_of p)) (filter-agree (λ k. has_number numbers (p * points + k)) (λ k. is_listed frame ls p (point_in frame k)) 0 points (λ k low high. sym (is_listed-is frame rows sound p k (omega arith) ls is.somewhere))) in
       of.2 ∙ bits_are points patterns numbers of.0 of.1 below
       ∙ flat_map-agree (λ p. map (bit_of p) (filter (λ k. has_number numbers (p * points + k)) (range_with_len 0 points))) (points_listed frame ls) (range_with_len 0 patterns) one
 

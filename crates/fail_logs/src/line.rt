@@ -7,13 +7,19 @@ ghost use Rattle.text_parts.specs.Views.{nows};
 /// A line with words, after the title.
 #[derive(Clone, Copy)]
 pub enum LogLine<'a> {
+    /// The die's name.
     Die(&'a [u8]),
+    /// The design's name.
     Design(&'a [u8]),
+    /// The first and the last tested pattern.
     Tested(&'a [u8], &'a [u8]),
+    /// A fail: its pattern and its output.
     Out(&'a [u8], &'a [u8]),
+    /// A fail: its pattern, its chain and its position.
     Cell(&'a [u8], &'a [u8], &'a [u8]),
     End,
     Truncated,
+    /// A line of no form.
     Other,
 }
 

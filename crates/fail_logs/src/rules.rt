@@ -10,7 +10,7 @@ use crate::frame::Frame;
 use crate::line::LogLine;
 use crate::number::{is_number, number, number_of};
 
-/// The header lines that came.
+/// The header lines that came: whether a `die` and a `design` line, and the range of the first `tested` line.
 #[derive(Clone, Copy)]
 pub struct Headers {
     pub die: bool,

@@ -1,4 +1,4 @@
-use Rattle.std.proofs.Common.{◌≡◌, ◌<◌, length, ◌∙◌, ap, sym}
+use Rattle.std.proofs.Common.{◌≡◌, ◌∙◌}
 use Rattle.scan_model.proofs.Outputs.{output_in_range}
 use Rattle.fail_logs.proofs.tables.output_names.Goals as goal
 

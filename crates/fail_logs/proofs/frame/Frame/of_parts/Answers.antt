@@ -1,6 +1,5 @@
-use Rattle.std.proofs.Common.{◌≡◌, ℕ, List, length, map, replicate, refl, ap, ◌∙◌}
+use Rattle.std.proofs.Common.{◌≡◌, length, map, replicate, refl, ap, ◌∙◌}
 use Rattle.scan_model.specs.declared.parts.Chain.{Chain}
-use Rattle.scan_model.specs.declared.parts.Pattern.{Pattern}
 use Rattle.scan_model.specs.Netlist.{Netlist, net_at}
 use Rattle.scan_model.specs.ScanTest.{ScanTest, name_of, points_of}
 use Rattle.scan_model.specs.LogText.{is_shift}
