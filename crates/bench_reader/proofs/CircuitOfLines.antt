@@ -1,19 +1,18 @@
 -- Lines without a fault of the first two rounds stand for a circuit.
 use Rattle.std.proofs.Common.{◌≡◌, ℕ, ◌+◌, ◌<◌, ◌≤◌, Bool, true, false, cond, not, ◌||◌, List, [], ◌∷◌, ◌++◌, length, get_or, map, refl, sym, ap, ◌∙◌, arith}
 use Rattle.std.specs.Prelude.{All}
-use Rattle.std.specs.List.{list_any, enumerate_from, AllByRecursion, IsDistinct}
-use Rattle.std.specs.Str.{bytes_eq}
+use Rattle.std.specs.List.{list_any, enumerate_from, AllByRecursion}
 use Rattle.std.proofs.lemmas.Bool.{or_parts}
 use Rattle.std.proofs.lemmas.List.{length-map, get_or-map, map-append}
 use Rattle.std.proofs.lemmas.List.Elements.{All-append, All-map, All-nil, All-from_recursion, All-get_or}
 use Rattle.scan_model.specs.declared.circuit.Net.{Net}
 use Rattle.scan_model.specs.declared.circuit.Pin.{Pin}
 use Rattle.scan_model.specs.declared.circuit.PinPlace.TheVariants.{Output}
-use Rattle.scan_model.specs.Netlist.{Netlist, netlist, no_pin}
+use Rattle.scan_model.specs.Netlist.{netlist, no_pin}
 use Rattle.scan_model.specs.Circuits.{IsCircuit}
 use Rattle.scan_model.specs.Words.{has_word}
 use Rattle.scan_model.specs.NetlistLines.{Form, nothing, input, output, definition, no_form}
-use Rattle.scan_model.specs.NetlistRules.{nets_of, new_output, pins_of, pins_after, defined_names, outputs_of, net_limit, pin_limit}
+use Rattle.scan_model.specs.NetlistRules.{nets_of, new_output, pins_of, pins_after, defined_names, net_limit, pin_limit}
 use Rattle.scan_model.specs.NetlistText.{net_number, line_nets, nets_after, line_pins, line_pins_after, circuit_in}
 use Rattle.bench_reader.specs.Kept.{uses_undefined}
 use Rattle.bench_reader.specs.Clean.{AreClean, AreKnown}
@@ -111,8 +110,8 @@ circuit_is_sound fs clean known few_nets few_pins =
       names_differ = rw (names_after [] 0 fs) clean.differ;
       outputs_differ = outputs.differ;
       names_fit = λ k d lt.
-        let name : get_or defined k d.name ≡ (get_or (nets_after [] 0 fs) k d).name = ap (λ ns. get_or ns k d.name) (sym (names_after [] 0 fs)) ∙ get_or-map (λ (n : Net). n.name) (nets_after [] 0 fs) k d d.name lt in
-        omega (arith, ap length name, All-get_or (λ (n : List ℕ). length n ≤ 64) defined k d.name (omega (arith, length-nets_after fs)) clean.short);
+          let name : get_or defined k d.name ≡ (get_or (nets_after [] 0 fs) k d).name = ap (λ ns. get_or ns k d.name) (sym (names_after [] 0 fs)) ∙ get_or-map (λ (n : Net). n.name) (nets_after [] 0 fs) k d d.name lt in
+          omega (arith, ap length name, All-get_or (λ (n : List ℕ). length n ≤ 64) defined k d.name (omega (arith, length-nets_after fs)) clean.short);
       nets_fit = omega (arith, few_nets, length-nets_after fs);
       pins_fit = omega (arith, few_pins, length-line_pins_after defined [] fs);
     }

@@ -1,5 +1,5 @@
 -- One more line in the first round.
-use Rattle.std.proofs.Common.{◌≡◌, ℕ, ◌+◌, ◌-◌, ◌<◌, ◌≤◌, Bool, true, false, not, cond, ◌||◌, List, [], ◌∷◌, ◌++◌, length, take, get_or, fold, map, Option, Some, None, Ok, Err, refl, sym, ap, ◌∙◌, arith, append_assoc, append-nil, Bor}
+use Rattle.std.proofs.Common.{◌≡◌, ℕ, ◌+◌, ◌-◌, ◌<◌, ◌≤◌, Bool, true, false, not, cond, ◌||◌, List, [], ◌∷◌, ◌++◌, length, take, get_or, fold, map, Some, None, refl, sym, ap, ◌∙◌, arith, append_assoc, append-nil, Bor}
 use Rattle.std.specs.Prelude.{All, filter, flat_map}
 use Rattle.std.specs.List.{enumerate_from, list_any, AllByRecursion, IsDistinct}
 use Rattle.std.specs.Str.{bytes_eq}
@@ -12,14 +12,14 @@ use Rattle.std.proofs.lemmas.List.Elements.{filter-append, All-append, All-cons,
 use Rattle.std.proofs.lemmas.Grind.{fold-append}
 use Rattle.scan_model.specs.Lines.{line_at, text_lines, has_refused_byte}
 use Rattle.scan_model.specs.Words.{is_short, has_word}
-use Rattle.scan_model.specs.TextFaults.{lowest, fault_from, first_fault, refused_or}
+use Rattle.scan_model.specs.TextFaults.{lowest, fault_from, first_fault}
 use Rattle.scan_model.specs.NetlistLines.{Form, nothing, input, output, definition, no_form, form_of}
-use Rattle.scan_model.specs.NetlistRules.{forms_of, nets_of, uses_of, new_output, pins_of, pins_after, defined_names, outputs_of, defines_among, has_long_name, is_no_form, has_unknown_word, has_wrong_count, net_limit, pin_limit, makes_past, first_rule, first_rules}
+use Rattle.scan_model.specs.NetlistRules.{forms_of, nets_of, new_output, pins_of, pins_after, defined_names, outputs_of, defines_among, has_long_name, is_no_form, has_unknown_word, has_wrong_count, net_limit, pin_limit, makes_past, first_rule, first_rules}
 use Rattle.scan_model.proofs.FaultSteps.{fault_goes_on, fault_is_here, fault_is_none}
 use Rattle.text_parts.specs.Views.{nows}
 use Rattle.bench_reader.specs.declared.first.Lines.{Lines}
 use Rattle.bench_reader.specs.Lines.{is_nothing}
-use Rattle.bench_reader.specs.Kept.{Takes, IsAfter, filled_from, net_lines_from, kept_views}
+use Rattle.bench_reader.specs.Kept.{Takes, IsAfter, filled_from, net_lines_from}
 use Rattle.bench_reader.specs.Clean.{AreClean, HasItsOperands}
 
 pub enumerate_from_push : {X : Type 0} (n : ℕ) (xs : List X) (x : X) → enumerate_from n (xs ++ x ∷ []) ≡ enumerate_from n xs ++ (n + length xs, x) ∷ []

@@ -1,5 +1,5 @@
 -- The numbers of nets, where no two have one name.
-use Rattle.std.proofs.Common.{◌≡◌, ℕ, ◌+◌, ◌<◌, ◌≤◌, Bool, true, false, List, [], ◌∷◌, ◌++◌, length, get_or, map, fold, not, append-nil, refl, sym, ap, ◌∙◌, inl, inr, arith}
+use Rattle.std.proofs.Common.{◌≡◌, ℕ, ◌+◌, ◌<◌, Bool, true, false, List, [], ◌∷◌, ◌++◌, length, get_or, map, fold, not, append-nil, refl, sym, ap, ◌∙◌, inl, inr, arith}
 use Rattle.std.specs.Prelude.{nat_eq}
 use Rattle.std.specs.List.{list_any, AllByRecursion, IsDistinct}
 use Rattle.std.specs.Str.{bytes_eq}
@@ -7,7 +7,7 @@ use Rattle.std.specs.Cmp.Lexicographic.{bytes_decides, nat_list_eq_equiv}
 use Rattle.std.proofs.lemmas.Bool.{cases_Bool, cases_lt, both_ways, eqb-true, or_parts, or_from}
 use Rattle.std.proofs.lemmas.Cmp.{nat_eq_equiv}
 use Rattle.std.proofs.lemmas.Map.Keys.{apart_from_distinct, IsDistinct-push}
-use Rattle.std.proofs.lemmas.List.{length-append, get_or_append_left, map_push}
+use Rattle.std.proofs.lemmas.List.{length-append, map_push}
 use Rattle.std.proofs.lemmas.List.Sums.{position_or_len_is, fails_before_first, passes_at_first}
 use Rattle.std.proofs.lemmas.List.Folds.{Any-from_list_any}
 use Rattle.std.proofs.Math.Seq.{get_or-append_seam}
@@ -26,8 +26,8 @@ number_after front back n differ =
     let here : get_or all (length front) [] ≡ n = get_or-append_seam front n back [] in
     position_or_len_is (bytes_eq n) all (length front) [] (omega arith)
     (λ k low.
-        let apart : bytes_eq (get_or all k []) (get_or all (length front) []) ≡ false = apart_from_distinct bytes_eq all k (length front) [] differ low lt in
-        nat_list_eq_equiv.symm n (get_or all k []) ∙ ap (bytes_eq (get_or all k [])) (sym here) ∙ apart)
+    let apart : bytes_eq (get_or all k []) (get_or all (length front) []) ≡ false = apart_from_distinct bytes_eq all k (length front) [] differ low lt in
+    nat_list_eq_equiv.symm n (get_or all k []) ∙ ap (bytes_eq (get_or all k [])) (sym here) ∙ apart)
     (λ in_range. ap (bytes_eq n) here ∙ nat_list_eq_equiv.refl n)
 
 module _ (defined : List (List ℕ)) where

@@ -1,16 +1,14 @@
 -- The lists of a circuit, one more line at a time.
-use Rattle.std.proofs.Common.{◌≡◌, ℕ, ◌+◌, ◌<◌, ◌≤◌, Bool, true, false, cond, List, [], ◌∷◌, ◌++◌, length, take, get_or, map, refl, sym, ap, ◌∙◌, arith, append_assoc, append-nil, Bor}
-use Rattle.std.specs.Prelude.{fold, flat_map}
-use Rattle.std.specs.List.{enumerate_from, position_or_len}
-use Rattle.std.specs.Str.{bytes_eq}
+use Rattle.std.proofs.Common.{◌≡◌, ℕ, ◌+◌, ◌<◌, ◌≤◌, List, [], ◌∷◌, ◌++◌, length, take, get_or, map, refl, sym, ap, ◌∙◌, arith, append_assoc, append-nil, Bor}
+use Rattle.std.specs.Prelude.{flat_map}
+use Rattle.std.specs.List.{enumerate_from}
 use Rattle.std.proofs.lemmas.List.{take_more, map_push, length-map, length-take, length-append, map-append}
 use Rattle.std.proofs.lemmas.List.FromFn.{length-enumerate_from}
-use Rattle.scan_model.specs.Words.{has_word}
 use Rattle.scan_model.specs.declared.circuit.Pin.{Pin}
 use Rattle.scan_model.specs.declared.circuit.PinPlace.TheVariants.{Operand, Output}
 use Rattle.scan_model.specs.NetlistLines.{Form, nothing, input, output, definition, no_form}
-use Rattle.scan_model.specs.NetlistRules.{new_output, pins_of, pins_after, defined_names, net_limit, pin_limit}
-use Rattle.scan_model.specs.NetlistText.{net_number, line_nets, nets_after, line_pins, line_pins_after, inputs_of}
+use Rattle.scan_model.specs.NetlistRules.{new_output, pins_of, pins_after, defined_names, pin_limit}
+use Rattle.scan_model.specs.NetlistText.{net_number, line_nets, line_pins, line_pins_after, inputs_of}
 use Rattle.text_parts.specs.Views.{nows}
 use Rattle.bench_reader.specs.declared.build.Built.{Built}
 use Rattle.bench_reader.specs.Built.{operand_pin, Adds, Remain, AreBuilt}

@@ -1,5 +1,5 @@
 -- The lists of a circuit's first lines, with one more net or one more output.
-use Rattle.std.proofs.Common.{◌≡◌, ℕ, zero, suc, ◌+◌, ◌-◌, ◌<◌, ◌≤◌, Bool, true, false, cond, List, [], ◌∷◌, ◌++◌, length, get_or, refl, sym, ap, subst, ◌∙◌, inl, inr, arith}
+use Rattle.std.proofs.Common.{◌≡◌, ℕ, zero, suc, ◌+◌, ◌-◌, ◌<◌, ◌≤◌, Bool, cond, List, [], ◌∷◌, ◌++◌, length, get_or, refl, sym, ap, subst, ◌∙◌, inl, inr, arith}
 use Rattle.std.specs.Prelude.{filter}
 use Rattle.std.specs.List.{range_with_len}
 use Rattle.std.proofs.lemmas.Bool.{cases_lt}
@@ -78,8 +78,8 @@ module _ (nets : List Net) (pins more : List Pin) (inputs outputs : List ℕ) (n
   places n i lt few =
       each_net (λ m x. (j : ℕ) → j < x.pin_count → (pin_at next (x.first_pin + j)).place ≡ Operand m j)
       (λ m old j low.
-          let in_range : (net_at was m).first_pin + j < length pins = omega (arith, part.operand_range m old) in
-          ap (λ (p : Pin). p.place) (old_pin ((net_at was m).first_pin + j) in_range) ∙ part.operand_places m j old low)
+      let in_range : (net_at was m).first_pin + j < length pins = omega (arith, part.operand_range m old) in
+      ap (λ (p : Pin). p.place) (old_pin ((net_at was m).first_pin + j) in_range) ∙ part.operand_places m j old low)
       (λ j low. let low' : j < length more = omega (arith, count) in ap (λ (q : ℕ). (pin_at next (q + j)).place) first ∙ new_place j low')
       n lt i few
 

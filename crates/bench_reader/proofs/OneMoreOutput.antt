@@ -1,5 +1,5 @@
 -- The lists of a circuit's first lines, with one more output.
-use Rattle.std.proofs.Common.{◌≡◌, ℕ, ◌+◌, ◌<◌, ◌≤◌, List, [], ◌∷◌, ◌++◌, length, get_or, refl, sym, ap, subst, ◌∙◌, inl, inr, arith}
+use Rattle.std.proofs.Common.{◌≡◌, ℕ, ◌+◌, ◌<◌, List, [], ◌∷◌, ◌++◌, length, sym, ap, subst, ◌∙◌, inl, inr, arith}
 use Rattle.std.proofs.lemmas.Bool.{cases_lt}
 use Rattle.std.proofs.lemmas.List.{length-append, get_or_append_left}
 use Rattle.std.proofs.Math.Seq.{get_or-append_seam}
@@ -95,8 +95,8 @@ module _ (nets : List Net) (pins : List Pin) (inputs outputs : List ℕ) (net : 
     operand_counts = part.operand_counts;
     operand_range = λ n lt. omega (arith, part.operand_range n lt, pins_length);
     operand_places = λ n i lt few.
-      let in_range : (net_at was n).first_pin + i < length pins = omega (arith, part.operand_range n lt) in
-      ap (λ (p : Pin). p.place) (old_pin ((net_at was n).first_pin + i) in_range) ∙ part.operand_places n i lt few;
+        let in_range : (net_at was n).first_pin + i < length pins = omega (arith, part.operand_range n lt) in
+        ap (λ (p : Pin). p.place) (old_pin ((net_at was n).first_pin + i) in_range) ∙ part.operand_places n i lt few;
     pin_places = placed_all;
     output_pins = each_output;
   }

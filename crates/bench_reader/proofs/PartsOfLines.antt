@@ -16,7 +16,7 @@ use Rattle.scan_model.specs.declared.circuit.PinPlace.TheVariants.{Operand, Outp
 use Rattle.scan_model.specs.Netlist.{netlist, no_pin, is_input_driver, IsOperandCount}
 use Rattle.scan_model.specs.Words.{has_word}
 use Rattle.scan_model.specs.NetlistLines.{Form, nothing, input, output, definition, no_form, driver_named, takes_one}
-use Rattle.scan_model.specs.NetlistRules.{nets_of, new_output, pins_of, defined_names, has_unknown_word, has_wrong_count}
+use Rattle.scan_model.specs.NetlistRules.{nets_of, new_output, pins_of, defined_names}
 use Rattle.scan_model.specs.NetlistText.{net_number, line_nets, nets_after, line_pins, line_pins_after, inputs_of}
 use Rattle.bench_reader.specs.Clean.{HasItsOperands}
 use Rattle.bench_reader.specs.Built.{operand_pin}
@@ -50,7 +50,7 @@ no_input_word word =
     (str_eq_ignore_ascii_case word (codes "XNOR")) (str_eq_ignore_ascii_case word (codes "NOT")) (str_eq_ignore_ascii_case word (codes "BUF")) (str_eq_ignore_ascii_case word (codes "BUFF")) (str_eq_ignore_ascii_case word (codes "DFF"))
 
 exactly_one : (k : ℕ) → not (eqb k 1) ≡ false → k ≡ 1
-exactly_one k e = elim (cases_Bool (eqb k 1)) [ | inl one ↦ eqb-true k 1 one | inr other ↦ absurd (both_ways (not (eqb k 1)) e (ap not other)) ]
+exactly_one k e = elim (cases_Bool (eqb k 1)) [ inl one ↦ eqb-true k 1 one | inr other ↦ absurd (both_ways (not (eqb k 1)) e (ap not other)) ]
 
 at_least_one : (k : ℕ) → eqb k 0 ≡ false → 1 ≤ k
 at_least_one zero e = absurd cc
@@ -89,9 +89,6 @@ moved : (nets nets' : List Net) (pins pins' : List Pin) (inputs inputs' outputs 
 moved nets nets' pins pins' inputs inputs' outputs outputs' a b c d part = rw (← a, ← b, ← c, ← d) part
 
 module _ (defined : List (List ℕ)) (differ : IsDistinct bytes_eq defined) where
-  numbers : List (List ℕ) → List ℕ
-  numbers ns = map (net_number defined) ns
-
   -- a line that says nothing of the circuit
   no_more : (nets : List Net) (pins : List Pin) (inputs : List ℕ) (os : List (List ℕ)) → IsPart (netlist nets pins inputs (map (net_number defined) os))
       → IsPart (netlist (nets ++ []) (pins ++ []) (inputs ++ []) (map (net_number defined) (os ++ [])))

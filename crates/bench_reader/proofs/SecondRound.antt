@@ -1,5 +1,5 @@
 -- The first line that passes a test, among the lines that are kept and among all.
-use Rattle.std.proofs.Common.{◌≡◌, ℕ, zero, suc, Bool, true, false, not, cond, ◌&&◌, ◌||◌, ◌+◌, ◌<◌, List, [], ◌∷◌, length, take, get_or, Option, Some, None, option_map, Ok, Err, refl, sym, ap, ◌∙◌, arith}
+use Rattle.std.proofs.Common.{◌≡◌, ℕ, zero, suc, Bool, true, false, not, ◌&&◌, ◌||◌, ◌+◌, ◌<◌, List, [], ◌∷◌, length, take, Option, Some, None, option_map, Ok, refl, sym, ap, ◌∙◌, arith}
 use Rattle.std.specs.List.{list_any, AllByRecursion}
 use Rattle.std.specs.Str.{bytes_eq}
 use Rattle.std.specs.Cmp.Lexicographic.{bytes_decides}
@@ -26,8 +26,8 @@ module _ (passes : Form → Bool) (skips : passes nothing ≡ false) where
       let at : a + 0 ≡ a = omega arith in
       let here : rule a ≡ lowest ((r, passes f) ∷ []) = ap rule (sym at) ∙ is 0 (omega arith) (λ j lt. absurd (omega arith)) in
       go (passes f) refl (is_nothing f) refl here (λ fails. fault_is_first_line rule r (a + 1) fs (λ k lt none.
-          let next : (a + 1) + k ≡ a + suc k = omega arith in
-          ap rule next ∙ is (suc k) (omega arith) (below fails none)))
+      let next : (a + 1) + k ≡ a + suc k = omega arith in
+      ap rule next ∙ is (suc k) (omega arith) (below fails none)))
     where
       below : passes f ≡ false → {k : ℕ} → ((j : ℕ) → j < k → passes (form_at fs j) ≡ false) → (j : ℕ) → j < suc k → passes (form_at (f ∷ fs) j) ≡ false
       below fails none zero lt = fails

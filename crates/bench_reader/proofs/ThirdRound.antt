@@ -1,5 +1,5 @@
 -- Rule 8: the line of the least net whose backward walk does not end.
-use Rattle.std.proofs.Common.{◌≡◌, ℕ, zero, suc, ◌+◌, ◌-◌, ◌<◌, ◌≤◌, Bool, true, false, not, ◌||◌, List, [], ◌∷◌, ◌++◌, length, get_or, Option, Some, None, option_map, Ok, Err, refl, sym, ap, subst, ◌∙◌, inl, inr, arith, append_assoc, append-nil}
+use Rattle.std.proofs.Common.{◌≡◌, ℕ, suc, ◌+◌, ◌-◌, ◌<◌, ◌≤◌, Bool, true, false, not, ◌||◌, List, [], ◌∷◌, ◌++◌, length, get_or, Option, Some, None, Ok, Err, refl, sym, ap, subst, ◌∙◌, inl, inr, arith, append_assoc}
 use Rattle.std.specs.List.{list_any, IsDistinct}
 use Rattle.std.specs.Str.{bytes_eq}
 use Rattle.std.proofs.lemmas.Bool.{cases_lt}
@@ -11,7 +11,7 @@ use Rattle.scan_model.specs.Lines.{text_lines}
 use Rattle.scan_model.specs.TextFaults.{lowest, or_else, fault_from, first_fault, refused_or}
 use Rattle.scan_model.specs.NetlistLines.{Form, nothing, input, output, definition, no_form, form_of}
 use Rattle.scan_model.specs.NetlistRules.{forms_of, form_at, nets_of, defined_names, early_fault}
-use Rattle.scan_model.specs.NetlistText.{net_number, circuit_in, circuit_of, defines_without_level, third_rule, netlist_reading}
+use Rattle.scan_model.specs.NetlistText.{net_number, circuit_in, circuit_of, third_rule, netlist_reading}
 use Rattle.scan_model.proofs.FaultSteps.{fault_from_none}
 use Rattle.scan_model.proofs.LevelTests.{test-from_gate_level, test-from_no_level}
 use Rattle.bench_reader.specs.Kept.{net_lines_from}
@@ -35,7 +35,7 @@ no_level_fault : (ls : List (List ℕ)) → HasLevels (circuit_in (forms_of ls))
 no_level_fault ls levels =
     let fs : List Form = forms_of ls in
     fault_from_none (third_rule ls) 0 (length ls) (λ k low high.
-        ap (λ b. lowest ((8, b) ∷ [])) (none_without (circuit_in fs) (net_number (defined_names fs)) (nets_of (form_at fs k)) (level_everywhere (circuit_in fs) levels)))
+    ap (λ b. lowest ((8, b) ∷ [])) (none_without (circuit_in fs) (net_number (defined_names fs)) (nets_of (form_at fs k)) (level_everywhere (circuit_in fs) levels)))
 
 module _ (defined : List (List ℕ)) (differ : IsDistinct bytes_eq defined) (fails : ℕ → Bool) (net : ℕ)
     (here : fails net ≡ true) (before : (m : ℕ) → m < net → fails m ≡ false) (in_range : net < length defined) (rule : ℕ → Option ℕ) where
@@ -72,8 +72,8 @@ module _ (defined : List (List ℕ)) (differ : IsDistinct bytes_eq defined) (fai
       let at : a + 0 ≡ a = omega arith in
       let first : rule a ≡ lowest ((8, breaks_at f) ∷ []) = ap rule (sym at) ∙ is 0 (omega arith) in
       go f names first (λ front' names' le'. level_fault_from fs front' (a + 1) names' le' (λ k lt.
-          let next : (a + 1) + k ≡ a + suc k = omega arith in
-          ap rule next ∙ is (suc k) (omega arith)))
+      let next : (a + 1) + k ≡ a + suc k = omega arith in
+      ap rule next ∙ is (suc k) (omega arith)))
     where
       skip : rule a ≡ None → fault_from rule (a + 1) (length fs) ≡ Some (get_or (net_lines_from ((a + 1) + 1) fs) (net - length front) 0, 8)
           → fault_from rule a (suc (length fs)) ≡ Some (get_or (net_lines_from ((a + 1) + 1) fs) (net - length front) 0, 8)

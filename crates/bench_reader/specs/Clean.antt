@@ -1,5 +1,5 @@
 -- Lines without a fault of the first two rounds.
-use Rattle.std.specs.Prelude.{ℕ, ◌≡◌, ◌≤◌, List, length, All, false}
+use Rattle.std.specs.Prelude.{◌≡◌, ◌≤◌, List, length, All, false}
 use Rattle.std.specs.List.{AllByRecursion, IsDistinct}
 use Rattle.std.specs.Str.{bytes_eq}
 use Rattle.scan_model.specs.NetlistLines.{Form}

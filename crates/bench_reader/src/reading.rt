@@ -1,16 +1,15 @@
 //! The rounds over a whole netlist.
 
-ghost use Rattle.std.specs.Prelude.{◌≡◌, IfOk, length};
+ghost use Rattle.std.specs.Prelude.{◌≡◌, IfOk, length, not};
+ghost use Rattle.std.specs.List.{list_any};
 ghost use Rattle.scan_model.specs.Lines.{text_lines};
+ghost use Rattle.scan_model.specs.Words.{has_word};
+ghost use Rattle.scan_model.specs.Netlist.{netlist};
 ghost use Rattle.scan_model.specs.TextFaults.{first_fault, refused_or};
 ghost use Rattle.scan_model.specs.NetlistRules.{forms_of, first_rule, early_fault};
 ghost use Rattle.scan_model.specs.NetlistText.{circuit_of, netlist_reading};
-ghost use Rattle.scan_model.specs.Netlist.{netlist};
 ghost use Rattle.text_parts.specs.Views.{nows};
 ghost use Rattle.text_parts.specs.Gives.{Gives};
-ghost use Rattle.std.specs.Prelude.{not};
-ghost use Rattle.std.specs.List.{list_any};
-ghost use Rattle.scan_model.specs.Words.{has_word};
 ghost use Rattle.bench_reader.specs.Lines.{line_view};
 ghost use Rattle.bench_reader.specs.Kept.{kept_views, filled_from, uses_undefined, first_line};
 ghost use Rattle.bench_reader.specs.Clean.{IsRead, AreKnown};
@@ -67,7 +66,7 @@ fn first_undefined(kept: &Lines<'_>) -> Option<u64>
     None
 }
 
-// The same, or its first fault by the first two rounds.
+// The lines of a netlist that are not empty, or its first fault by the first two rounds.
 fn read_lines(alloc: Global, bytes: &[u8]) -> Result<Lines<'_>, ReadFault>
     ensures fault { Gives (λ kept. kept_views kept.lines.items) result (refused_or (early_fault (text_lines bytes.now)) (filled_from 1 (forms_of (text_lines bytes.now)))) }
     ensures read { IfOk result (λ kept. IsRead kept (forms_of (text_lines bytes.now))) }

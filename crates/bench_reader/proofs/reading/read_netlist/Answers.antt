@@ -1,11 +1,11 @@
-use Rattle.std.proofs.Common.{◌≡◌, ℕ, ◌<◌, List, Ok, Err, None, length, get_or, vec_len, sym, ap, subst, ◌∙◌, arith}
+use Rattle.std.proofs.Common.{◌≡◌, ℕ, ◌<◌, List, Ok, Err, None, length, get_or, sym, ap, subst, ◌∙◌, arith}
 use Rattle.std.proofs.lemmas.List.{get_or_default}
 use Rattle.scan_model.specs.Netlist.{Netlist, netlist}
 use Rattle.scan_model.specs.Walks.{HasLevels, IsLeastWithoutLevel}
 use Rattle.scan_model.specs.Lines.{text_lines}
 use Rattle.scan_model.specs.TextFaults.{refused_or}
-use Rattle.scan_model.specs.NetlistRules.{forms_of, early_fault, defined_names}
-use Rattle.scan_model.specs.NetlistText.{circuit_of, circuit_in, netlist_reading}
+use Rattle.scan_model.specs.NetlistRules.{forms_of, early_fault}
+use Rattle.scan_model.specs.NetlistText.{circuit_of, netlist_reading}
 use Rattle.bench_reader.specs.declared.reading.Draft.{Draft}
 use Rattle.bench_reader.specs.Drafts.{IsDraft}
 use Rattle.bench_reader.proofs.SecondRound.{not_refused}

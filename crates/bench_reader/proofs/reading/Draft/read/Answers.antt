@@ -3,7 +3,6 @@ use Rattle.scan_model.specs.Lines.{text_lines}
 use Rattle.scan_model.specs.TextFaults.{refused_or}
 use Rattle.scan_model.specs.NetlistRules.{forms_of, early_fault, defined_names, pins_after, net_limit, pin_limit}
 use Rattle.scan_model.specs.NetlistText.{circuit_of, net_number}
-use Rattle.text_parts.specs.Views.{nows}
 use Rattle.bench_reader.specs.Kept.{filled_from, kept_views}
 use Rattle.bench_reader.proofs.SecondRound.{not_refused}
 use Rattle.bench_reader.proofs.EmptyLines.{whole, built_circuit}
