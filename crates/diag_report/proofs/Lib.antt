@@ -1,0 +1,4 @@
+pub mod Ranked
+mod LineSteps
+mod TallySteps
+mod PageSteps

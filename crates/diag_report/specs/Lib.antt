@@ -1,0 +1,3 @@
+pub mod LineEnds
+pub mod BitTally
+pub mod Layout

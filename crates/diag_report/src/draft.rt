@@ -1,0 +1,32 @@
+ghost use Rattle.std.specs.Prelude.{◌≡◌, ◌++◌, ◌∷◌, [], length, IfOk, OnOk};
+
+use scan_model::{Name, NoMemory, Rows};
+use std::alloc::Global;
+
+/// A text while it is written, with the place behind each of its lines.
+#[derive(Drop)]
+pub(crate) struct Draft {
+    pub(crate) text: Name,
+    pub(crate) ends: Rows<usize>,
+}
+
+/// An empty text.
+pub(crate) fn new_draft(alloc: Global) -> Draft
+    ensures text { result.text ≡ [] }
+    ensures ends { result.ends ≡ [] }
+{
+    Draft {
+        text: Rows::new(alloc),
+        ends: Rows::new(alloc),
+    }
+}
+
+/// Ends a line whose words are written.
+pub(crate) fn end_line(draft: &mut Draft) -> Result<(), NoMemory>
+    ensures text { OnOk result (draft.new.text ≡ draft.old.text ++ 10 ∷ []) }
+    ensures ends { OnOk result (draft.new.ends ≡ draft.old.ends ++ length draft.new.text ∷ []) }
+{
+    draft.text.push(b'\n')?;
+    let end = draft.text.len();
+    draft.ends.push(end)
+}

@@ -1,0 +1,122 @@
+ghost use Rattle.std.specs.Prelude.{◌≡◌, ◌<◌, List, All, map, length, IfOk, OnOk};
+ghost use Rattle.std.specs.List.{enumerate_from};
+ghost use Rattle.scan_model.specs.declared.logs.LogFacts.{LogFacts};
+ghost use Rattle.scan_model.specs.ScanTest.{points_of};
+ghost use Rattle.scan_model.specs.Response.{expected_rows};
+ghost use Rattle.scan_model.specs.Universe.{listed};
+ghost use Rattle.scan_model.specs.ReportText as text_of;
+ghost use Rattle.log_join.specs.Joining.{StandsFor, IsJoinedOf};
+ghost use Rattle.diag_report.specs.LineEnds.{AddsLines};
+ghost use Rattle.diag_report.specs.Layout.{title_lines, total_lines, layout};
+
+use crate::draft::{Draft, new_draft};
+use crate::lines::{bit_line, candidate_line, name_line, number_line};
+use crate::report::{Report, finished};
+use crate::tally::{Tally, tally_bits};
+use log_join::Joined;
+use scan_model::{Bit, Expected, Name, NoMemory, Parts, Rows, Scored};
+use std::alloc::Global;
+
+/// What a report begins with: the tags of design and die, and the number of its logs.
+#[derive(Debug, Drop)]
+pub struct Head {
+    pub design: Name,
+    pub die: Name,
+    pub logs: u64,
+}
+
+fn title(alloc: Global, draft: &mut Draft, head: &Head) -> Result<(), NoMemory>
+    ensures { OnOk result (AddsLines (title_lines head.now.design head.now.die head.now.logs) draft.old draft.new) }
+{
+    number_line(alloc, draft, b"REPORT", 1)?;
+    name_line(draft, b"design", head.design.as_slice())?;
+    name_line(draft, b"die", head.die.as_slice())?;
+    number_line(alloc, draft, b"logs", head.logs)
+}
+
+fn totals(alloc: Global, draft: &mut Draft, tally: &Tally, candidates: u64) -> Result<(), NoMemory>
+    ensures { OnOk result (AddsLines (total_lines tally.now candidates) draft.old draft.new) }
+{
+    number_line(alloc, draft, b"failing", tally.failing)?;
+    number_line(alloc, draft, b"passing", tally.passing)?;
+    number_line(alloc, draft, b"conflicts", tally.conflict.len() as u64)?;
+    number_line(alloc, draft, b"masked", tally.masked.len() as u64)?;
+    number_line(alloc, draft, b"candidates", candidates)
+}
+
+fn bit_lines(
+    alloc: Global,
+    draft: &mut Draft,
+    parts: &Parts,
+    word: &[u8],
+    bits: &[Bit],
+) -> Result<(), NoMemory>
+    requires { All (λ b. b.point < length (points_of parts.now)) bits.now }
+    ensures { OnOk result (AddsLines (map (text_of.bit_line parts.now word.now) bits.now) draft.old draft.new) }
+{
+    for i in 0..bits.len() {
+        bit_line(alloc, draft, parts, word, &bits[i])?;
+    }
+    Ok(())
+}
+
+fn candidate_lines(
+    alloc: Global,
+    draft: &mut Draft,
+    parts: &Parts,
+    rows: &[Scored],
+) -> Result<(), NoMemory>
+    requires { All (λ row. row.place < length (listed parts.now)) rows.now }
+    ensures { OnOk result (AddsLines (map (text_of.candidate_line (listed parts.now) parts.now) (enumerate_from 1 rows.now)) draft.old draft.new) }
+{
+    for i in 0..rows.len() {
+        candidate_line(alloc, draft, parts, i as u64 + 1, &rows[i])?;
+    }
+    Ok(())
+}
+
+fn write_lines(
+    alloc: Global,
+    parts: &Parts,
+    head: &Head,
+    tally: &Tally,
+    rows: &[Scored],
+) -> Result<Report, NoMemory>
+    requires conflict { All (λ b. b.point < length (points_of parts.now)) tally.now.conflict }
+    requires masked { All (λ b. b.point < length (points_of parts.now)) tally.now.masked }
+    requires places { All (λ row. row.place < length (listed parts.now)) rows.now }
+    ensures { IfOk result (λ r. r ≡ layout (listed parts.now) parts.now head.now.design head.now.die head.now.logs tally.now rows.now) }
+{
+    let mut draft = new_draft(alloc);
+    title(alloc, &mut draft, head)?;
+    totals(alloc, &mut draft, tally, rows.len() as u64)?;
+    bit_lines(
+        alloc,
+        &mut draft,
+        parts,
+        b"conflict",
+        tally.conflict.as_slice(),
+    )?;
+    bit_lines(alloc, &mut draft, parts, b"masked", tally.masked.as_slice())?;
+    candidate_lines(alloc, &mut draft, parts, rows)?;
+    Ok(finished(draft))
+}
+
+/// The report of a die: its head, the Conflict and the Masked bits in bit order, and its candidates in their order.
+/// Takes time linear in the text and in the bits.
+pub fn make_text(
+    alloc: Global,
+    parts: &Parts,
+    head: &Head,
+    expected: &Expected,
+    joined: &Joined,
+    ranked: &Rows<Scored>,
+) -> Result<Report, NoMemory>
+    requires expected { expected.now ≡ expected_rows parts.now }
+    requires joined { IsJoinedOf (length parts.now.patterns) (length (points_of parts.now)) joined.now }
+    requires places { All (λ row. row.place < length (listed parts.now)) ranked.now }
+    ensures { (logs : List LogFacts) → StandsFor logs joined.now → IfOk result (λ r. r ≡ text_of.report_layout (listed parts.now) parts.now head.now.design head.now.die head.now.logs logs ranked.now) }
+{
+    let tally = tally_bits(alloc, parts, expected, joined)?;
+    write_lines(alloc, parts, head, &tally, ranked.as_slice())
+}
