@@ -33,7 +33,9 @@ fn read_log_report<'a, F: Shelf>(
     let text = read_text(alloc, shelf, command.log)?;
     let answer = fail_logs::read_log(alloc, parts, design, die, &text);
     let log = named(command.log, answer)?;
-    let report = report_of(alloc, parts, design, die, &log)?;
+    let mut logs = Rows::new(alloc);
+    logs.push(log)?;
+    let report = report_of(alloc, parts, design, die, logs.as_slice())?;
     Ok(Rows::from_vec(report))
 }
 
