@@ -16,7 +16,8 @@ fn good_rows(alloc: Global, parts: &Parts) -> Result<Rows<Rows<Tri>>, NoMemory>
     Ok(Rows::from_vec(rows))
 }
 
-/// The fault-free responses in all patterns.
+/// The fault-free responses: a row for each pattern, with a value for each point in test order. The only error is want of
+/// memory: while it runs it holds a byte for each value.
 pub fn expected_all(alloc: Global, parts: &Parts) -> Result<Expected, NoMemory>
     ensures { IfOk result (λ rows. rows ≡ expected_rows parts.now) }
 {
