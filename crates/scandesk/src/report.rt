@@ -8,7 +8,7 @@ ghost use Rattle.scan_model.specs.ReportText.{report_text_among};
 use scan_model::{LogFacts, NoMemory, Parts};
 use std::alloc::Global;
 
-/// The bytes of the report of one log of the die, over the listed faults.
+/// The bytes of the report of one log of the die.
 pub fn report_of(
     alloc: Global,
     parts: &Parts,
