@@ -1,5 +1,5 @@
 -- What a chain of files comes to.
-use Rattle.std.proofs.Common.{◌≡◌, List, ◌++◌, ℕ, refl, Result, Ok, Err}
+use Rattle.std.proofs.Common.{◌≡◌, List, ℕ, refl, Result, Ok, Err}
 use Rattle.std.specs.Prelude.{Contains}
 use Rattle.std.proofs.lemmas.List.Elements.{Contains-append_left, Contains-append_right}
 use Rattle.scandesk.specs.declared.files.Refusal.{Refusal}

@@ -1,5 +1,5 @@
 -- Why a command has no report, and what reading says of it.
-use Rattle.std.specs.Prelude.{◌≡◌, ◌<◌, ℕ, Bool, true, false, List, ◌++◌, codes, length, Option, None, Some, IsSomeAnd, Result, Ok, Err, Contains}
+use Rattle.std.specs.Prelude.{◌≡◌, ◌<◌, ℕ, Bool, true, false, List, ◌++◌, codes, length, Option, None, IsSomeAnd, Result, Ok, Err, Contains}
 use Rattle.text_parts.specs.declared.fault.ReadFault.{ReadFault}
 use Rattle.text_parts.specs.declared.fault.ReadFault.TheVariants as answer
 use Rattle.text_parts.specs.declared.fault.TextFault.{TextFault}

@@ -30,8 +30,7 @@ fn read_circuit<'a, F: Shelf>(
     ensures later { F.faults shelf.old ≤ F.faults shelf.new }
 {
     let text = read_text(alloc, shelf, name)?;
-    let circuit = named(name, bench_reader::read_netlist(alloc, &text))?;
-    Ok(circuit)
+    named(name, bench_reader::read_netlist(alloc, &text))
 }
 
 fn read_chains<'a, F: Shelf>(

@@ -17,13 +17,13 @@ pub const FILE_LIMIT: u64 = 16_777_216;
 /// Why a file doesn't serve.
 #[derive(Clone, Copy, Debug, PartialEq, Eq)]
 pub enum Refusal {
-    /// There is no such file.
+    /// No file has the name.
     Absent,
-    /// It is longer than the limit.
+    /// It is longer than `FILE_LIMIT`.
     TooLong,
-    /// Its text breaks a rule.
+    /// Its text breaks a rule, at its first fault.
     Rule(TextFault),
-    /// It has more than the first form of the command reads.
+    /// A list of neighbours that isn't empty, which isn't read yet.
     OtherForm,
 }
 

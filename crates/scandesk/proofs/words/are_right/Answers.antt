@@ -1,4 +1,4 @@
-use Rattle.std.proofs.Common.{rules, ◌∙◌}
+use Rattle.std.proofs.Common.{rules}
 use Rattle.scandesk.proofs.WordFacts.{by_the_die}
 use Rattle.scandesk.proofs.words.are_right.Goals as goal
 
