@@ -4,3 +4,4 @@ pub mod Work
 pub mod Requests
 pub mod Stops
 pub mod Ending
+pub mod Joined
