@@ -4,7 +4,7 @@ use Rattle.std.specs.Prelude.{flat_map, Contains}
 use Rattle.std.specs.List.{range_with_len}
 use Rattle.std.proofs.lemmas.Bool.{cases_Bool, cases_lt, ltb-true}
 use Rattle.std.proofs.lemmas.Bool.Decides.{nat_tests}
-use Rattle.std.proofs.lemmas.List.{get_or-map, length-map}
+use Rattle.std.proofs.lemmas.List.{get_or-map, length-map, map-append}
 use Rattle.std.proofs.Math.Nat.{add-mul}
 use Rattle.std.proofs.lemmas.List.Elements.{Contains-append_left, Contains-append_right}
 use Rattle.scan_model.specs.declared.parts.Chain.{Chain}
@@ -109,10 +109,6 @@ rising_blocks : (f : ℕ → List ℕ) (base n a m : ℕ) → ((t : ℕ) → Ris
 rising_blocks f base n a zero each = tt
 rising_blocks f base n a (suc m) each =
     Rising-append (base + a * n) (base + (a + 1) * n) (f a) (flat_map f (range_with_len (a + 1) m)) (omega (arith, add-mul a 1 n)) (each a).0 (each a).1 (rising_blocks f base n (a + 1) m each)
-
-map-append : {X Y : Type 0} (f : X → Y) (xs ys : List X) → map f (xs ++ ys) ≡ map f xs ++ map f ys
-map-append f [] ys = refl
-map-append f (x ∷ xs) ys = ap (λ zs. f x ∷ zs) (map-append f xs ys)
 
 map-flat_map : {X : Type 0} (f : X → ℕ) (g : ℕ → List X) (ns : List ℕ) → map f (flat_map g ns) ≡ flat_map (λ n. map f (g n)) ns
 map-flat_map f g [] = refl
