@@ -1,6 +1,6 @@
 -- The test of a level, and what it says of walks.
-use Rattle.std.proofs.Common.{◌≡◌, ℕ, zero, suc, ◌+◌, ◌<◌, ◌≤◌, Bool, true, false, not, List, [], ◌∷◌, length, take, refl, sym, ap, ◌∙◌, inl, inr, arith}
-use Rattle.std.specs.Prelude.{Contains, IsTrue}
+use Rattle.std.proofs.Common.{◌≡◌, ℕ, zero, suc, Bool, true, false, not, List, [], ◌∷◌, length, take, refl, sym, ap, ◌∙◌, inl, inr, arith}
+use Rattle.std.specs.Prelude.{IsTrue}
 use Rattle.std.specs.List.{list_any}
 use Rattle.std.proofs.lemmas.Bool.{cases_Bool, cases_lt, both_ways}
 use Rattle.std.proofs.lemmas.List.{length-take}
@@ -8,7 +8,7 @@ use Rattle.std.proofs.lemmas.List.Folds.{Any-from_list_any, list_any-from_Any}
 use Rattle.scan_model.specs.declared.circuit.Driver.{Driver}
 use Rattle.scan_model.specs.declared.circuit.Driver.TheVariants.{Input, Flop, Gate}
 use Rattle.scan_model.specs.Netlist.{Netlist, reads, is_gate, is_gate_driver, driver_of}
-use Rattle.scan_model.specs.Walks.{IsWalk, HasLevel, HasLevels, any_read, walks_on, has_level}
+use Rattle.scan_model.specs.Walks.{IsWalk, HasLevel, any_read, walks_on, has_level}
 
 gate_reads : (c : Netlist) (d : Driver) (passes : ℕ → Bool) (g : ℕ) → any_read c d passes g ≡ true → (is_gate_driver d ≡ true) × (list_any passes (reads c g) ≡ true)
 gate_reads c Input passes g e = absurd cc
@@ -59,7 +59,7 @@ test-from_HasLevel c g level = elim (cases_Bool (walks_on c (length c.nets) g)) 
 ]
 
 pub test-from_no_level : (c : Netlist) (g : ℕ) → (HasLevel c g → ⊥) → has_level c g ≡ false
-test-from_no_level c g none = elim (cases_Bool (has_level c g)) [ | inl ends ↦ absurd (none (HasLevel-from_test c g ends)) | inr on ↦ on ]
+test-from_no_level c g none = elim (cases_Bool (has_level c g)) [ inl ends ↦ absurd (none (HasLevel-from_test c g ends)) | inr on ↦ on ]
 
 -- no walk begins at a net that is no gate
 no_gate_no_walk : (c : Netlist) (g : ℕ) → is_gate c g ≡ false → HasLevel c g
