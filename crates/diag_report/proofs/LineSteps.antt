@@ -10,6 +10,7 @@ use Rattle.scan_model.specs.declared.fault.Fault.TheVariants.{Stem, Branch, Brid
 use Rattle.scan_model.specs.ScanTest.{ScanTest}
 use Rattle.scan_model.specs.ReportText.{spaced, joined, fault_words}
 use Rattle.fault_universe.specs.LineWords.{after_spaces}
+use Rattle.fault_universe.proofs.BitSteps.{enumerate_push}
 use Rattle.diag_report.specs.declared.draft.Draft.{Draft}
 use Rattle.diag_report.specs.LineEnds.{ends_from, cut_at, HasLines, AddsLines}
 
@@ -84,11 +85,6 @@ pub five_added : (qs bs cs ds es : List (List ℕ)) (d0 d1 d2 d3 d4 d5 : Draft) 
 five_added qs bs cs ds es d0 d1 d2 d3 d4 d5 no_text no_ends a b c d e =
     let lower = both_added bs ((cs ++ ds) ++ es) d1 d2 d5 b (both_added (cs ++ ds) es d2 d4 d5 (both_added cs ds d2 d3 d4 c d) e) in
     (both_added qs (bs ++ ((cs ++ ds) ++ es)) d0 d1 d5 a lower).added [] (record { text_is = no_text; ends_are = no_ends })
-
-enumerate_push : {X : Type 0} (a : ℕ) (xs : List X) (x : X) → enumerate_from a (xs ++ x ∷ []) ≡ enumerate_from a xs ++ (a + length xs, x) ∷ []
-enumerate_push {X} a [] x = ap (λ (n : ℕ). let e : List (ℕ × X) = (n, x) ∷ [] in e) (omega arith)
-enumerate_push {X} a (y ∷ ys) x =
-    ap (λ (es : List (ℕ × X)). (a, y) ∷ es) (enumerate_push (a + 1) ys x ∙ ap (λ (n : ℕ). enumerate_from (a + 1) ys ++ (n, x) ∷ []) (omega arith))
 
 -- the lines of one more numbered item
 pub numbered_more : {X : Type 0} (f : ℕ × X → List ℕ) (xs : List X) (k : ℕ) (d : X) (a b c : Draft) → k < length xs → AddsLines (map f (enumerate_from 1 (take k xs))) a b → AddsLines (f (k + 1, get_or xs k d) ∷ []) b c → AddsLines (map f (enumerate_from 1 (take (k + 1) xs))) a c

@@ -1,7 +1,7 @@
--- Expected values and bits, row by row.
+-- Expected values and bits, row by row, and lists with numbers.
 use Rattle.std.proofs.Common.{◌≡◌, ℕ, ◌+◌, ◌<◌, List, [], ◌∷◌, ◌++◌, length, map, get_or, None, sym, ap, ◌∙◌, append_assoc, arith}
 use Rattle.std.specs.Prelude.{All, flat_map}
-use Rattle.std.specs.List.{range_with_len}
+use Rattle.std.specs.List.{range_with_len, enumerate_from}
 use Rattle.std.proofs.lemmas.List.{map-id, length-map, flat_map_more}
 use Rattle.std.proofs.lemmas.List.FromFn.{length-map-range_with_len, get_or-map-range_with_len, map-range_with_len_more}
 use Rattle.scan_model.specs.declared.values.Tri.{Tri}
@@ -35,3 +35,9 @@ range_more n =
 -- one more pattern
 pub bits_upto_more : (t : ScanTest) (m : ℕ) → bits_upto t (m + 1) ≡ bits_upto t m ++ row_bits m (length (points_of t))
 bits_upto_more t m = ap (flat_map (λ w. row_bits w (length (points_of t)))) (range_more m) ∙ sym (flat_map_more (λ w. row_bits w (length (points_of t))) [] (range_with_len 0 m) m)
+
+-- one more element with its number
+pub enumerate_push : {X : Type 0} (a : ℕ) (xs : List X) (x : X) → enumerate_from a (xs ++ x ∷ []) ≡ enumerate_from a xs ++ (a + length xs, x) ∷ []
+enumerate_push {X} a [] x = ap (λ (n : ℕ). let e : List (ℕ × X) = (n, x) ∷ [] in e) (omega arith)
+enumerate_push {X} a (y ∷ ys) x =
+    ap (λ (es : List (ℕ × X)). (a, y) ∷ es) (enumerate_push (a + 1) ys x ∙ ap (λ (n : ℕ). enumerate_from (a + 1) ys ++ (n, x) ∷ []) (omega arith))

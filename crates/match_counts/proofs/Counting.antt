@@ -1,5 +1,5 @@
 -- Counting bit by bit, and listing candidate by candidate.
-use Rattle.std.proofs.Common.{◌≡◌, ℕ, ◌+◌, ◌<◌, ◌≤◌, Bool, cond, not, ◌&&◌, List, [], ◌∷◌, ◌++◌, length, map, take, Some, refl, ap, ◌∙◌, arith}
+use Rattle.std.proofs.Common.{◌≡◌, ℕ, ◌+◌, ◌<◌, ◌≤◌, Bool, cond, not, ◌&&◌, List, [], ◌∷◌, ◌++◌, length, map, take, Some, refl, ◌∙◌, arith}
 use Rattle.std.specs.Prelude.{count_by, slice_get}
 use Rattle.std.specs.List.{enumerate_from}
 use Rattle.std.proofs.lemmas.List.{take_more, length-take, map-append}
@@ -20,7 +20,7 @@ use Rattle.scan_model.specs.Coverage.{bit_of}
 use Rattle.scan_model.specs.Classes.{class_of, is_failing, is_passing}
 use Rattle.scan_model.specs.MatchCounts.{candidates_among, scored, is_candidate}
 use Rattle.fault_universe.specs.BitRows.{row_bits}
-use Rattle.fault_universe.proofs.BitSteps.{row_bits_more, length-expected_rows, expected_points}
+use Rattle.fault_universe.proofs.BitSteps.{enumerate_push, row_bits_more, length-expected_rows, expected_points}
 use Rattle.log_join.specs.Joining.{JoinedBits, IsJoinedOf, FitsExpected}
 use Rattle.match_counts.specs.Tally.{counts_over, counted, class_in, predicts, AreAtMost}
 
@@ -43,10 +43,6 @@ pub row_more : (logs : List LogFacts) (good bad : ℕ → List Tri) (bits : List
     → next ≡ counts_over logs good bad (bits ++ row_bits w (k + 1))
 row_more logs good bad bits w k row values sum next class predicted so_far is_row is_values is_class is_predicted added =
     added ∙ rw (row_bits_more bits w k, counts_more logs good bad (bits ++ row_bits w k) (bit_of w k), so_far, is_class, is_predicted, is_row, is_values) refl
-
-enumerate_push : (a : ℕ) (faults : List Fault) (f : Fault) → enumerate_from a (faults ++ f ∷ []) ≡ enumerate_from a faults ++ (a + length faults, f) ∷ []
-enumerate_push a [] f = ap (λ (n : ℕ). (n, f) ∷ []) (omega arith)
-enumerate_push a (g ∷ gs) f = ap (λ (es : List (ℕ × Fault)). (a, g) ∷ es) (enumerate_push (a + 1) gs f ∙ ap (λ (n : ℕ). enumerate_from (a + 1) gs ++ (n, f) ∷ []) (omega arith))
 
 -- one more fault
 pub candidates_more : (t : ScanTest) (logs : List LogFacts) (faults : List Fault) (k : ℕ) (f : Fault) → slice_get faults k ≡ Some f

@@ -31,6 +31,7 @@ fn plain_counts_of(
         tfsp: 0,
         tpsf: 0,
     };
+    // Their number is bounded, so no count overflows.
     let _points = parts.points();
     for pattern in 0..parts.patterns().len() as u32 {
         let values = plain_response(alloc, parts, pattern, Some(fault))?;
