@@ -14,7 +14,10 @@ fn a_capture_without_a_fault(rt: HostRuntime) -> Result<(), Fail> {
     let zeros = parts_of(alloc, S27, S27_CHAIN, b"CAPTURE 0000 000\n")?;
     assert!(rt; zeros.patterns().len() == 1);
     let shown = plain_response(alloc, &zeros, 0, None)?;
-    assert_eq!(rt; shown.as_slice(), [Tri::One, Tri::Zero, Tri::Zero, Tri::Zero].as_slice());
+    assert_eq!(rt;
+        shown.as_slice(),
+        [Tri::One, Tri::Zero, Tri::Zero, Tri::Zero].as_slice()
+    );
     let unknown = parts_of(alloc, S27, S27_CHAIN, b"CAPTURE 0000 0X0\n")?;
     assert!(rt; unknown.patterns().len() == 1);
     let shown = plain_response(alloc, &unknown, 0, None)?;
@@ -30,7 +33,11 @@ fn a_slow_cell_in_a_shift(rt: HostRuntime) -> Result<(), Fail> {
     assert!(rt; parts.chains().len() == 1);
     assert!(rt; parts.chains().as_slice()[0].cells.len() == 3);
     let kind = CellKind::SlowRise;
-    let fault = Fault::Cell { chain: 0, pos: 1, kind };
+    let fault = Fault::Cell {
+        chain: 0,
+        pos: 1,
+        kind,
+    };
     let shown = plain_response(alloc, &parts, 0, Some(fault))?;
     assert_eq!(rt; shown.as_slice(), [X, X, Tri::Zero, Tri::Zero].as_slice());
     Ok(())
