@@ -1,2 +1,5 @@
 pub mod BitSteps
 pub mod StemPlaces
+pub mod Blocks
+pub mod BranchPlaces
+pub mod FaultSites

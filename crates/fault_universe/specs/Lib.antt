@@ -1,2 +1,3 @@
 pub mod LineWords
 pub mod BitRows
+pub mod FoundPlace

@@ -1,6 +1,7 @@
 //! The list of all modelled faults, the place of each in it, and their texts.
 #![tactic(auto)]
 
+mod branches;
 mod places;
 mod stems;
 mod texts;

@@ -1,7 +1,8 @@
-ghost use Rattle.std.specs.Prelude.{◌≡◌, length, slice_get, Some, MatchOption, IfSome, Contains, IfOk};
+ghost use Rattle.std.specs.Prelude.{◌≡◌, ◌+◌, ◌<◌, ◌^◌, length, slice_get, option_map, Some, MatchOption, IfSome, Contains, IfOk};
 ghost use Rattle.scan_model.specs.ScanTest.{HasSite};
 ghost use Rattle.scan_model.specs.Universe.{listed};
 
+use crate::branches::{branch_at, branch_count, branch_place, push_branches};
 use crate::stems::{push_stems, stem_at, stem_count, stem_place};
 use scan_model::{Fault, NoMemory, Parts, Rows};
 use std::alloc::Global;
@@ -12,6 +13,7 @@ pub fn universe(alloc: Global, parts: &Parts) -> Result<Rows<Fault>, NoMemory>
 {
     let mut faults = Rows::new(alloc);
     push_stems(&mut faults, parts)?;
+    push_branches(&mut faults, parts)?;
     Ok(faults)
 }
 
@@ -19,7 +21,7 @@ pub fn universe(alloc: Global, parts: &Parts) -> Result<Rows<Fault>, NoMemory>
 pub fn universe_len(parts: &Parts) -> u32
     ensures { result ≡ length (listed parts.now) }
 {
-    stem_count(parts)
+    stem_count(parts) + branch_count(parts)
 }
 
 /// The fault at a place, or `None` past the end of the list.
@@ -27,11 +29,22 @@ pub fn fault_at(parts: &Parts, place: u32) -> Option<Fault>
     ensures fault { result ≡ slice_get (listed parts.now) place }
     ensures site { IfSome result (HasSite parts.now) }
 {
-    if place < stem_count(parts) {
+    let stems = stem_count(parts);
+    if place < stems {
         Some(stem_at(place))
     } else {
-        None
+        branch_at(parts, place - stems)
     }
+}
+
+/// The place in the whole list of a place after so many faults.
+fn after(before: u32, place: Option<u32>) -> Option<u32>
+    requires before { before < 2 ^ 31 }
+    requires place { IfSome place (λ k. k < 2 ^ 31) }
+    ensures { result ≡ option_map (λ k. before + k) place }
+{
+    let place = place?;
+    Some(before + place)
 }
 
 /// The place of a fault, or `None` where it isn't in the list.
@@ -40,6 +53,9 @@ pub fn place_of(parts: &Parts, fault: &Fault) -> Option<u32>
 {
     match *fault {
         Fault::Stem { net, value } => stem_place(parts, net, value),
+        Fault::Branch { pin, value } => {
+            after(stem_count(parts), branch_place(parts, pin, value))
+        }
         _ => None,
     }
 }

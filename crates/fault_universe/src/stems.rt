@@ -1,6 +1,7 @@
-ghost use Rattle.std.specs.Prelude.{◌≡◌, ◌++◌, ◌<◌, ◌≤◌, length, slice_get, Some, MatchOption, Contains, OnOk};
+ghost use Rattle.std.specs.Prelude.{◌≡◌, ◌++◌, ◌<◌, ◌≤◌, length, slice_get, Some, OnOk};
+ghost use Rattle.fault_universe.specs.FoundPlace.{FindsPlace};
 ghost use Rattle.scan_model.specs.declared.fault.Fault.TheVariants as fault;
-ghost use Rattle.scan_model.specs.ScanTest.{ScanTest, HasSite};
+ghost use Rattle.scan_model.specs.ScanTest.{ScanTest, IsScanTest, HasSite};
 ghost use Rattle.scan_model.specs.Universe.{stems};
 
 use scan_model::{Fault, NoMemory, Parts, Rows, Stuck};
@@ -27,6 +28,7 @@ pub(crate) fn push_stems(faults: &mut Rows<Fault>, parts: &Parts) -> Result<(), 
 pub(crate) fn stem_count(parts: &Parts) -> u32
     ensures count { result ≡ length (stems parts.now) }
     ensures few { length (stems parts.now) ≤ 131072 }
+    ensures fits { IsScanTest parts.now }
 {
     2 * parts.circuit().nets().len() as u32
 }
@@ -51,7 +53,7 @@ pub(crate) fn stem_at(place: u32) -> Fault
 
 /// The place of a stem fault among the stem faults.
 pub(crate) fn stem_place(parts: &Parts, net: u32, value: Stuck) -> Option<u32>
-    ensures { MatchOption result (¬ (Contains (stems parts.now) (fault.Stem net value))) (λ place. slice_get (stems parts.now) place ≡ Some (fault.Stem net value)) }
+    ensures { FindsPlace (stems parts.now) (fault.Stem net value) result }
 {
     if net as usize >= parts.circuit().nets().len() {
         return None;

@@ -15,6 +15,7 @@ pub mod Levels
 pub mod GateSearch
 pub mod GateSteps
 pub mod GateOrder
+pub mod PinCounts
 pub mod BitTables
 pub mod Definite
 pub mod FaultSteps

@@ -59,6 +59,22 @@ filter_range_before p a (suc n) k d x lt low high passes =
       | inr other ↦ Contains-cons a (take j F) x (ih j (omega arith) (omega arith) below)
     ]
 
+-- they rise
+pub filter_range_rises : (p : ℕ → Bool) (a n i j : ℕ) → i ≤ j → j < length (filter p (range_with_len a n)) → get_or (filter p (range_with_len a n)) i 0 ≤ get_or (filter p (range_with_len a n)) j 0
+filter_range_rises p a zero i j le lt = absurd (omega arith)
+filter_range_rises p a (suc n) i j le lt =
+    let F : List ℕ = filter p (range_with_len (a + 1) n) in
+    elim (p a) as (λ b. j < length (cond b (a ∷ F) F) → get_or (cond b (a ∷ F) F) i 0 ≤ get_or (cond b (a ∷ F) F) j 0) [
+      | true ↦ λ l. cons_rises a F i j (λ k m. (filter_range_at p (a + 1) n k 0 m).0) (λ k m up below. filter_range_rises p (a + 1) n k m up below) le l
+      | false ↦ λ l. filter_range_rises p (a + 1) n i j le l
+    ] lt
+  where
+    cons_rises : (a : ℕ) (F : List ℕ) (i j : ℕ) → ((k : ℕ) → k < length F → a + 1 ≤ get_or F k 0) → ((k m : ℕ) → k ≤ m → m < length F → get_or F k 0 ≤ get_or F m 0) → i ≤ j → j < length (a ∷ F) → get_or (a ∷ F) i 0 ≤ get_or (a ∷ F) j 0
+    cons_rises a F zero zero low up le l = omega arith
+    cons_rises a F zero (suc j) low up le l = omega (arith, low j (omega arith))
+    cons_rises a F (suc i) zero low up le l = absurd (omega arith)
+    cons_rises a F (suc i) (suc j) low up le l = up i j (omega arith) (omega arith)
+
 -- one more number
 pub filter_range_more : (p : ℕ → Bool) (n : ℕ) → filter p (range_with_len 0 (n + 1)) ≡ filter p (range_with_len 0 n) ++ cond (p n) (n ∷ []) []
 filter_range_more p n =

@@ -5,9 +5,9 @@ use Rattle.std.specs.List.{range_with_len, enumerate_from, AllByRecursion}
 use Rattle.std.proofs.lemmas.List.Elements.{All-from_recursion, recursion_from_All, All-contains}
 use Rattle.scan_model.specs.declared.parts.Chain.{Chain}
 use Rattle.scan_model.specs.declared.fault.Fault.{Fault}
-use Rattle.scan_model.specs.Netlist.{net_numbers, pin_numbers}
+use Rattle.scan_model.specs.Netlist.{net_numbers, pin_numbers, is_branch}
 use Rattle.scan_model.specs.ScanTest.{ScanTest, IsScanTest, chain_at, no_chain, HasSite}
-use Rattle.scan_model.specs.Universe.{universe, stems, branches, bridges, cells, stem_faults, branch_faults, bridge_faults, cell_faults, chain_faults, is_branch}
+use Rattle.scan_model.specs.Universe.{universe, stems, branches, bridges, cells, stem_faults, branch_faults, bridge_faults, cell_faults, chain_faults}
 
 append : {A : Type 0} (P : A → Type 0) (xs ys : List A) → AllByRecursion P xs → AllByRecursion P ys → AllByRecursion P (xs ++ ys)
 append P [] ys a b = b

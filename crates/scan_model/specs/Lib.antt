@@ -5,6 +5,7 @@ pub mod Circuits
 pub mod MakeFaults
 pub mod TestOrder
 pub mod GateSearch
+pub mod PinCounts
 pub mod Cone
 pub mod ChainShift
 pub mod ScanTest

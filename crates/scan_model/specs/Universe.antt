@@ -1,5 +1,5 @@
 -- The list of all modelled faults. A fault's place is its position.
-use Rattle.std.specs.Prelude.{ℕ, List, [], ◌∷◌, ◌++◌, filter, flat_map, count_by, length, Bool, nat_le, ◌==◌}
+use Rattle.std.specs.Prelude.{ℕ, List, [], ◌∷◌, ◌++◌, filter, flat_map, length}
 use Rattle.std.specs.List.{range_with_len, enumerate_from}
 use Rattle.scan_model.specs.declared.parts.Chain.{Chain}
 use Rattle.scan_model.specs.declared.parts.Pair.{Pair}
@@ -8,7 +8,7 @@ use Rattle.scan_model.specs.declared.fault.BridgeKind.TheVariants.{Dominant, Wir
 use Rattle.scan_model.specs.declared.fault.CellKind.TheVariants.{Stuck0, Stuck1, SlowRise, SlowFall}
 use Rattle.scan_model.specs.declared.fault.Fault.{Fault}
 use Rattle.scan_model.specs.declared.fault.Fault.TheVariants.{Stem, Branch, Bridge, Cell}
-use Rattle.scan_model.specs.Netlist.{Netlist, net_numbers, pin_numbers, pin_at}
+use Rattle.scan_model.specs.Netlist.{net_numbers, pin_numbers, is_branch}
 use Rattle.scan_model.specs.ScanTest.{ScanTest}
 
 abbrev pub stem_faults : ℕ → List Fault
@@ -22,10 +22,6 @@ bridge_faults p = Bridge p.a p.b Dominant ∷ Bridge p.b p.a Dominant ∷ Bridge
 
 abbrev pub cell_faults : ℕ → ℕ → List Fault
 cell_faults h i = Cell h i Stuck0 ∷ Cell h i Stuck1 ∷ Cell h i SlowRise ∷ Cell h i SlowFall ∷ []
-
--- whether the net of a pin has two or more pins
-abbrev pub is_branch : Netlist → ℕ → Bool
-is_branch c p = nat_le 2 (count_by (λ q. q.net == (pin_at c p).net) c.pins)
 
 abbrev pub stems : ScanTest → List Fault
 stems t = flat_map stem_faults (net_numbers t.netlist)
@@ -47,4 +43,4 @@ universe t = stems t ++ branches t ++ bridges t ++ cells t
 
 -- the lists of it that the report goes through so far
 abbrev pub listed : ScanTest → List Fault
-listed t = stems t
+listed t = stems t ++ branches t

@@ -1,9 +1,10 @@
-ghost use Rattle.std.specs.Prelude.{◌≡◌, IfOk, OnOk, IfErr};
-ghost use Rattle.scan_model.specs.Netlist.{netlist};
+ghost use Rattle.std.specs.Prelude.{◌≡◌, filter, IfOk, OnOk, IfErr};
+ghost use Rattle.scan_model.specs.Netlist.{netlist, pin_numbers, is_branch};
 ghost use Rattle.scan_model.specs.Walks.{IsEvaluationOrder, HasLevels, IsLeastWithoutLevel};
 ghost use Rattle.scan_model.specs.Circuits.{IsCircuit};
 ghost use Rattle.scan_model.specs.MakeFaults.{IfNoLevel};
 
+use crate::branches::branch_pins;
 use crate::evaluation::evaluation_order;
 use crate::rows::{Name, NoMemory, Rows};
 use std::alloc::Global;
@@ -72,6 +73,7 @@ pub struct Circuit {
     inputs: Rows<u32>,
     outputs: Rows<u32>,
     order: Rows<u32>,
+    branch_pins: Rows<u32>,
 }
 
 impl Model for Circuit {
@@ -83,7 +85,7 @@ impl Model for Circuit {
 
     ghost view = { λ c. netlist c.nets c.pins c.inputs c.outputs };
 
-    ghost invariant = { λ c. IsSoundCircuit (netlist c.nets c.pins c.inputs c.outputs) c.order };
+    ghost invariant = { λ c. IsSoundCircuit (netlist c.nets c.pins c.inputs c.outputs) c.order c.branch_pins };
 }
 
 impl Circuit {
@@ -102,12 +104,14 @@ impl Circuit {
         ensures no_level { IfErr result (λ e. IfNoLevel e (IsLeastWithoutLevel (netlist nets pins inputs outputs))) }
     {
         let order = evaluation_order(alloc, nets.as_slice(), pins.as_slice())?;
+        let branch_pins = branch_pins(alloc, nets.as_slice(), pins.as_slice())?;
         Ok(Circuit {
             nets,
             pins,
             inputs,
             outputs,
             order,
+            branch_pins,
         })
     }
 
@@ -144,5 +148,13 @@ impl Circuit {
         ensures { IsEvaluationOrder self.now result.now }
     {
         &self.order
+    }
+
+    /// The pins of nets with two pins or more, in rising order.
+    pub fn branch_pins(&self) -> &Rows<u32>
+        ensures value { result.now ≡ filter (is_branch self.now) (pin_numbers self.now) }
+        ensures circuit { IsCircuit self.now }
+    {
+        &self.branch_pins
     }
 }

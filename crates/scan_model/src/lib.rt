@@ -2,6 +2,7 @@
 #![tactic(auto)]
 
 mod bits;
+mod branches;
 mod circuit;
 mod digest;
 mod evaluation;

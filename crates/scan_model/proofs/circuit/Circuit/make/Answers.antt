@@ -6,10 +6,17 @@ use Rattle.scan_model.proofs.circuit.Circuit.make.Goals as goal
 pub evaluation_order-requires : goal.evaluation_order-requires
 evaluation_order-requires c = rw (c.as_slice.ensures, c.as_slice-2.ensures) (wired_circuit c.args.nets c.args.pins c.args.inputs c.args.outputs c.requires)
 
+pub branch_pins-requires-clause-wired : goal.branch_pins-requires-clause-wired
+branch_pins-requires-clause-wired c = rw (c.as_slice-3.ensures, c.as_slice-4.ensures) (wired_circuit c.args.nets c.args.pins c.args.inputs c.args.outputs c.requires)
+
 pub invariant_of-result : goal.invariant_of-result
 invariant_of-result c =
     let found = rw (c.as_slice.ensures, c.as_slice-2.ensures) at c.in_ok-order.ensures.ok in
-    record { circuit = c.requires; evaluation = order_of_circuit c.args.nets c.args.pins c.args.inputs c.args.outputs c.in_ok-order.order found }
+    record {
+      circuit = c.requires;
+      evaluation = order_of_circuit c.args.nets c.args.pins c.args.inputs c.args.outputs c.in_ok-order.order found;
+      branches = rw (c.as_slice-3.ensures, c.as_slice-4.ensures) at c.in_ok-branch_pins.ensures;
+    }
 
 pub returns-clause-levels : goal.returns-clause-levels
 returns-clause-levels c =
