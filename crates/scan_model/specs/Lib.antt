@@ -6,6 +6,7 @@ pub mod MakeFaults
 pub mod TestOrder
 pub mod GateSearch
 pub mod Cone
+pub mod Marks
 pub mod ChainShift
 pub mod ScanTest
 pub mod Faults

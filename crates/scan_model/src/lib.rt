@@ -3,6 +3,7 @@
 
 mod bits;
 mod circuit;
+mod cones;
 mod digest;
 mod evaluation;
 mod expected;
