@@ -27,7 +27,7 @@ between : (t : ScanTest) (logs : List LogFacts) (n : ℕ) (faults : List Fault) 
 between t logs n [] = tt
 between t logs n (f ∷ faults) =
     let later : AllByRecursion (IsBetween n (n + suc (length faults))) (from_place t logs (n + 1) faults) =
-        weaker (IsBetween (n + 1) (n + 1 + length faults)) (IsBetween n (n + suc (length faults))) (λ s h. (omega (arith, h.0), omega (arith, h.1))) (from_place t logs (n + 1) faults) (between t logs (n + 1) faults) in
+    weaker (IsBetween (n + 1) (n + 1 + length faults)) (IsBetween n (n + suc (length faults))) (λ s h. (omega (arith, h.0), omega (arith, h.1))) (from_place t logs (n + 1) faults) (between t logs (n + 1) faults) in
     elim (is_candidate (scored t logs (n, f))) as (λ b. AllByRecursion (IsBetween n (n + suc (length faults))) (cond b (scored t logs (n, f) ∷ from_place t logs (n + 1) faults) (from_place t logs (n + 1) faults))) [
       | true ↦ ((omega arith, omega arith), later)
       | false ↦ later
@@ -38,7 +38,7 @@ unfolding IsDistinct
 distinct t logs n [] = tt
 distinct t logs n (f ∷ faults) =
     let others : AllByRecursion (λ s. same_place (scored t logs (n, f)) s ≡ false) (from_place t logs (n + 1) faults) =
-        weaker (IsBetween (n + 1) (n + 1 + length faults)) (λ s. same_place (scored t logs (n, f)) s ≡ false) (λ s h. ne_eqb n s.place (omega (arith, h.0))) (from_place t logs (n + 1) faults) (between t logs (n + 1) faults) in
+    weaker (IsBetween (n + 1) (n + 1 + length faults)) (λ s. same_place (scored t logs (n, f)) s ≡ false) (λ s h. ne_eqb n s.place (omega (arith, h.0))) (from_place t logs (n + 1) faults) (between t logs (n + 1) faults) in
     elim (is_candidate (scored t logs (n, f))) as (λ b. IsDistinct same_place (cond b (scored t logs (n, f) ∷ from_place t logs (n + 1) faults) (from_place t logs (n + 1) faults))) [
       | true ↦ (others, distinct t logs (n + 1) faults)
       | false ↦ distinct t logs (n + 1) faults

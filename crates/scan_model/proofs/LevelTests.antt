@@ -59,7 +59,7 @@ test-from_HasLevel c g level = elim (cases_Bool (walks_on c (length c.nets) g)) 
 ]
 
 pub test-from_no_level : (c : Netlist) (g : ℕ) → (HasLevel c g → ⊥) → has_level c g ≡ false
-test-from_no_level c g none = elim (cases_Bool (has_level c g)) [ | inl ends ↦ absurd (none (HasLevel-from_test c g ends)) | inr on ↦ on ]
+test-from_no_level c g none = elim (cases_Bool (has_level c g)) [ inl ends ↦ absurd (none (HasLevel-from_test c g ends)) | inr on ↦ on ]
 
 -- no walk begins at a net that is no gate
 no_gate_no_walk : (c : Netlist) (g : ℕ) → is_gate c g ≡ false → HasLevel c g

@@ -8,25 +8,6 @@ use crate::circuit::Circuit;
 use crate::rows::{NoMemory, Rows};
 use std::alloc::Global;
 
-/// How many operands a net has.
-fn read_count(circuit: &Circuit, net: u32) -> u32
-    requires { net < length circuit.now.nets }
-    ensures { result ≡ (net_at circuit.now net).pin_count }
-{
-    circuit.nets().as_slice()[net as usize].pin_count
-}
-
-/// The net that a net reads at one of its operands.
-fn read_at(circuit: &Circuit, net: u32, index: u32) -> u32
-    requires net { net < length circuit.now.nets }
-    requires index { index < (net_at circuit.now net).pin_count }
-    ensures value { result ≡ (pin_at circuit.now ((net_at circuit.now net).first_pin + index)).net }
-    ensures in_range { result < length circuit.now.nets }
-{
-    let first = circuit.nets().as_slice()[net as usize].first_pin;
-    circuit.pins().as_slice()[first as usize + index as usize].net
-}
-
 /// Whether a gate has a mark or reads a net with one.
 fn is_reached(circuit: &Circuit, marks: &[bool], gate: u32) -> bool
     requires gate { gate < length circuit.now.nets }
@@ -36,8 +17,8 @@ fn is_reached(circuit: &Circuit, marks: &[bool], gate: u32) -> bool
     if marks[gate as usize] {
         return true;
     }
-    for i in 0..read_count(circuit, gate) {
-        if marks[read_at(circuit, gate, i) as usize] {
+    for i in 0..circuit.read_count(gate) {
+        if marks[circuit.read_at(gate, i) as usize] {
             return true;
         }
     }
@@ -50,8 +31,8 @@ fn mark_reads(circuit: &Circuit, marks: &mut [bool], gate: u32)
     requires marks { length marks.old ≡ length circuit.now.nets }
     ensures { (n : ℕ) → is_marked marks.new n ≡ (is_marked marks.old n || list_any (λ h. n == h) (reads circuit.now gate)) }
 {
-    for i in 0..read_count(circuit, gate) {
-        marks[read_at(circuit, gate, i) as usize] = true;
+    for i in 0..circuit.read_count(gate) {
+        marks[circuit.read_at(gate, i) as usize] = true;
     }
 }
 
@@ -114,6 +95,25 @@ fn marked_nets(alloc: Global, marks: &[bool]) -> Result<Rows<u32>, NoMemory>
 }
 
 impl Circuit {
+    /// How many operands a net has.
+    pub fn read_count(&self, net: u32) -> u32
+        requires { net < length self.now.nets }
+        ensures { result ≡ (net_at self.now net).pin_count }
+    {
+        self.nets().as_slice()[net as usize].pin_count
+    }
+
+    /// The net that a net reads at one of its operands.
+    pub fn read_at(&self, net: u32, index: u32) -> u32
+        requires net { net < length self.now.nets }
+        requires index { index < (net_at self.now net).pin_count }
+        ensures value { result ≡ (pin_at self.now ((net_at self.now net).first_pin + index)).net }
+        ensures in_range { result < length self.now.nets }
+    {
+        let first = self.nets().as_slice()[net as usize].first_pin;
+        self.pins().as_slice()[first as usize + index as usize].net
+    }
+
     /// The nets from which a walk forward through gates leads to a net, the net itself among them. Takes a time in
     /// proportion to the nets and pins.
     pub fn cone_in(&self, net: u32) -> Result<Rows<u32>, NoMemory>
