@@ -1,0 +1,135 @@
+ghost use Rattle.std.specs.Prelude.{◌≡◌, ◌<◌, ◌≤◌, ◌==◌, ◌++◌, ℕ, false, length, map, filter, not, All, IfOk, OnOk, slice_index};
+ghost use Rattle.std.specs.List.{list_any};
+ghost use Rattle.std.specs.Int.{bit_at};
+ghost use Rattle.scan_model.specs.Netlist.{reads};
+ghost use Rattle.scan_model.specs.Cone.{in_fan_in};
+ghost use Rattle.scan_model.specs.BitTable.{table_bit};
+ghost use Rattle.bridge_pairs.specs.PairText.{is_feedback, parted};
+
+use scan_model::{Circuit, NoMemory, Pair, Pairs, Rows, bit, set_bit, set_bits};
+use std::alloc::Global;
+
+/// How many pairs one sweep tells: a word has a bit for each.
+const BATCH: usize = 64;
+
+/// The bits that a gate's operands have.
+fn read_mask(circuit: &Circuit, words: &[u64], gate: u32) -> u64
+    requires gate { gate < length circuit.now.nets }
+    requires words { length words.now ≡ length circuit.now.nets }
+    ensures { (j : ℕ) → j < 64 → (bit_at result j == 1) ≡ list_any (table_bit words.now (length circuit.now.nets) j) (reads circuit.now gate) }
+{
+    let mut mask = 0;
+    for i in 0..circuit.read_count(gate) {
+        mask |= words[circuit.read_at(gate, i) as usize];
+    }
+    mask
+}
+
+/// Sets bit j of the word of the start j.
+fn set_starts(words: &mut [u64], starts: &[u32])
+    requires starts { All (λ n. n < length words.old) starts.now }
+    requires count { length starts.now ≤ 64 }
+    requires blank { (j n : ℕ) → n < length words.old → table_bit words.old (length words.old) j n ≡ false }
+    ensures { (j n : ℕ) → j < length starts.now → n < length words.new → table_bit words.new (length words.new) j n ≡ (n == slice_index starts.now j) }
+{
+    for (j, start) in starts.iter().enumerate() {
+        set_bit(words, words.len(), j, *start as usize);
+    }
+}
+
+/// Sets bit j of the words of the fan-out cone of the start j.
+fn sweep(circuit: &Circuit, words: &mut [u64], starts: &[u32])
+    requires words { length words.old ≡ length circuit.now.nets }
+    requires starts { All (λ n. n < length circuit.now.nets) starts.now }
+    requires count { length starts.now ≤ 64 }
+    requires blank { (j n : ℕ) → n < length words.old → table_bit words.old (length words.old) j n ≡ false }
+    ensures { (j n : ℕ) → j < length starts.now → n < length circuit.now.nets → table_bit words.new (length circuit.now.nets) j n ≡ in_fan_in circuit.now (slice_index starts.now j) n }
+{
+    let order = circuit.order().as_slice();
+    let count = circuit.nets().len();
+    set_starts(words, starts);
+    for gate in order {
+        let mask = read_mask(circuit, words, *gate);
+        set_bits(words, count, 0, *gate as usize, mask);
+    }
+}
+
+/// A word for each net, whose bit j tells whether the start j lies in the net's fan-in cone.
+fn cone_words(alloc: Global, circuit: &Circuit, starts: &[u32]) -> Result<Vec<u64>, NoMemory>
+    requires starts { All (λ n. n < length circuit.now.nets) starts.now }
+    requires count { length starts.now ≤ 64 }
+    ensures len { IfOk result (λ words. length words.items ≡ length circuit.now.nets) }
+    ensures bits { IfOk result (λ words. (j n : ℕ) → j < length starts.now → n < length circuit.now.nets → table_bit words.items (length circuit.now.nets) j n ≡ in_fan_in circuit.now (slice_index starts.now j) n) }
+{
+    let mut words = vec![in alloc; 0u64; circuit.nets().len()]?;
+    sweep(circuit, &mut words, starts);
+    Ok(words)
+}
+
+fn first_nets(alloc: Global, batch: &[Pair]) -> Result<Vec<u32>, NoMemory>
+    ensures { IfOk result (λ nets. nets.items ≡ map (λ p. p.a) batch.now) }
+{
+    Ok(batch.iter().map(|pair| pair.a).collect(alloc)?)
+}
+
+fn second_nets(alloc: Global, batch: &[Pair]) -> Result<Vec<u32>, NoMemory>
+    ensures { IfOk result (λ nets. nets.items ≡ map (λ p. p.b) batch.now) }
+{
+    Ok(batch.iter().map(|pair| pair.b).collect(alloc)?)
+}
+
+/// Which pairs of a batch are feedback pairs.
+fn feedback_in(alloc: Global, circuit: &Circuit, batch: &[Pair]) -> Result<Vec<bool>, NoMemory>
+    requires nets { All (λ p. (p.a < length circuit.now.nets) × (p.b < length circuit.now.nets)) batch.now }
+    requires count { length batch.now ≤ 64 }
+    ensures { IfOk result (λ tests. tests.items ≡ map (is_feedback circuit.now) batch.now) }
+{
+    let firsts = first_nets(alloc, batch)?;
+    let seconds = second_nets(alloc, batch)?;
+    let from_a = cone_words(alloc, circuit, &firsts)?;
+    let from_b = cone_words(alloc, circuit, &seconds)?;
+    let count = circuit.nets().len();
+    let mut tests = Vec::new(alloc);
+    for (j, pair) in batch.iter().enumerate() {
+        let a_of_b = bit(&from_a, count, j, pair.b as usize);
+        let b_of_a = bit(&from_b, count, j, pair.a as usize);
+        tests.push(a_of_b | b_of_a)?;
+    }
+    Ok(tests)
+}
+
+/// Adds a batch of pairs at the ends of those kept and those left out.
+fn part_batch(alloc: Global, circuit: &Circuit, batch: &[Pair], parts: &mut Pairs) -> Result<(), NoMemory>
+    requires nets { All (λ p. (p.a < length circuit.now.nets) × (p.b < length circuit.now.nets)) batch.now }
+    requires count { length batch.now ≤ 64 }
+    ensures kept { OnOk result (parts.new.kept ≡ parts.old.kept ++ filter (λ p. not (is_feedback circuit.now p)) batch.now) }
+    ensures left_out { OnOk result (parts.new.left_out ≡ parts.old.left_out ++ filter (is_feedback circuit.now) batch.now) }
+{
+    let tests = feedback_in(alloc, circuit, batch)?;
+    for (j, pair) in batch.iter().enumerate() {
+        if tests[j] {
+            parts.left_out.push(*pair)?;
+        } else {
+            parts.kept.push(*pair)?;
+        }
+    }
+    Ok(())
+}
+
+/// Parts the feedback pairs from the others. Takes two sweeps over the gates and pins for each 64 pairs.
+pub fn part(alloc: Global, circuit: &Circuit, pairs: &[Pair]) -> Result<Pairs, NoMemory>
+    requires { All (λ p. (p.a < length circuit.now.nets) × (p.b < length circuit.now.nets)) pairs.now }
+    ensures { IfOk result (λ parts. parts ≡ parted circuit.now pairs.now) }
+{
+    let mut parts = Pairs {
+        kept: Rows::new(alloc),
+        left_out: Rows::new(alloc),
+    };
+    let mut at = 0;
+    while at < pairs.len() {
+        let end = pairs.len().min(at + BATCH);
+        part_batch(alloc, circuit, &pairs[at..end], &mut parts)?;
+        at = end;
+    }
+    Ok(parts)
+}
