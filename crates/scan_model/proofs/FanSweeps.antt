@@ -148,21 +148,26 @@ module _ (c : Netlist) (order : List ℕ) (sound : IsNetlist c) (ordered : IsEva
   pub read_of_in : (g h n : ℕ) → n < length c.nets → is_gate c g ≡ true → Contains (reads c g) h → in_fan_in c g n ≡ true → in_fan_in c h n ≡ true
   read_of_in g h n lt gate read in' = in_fan_in-is c order h ordered n lt ∙ deeper g h gate read (suc (length c.nets)) n in'
 
-  pub swept_none : (m : ℕ) (marked : ℕ → Bool) → ((n : ℕ) → marked n ≡ eqb n m) → IsSwept c order m 0 marked
-  swept_none m marked is = record {
-    sound = λ n lt e. let same : n ≡ m = eqb-true n m (sym (is n) ∙ e) in ap (in_fan_in c m) same ∙ in_own c m;
-    own = is m ∙ eq-eqb m m refl;
+  pub swept_none : (m : ℕ) (marked : ℕ → Bool) → m < length c.nets → ((n : ℕ) → n < length c.nets → marked n ≡ eqb n m) → IsSwept c order m 0 marked
+  swept_none m marked m_lt is = record {
+    sound = λ n lt e. let same : n ≡ m = eqb-true n m (sym (is n lt) ∙ e) in ap (in_fan_in c m) same ∙ in_own c m;
+    own = is m m_lt ∙ eq-eqb m m refl;
     done = λ n in'. absurd (omega (arith, in'.1));
   }
 
-  pub swept_more : (m k : ℕ) (old new : ℕ → Bool) → k < length order → IsSwept c order m k old
-      → new (get_or order k 0) ≡ (old (get_or order k 0) || list_any old (reads c (get_or order k 0))) → ((n : ℕ) → n ≢ get_or order k 0 → new n ≡ old n) → IsSwept c order m (k + 1) new
-  swept_more m k old new lt swept here others =
+  listed_in_range : (k n : ℕ) → k ≤ length order → Contains (take k order) n → n < length c.nets
+  listed_in_range k n le in' =
+      let at = in_front order k n le in' in
+      rw (← at.2) (ordered.gates at.0 (omega (arith, at.1))).0
+
+  pub swept_more : (m k : ℕ) (old new : ℕ → Bool) → m < length c.nets → k < length order → IsSwept c order m k old
+      → new (get_or order k 0) ≡ (old (get_or order k 0) || list_any old (reads c (get_or order k 0))) → ((n : ℕ) → n < length c.nets → n ≢ get_or order k 0 → new n ≡ old n) → IsSwept c order m (k + 1) new
+  swept_more m k old new m_lt lt swept here others =
       let g = get_or order k 0 in
       let gate = ordered.gates k lt in
-      let keeps : (n : ℕ) → old n ≡ true → new n ≡ true = λ n e. elim (cases_eq n g) [
+      let keeps : (n : ℕ) → n < length c.nets → old n ≡ true → new n ≡ true = λ n in_range e. elim (cases_eq n g) [
         | inl same ↦ ap new same ∙ here ∙ or_left (old g) (list_any old (reads c g)) (ap old (sym same) ∙ e)
-        | inr other ↦ others n other ∙ e
+        | inr other ↦ others n in_range other ∙ e
       ] in
       record {
         sound = λ n in_range e. elim (cases_eq n g) [
@@ -172,12 +177,12 @@ module _ (c : Netlist) (order : List ℕ) (sound : IsNetlist c) (ordered : IsEva
                 let r = any_found old (reads c g) read in
                 ap (in_fan_in c m) same ∙ in_of_read m g r.0 gate.0 gate.1 r.1 (swept.sound r.0 (reads_in_range c g r.0 sound gate.0 r.1) r.2)
           ]
-          | inr other ↦ swept.sound n in_range (sym (others n other) ∙ e)
+          | inr other ↦ swept.sound n in_range (sym (others n in_range other) ∙ e)
         ];
-        own = keeps m swept.own;
+        own = keeps m m_lt swept.own;
         done = λ n in' e. elim (cases_eq n g) [
           | inl same ↦ elim (in_cases m g gate.0 (ap (in_fan_in c m) (sym same) ∙ e)) [
-            | inl is ↦ ap new (same ∙ is) ∙ keeps m swept.own
+            | inl is ↦ ap new (same ∙ is) ∙ keeps m m_lt swept.own
             | inr read ↦
                 let r = read.1 in
                 let marked : old r.0 ≡ true = elim (cases_Bool (is_gate c r.0)) [
@@ -188,7 +193,7 @@ module _ (c : Netlist) (order : List ℕ) (sound : IsNetlist c) (ordered : IsEva
           ]
           | inr other ↦
               let before : Contains (take k order) n = elim (Contains-push_cases (take k order) g n (rw (take_more order k 0 lt) at in')) [ inl earlier ↦ earlier | inr same ↦ absurd (other (sym same)) ] in
-              keeps n (swept.done n before e)
+              keeps n (listed_in_range k n (omega arith) before) (swept.done n before e)
         ];
       }
 
@@ -318,9 +323,9 @@ module _ (c : Netlist) (g i r : ℕ) (is : r ≡ (pin_at c ((net_at c g).first_p
       or_false false = refl
 
 -- a gate gets its mark
-pub mark_swept : (c : Netlist) (order : List ℕ) → IsNetlist c → IsEvaluationOrder c order → (m k : ℕ) (marks : List Bool) (marked : Bool) → length marks ≡ length c.nets → k < length order → IsSwept c order m k (is_marked marks)
+pub mark_swept : (c : Netlist) (order : List ℕ) → IsNetlist c → IsEvaluationOrder c order → (m k : ℕ) (marks : List Bool) (marked : Bool) → m < length c.nets → length marks ≡ length c.nets → k < length order → IsSwept c order m k (is_marked marks)
     → marked ≡ (is_marked marks (get_or order k 0) || list_any (is_marked marks) (reads c (get_or order k 0))) → IsSwept c order m (k + 1) (is_marked (set marks (get_or order k 0) marked))
-mark_swept c order sound ordered m k marks marked len lt swept is =
+mark_swept c order sound ordered m k marks marked m_lt len lt swept is =
     let g = get_or order k 0 in
-    swept_more c order sound ordered m k (is_marked marks) (is_marked (set marks g marked)) lt swept
-    (get_or-set_same marks g marked false (omega (arith, len, (ordered.gates k lt).0)) ∙ is) (λ n other. get_or-set_other marks g n marked false other)
+    swept_more c order sound ordered m k (is_marked marks) (is_marked (set marks g marked)) m_lt lt swept
+    (get_or-set_same marks g marked false (omega (arith, len, (ordered.gates k lt).0)) ∙ is) (λ n in_range other. get_or-set_other marks g n marked false other)
