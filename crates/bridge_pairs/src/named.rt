@@ -1,4 +1,4 @@
-ghost use Rattle.std.specs.Prelude.{◌≡◌, ◌≤◌, [], ◌∷◌, ◌++◌, ◌<◌, length, map, IfOk, OnOk, Ok, Some, None};
+ghost use Rattle.std.specs.Prelude.{◌≡◌, ◌≤◌, [], ◌∷◌, ◌++◌, ◌<◌, ◌^◌, length, map, IfOk, OnOk, Ok, Some, None};
 ghost use Rattle.csv.specs.Records.{fields_of};
 ghost use Rattle.scan_model.specs.TextFaults.{lowest};
 ghost use Rattle.bridge_pairs.specs.PairText.{trimmed, nets_named, names_no_net, names_one_net, names_too_many, with_pair, is_named, pair_rules};
@@ -91,6 +91,7 @@ impl NamedPairs {
         record: &ByteRecord,
     ) -> Result<Option<u32>, NoMemory>
         requires limit { length names.now ≤ 65536 }
+        requires index { index < 2 ^ 63 }
         ensures rule { IfOk result (λ r. r ≡ lowest (pair_rules names.now self.old index (map trimmed (fields_of record.now)))) }
         ensures taken { result ≡ Ok None → self.new ≡ with_pair names.now self.old index (nets_named index (map trimmed (fields_of record.now))) }
     {
@@ -110,6 +111,7 @@ impl NamedPairs {
         two: NetNames<'_>,
     ) -> Result<Option<u32>, NoMemory>
         requires limit { length names.now ≤ 65536 }
+        requires index { index < 2 ^ 63 }
         ensures rule { IfOk result (λ r. r ≡ lowest ((32, names_no_net names.now (Some (names_view two.entry))) ∷ (33, names_one_net names.now (Some (names_view two.entry))) ∷ (34, names_too_many names.now self.old index (Some (names_view two.entry))) ∷ [])) }
         ensures taken { result ≡ Ok None → self.new ≡ with_pair names.now self.old index (Some (names_view two.entry)) }
     {

@@ -1,4 +1,4 @@
-ghost use Rattle.std.specs.Prelude.{◌≡◌, ◌<◌, ◌≤◌, ◌==◌, ◌++◌, ℕ, false, length, map, filter, not, All, IfOk, OnOk, slice_index};
+ghost use Rattle.std.specs.Prelude.{◌≡◌, ◌<◌, ◌≤◌, ◌==◌, ◌||◌, [], ◌∷◌, ◌++◌, ℕ, false, if◌then◌else◌, length, map, filter, not, All, IfOk, OnOk, slice_index};
 ghost use Rattle.std.specs.List.{list_any};
 ghost use Rattle.std.specs.Int.{bit_at};
 ghost use Rattle.scan_model.specs.Netlist.{reads};
@@ -78,40 +78,47 @@ fn second_nets(alloc: Global, batch: &[Pair]) -> Result<Vec<u32>, NoMemory>
     Ok(batch.iter().map(|pair| pair.b).collect(alloc)?)
 }
 
-/// Which pairs of a batch are feedback pairs.
-fn feedback_in(alloc: Global, circuit: &Circuit, batch: &[Pair]) -> Result<Vec<bool>, NoMemory>
-    requires nets { All (λ p. (p.a < length circuit.now.nets) × (p.b < length circuit.now.nets)) batch.now }
-    requires count { length batch.now ≤ 64 }
-    ensures { IfOk result (λ tests. tests.items ≡ map (is_feedback circuit.now) batch.now) }
+/// Whether pair j of a batch is a feedback pair, from the words of its first nets and those of its second nets.
+fn is_feedback(from_a: &[u64], from_b: &[u64], j: usize, pair: &Pair) -> bool
+    requires j { j < 64 }
+    requires a { pair.now.a < length from_b.now }
+    requires b { pair.now.b < length from_a.now }
+    ensures { result ≡ (table_bit from_a.now (length from_a.now) j pair.now.b || table_bit from_b.now (length from_b.now) j pair.now.a) }
 {
-    let firsts = first_nets(alloc, batch)?;
-    let seconds = second_nets(alloc, batch)?;
-    let from_a = cone_words(alloc, circuit, &firsts)?;
-    let from_b = cone_words(alloc, circuit, &seconds)?;
-    let count = circuit.nets().len();
-    let mut tests = Vec::new(alloc);
-    for (j, pair) in batch.iter().enumerate() {
-        let a_of_b = bit(&from_a, count, j, pair.b as usize);
-        let b_of_a = bit(&from_b, count, j, pair.a as usize);
-        tests.push(a_of_b | b_of_a)?;
+    bit(from_a, from_a.len(), j, pair.b as usize) || bit(from_b, from_b.len(), j, pair.a as usize)
+}
+
+/// Adds a pair at the end of those kept or those left out.
+fn add_parted(parts: &mut Pairs, pair: Pair, is_feedback: bool) -> Result<(), NoMemory>
+    ensures kept { OnOk result (parts.new.kept ≡ parts.old.kept ++ (if is_feedback then [] else pair ∷ [])) }
+    ensures left_out { OnOk result (parts.new.left_out ≡ parts.old.left_out ++ (if is_feedback then pair ∷ [] else [])) }
+{
+    if is_feedback {
+        parts.left_out.push(pair)
+    } else {
+        parts.kept.push(pair)
     }
-    Ok(tests)
 }
 
 /// Adds a batch of pairs at the ends of those kept and those left out.
-fn part_batch(alloc: Global, circuit: &Circuit, batch: &[Pair], parts: &mut Pairs) -> Result<(), NoMemory>
+fn part_batch(
+    alloc: Global,
+    circuit: &Circuit,
+    batch: &[Pair],
+    parts: &mut Pairs,
+) -> Result<(), NoMemory>
     requires nets { All (λ p. (p.a < length circuit.now.nets) × (p.b < length circuit.now.nets)) batch.now }
     requires count { length batch.now ≤ 64 }
     ensures kept { OnOk result (parts.new.kept ≡ parts.old.kept ++ filter (λ p. not (is_feedback circuit.now p)) batch.now) }
     ensures left_out { OnOk result (parts.new.left_out ≡ parts.old.left_out ++ filter (is_feedback circuit.now) batch.now) }
 {
-    let tests = feedback_in(alloc, circuit, batch)?;
+    let first_nets = first_nets(alloc, batch)?;
+    let second_nets = second_nets(alloc, batch)?;
+    let from_a = cone_words(alloc, circuit, &first_nets)?;
+    let from_b = cone_words(alloc, circuit, &second_nets)?;
     for (j, pair) in batch.iter().enumerate() {
-        if tests[j] {
-            parts.left_out.push(*pair)?;
-        } else {
-            parts.kept.push(*pair)?;
-        }
+        let test = is_feedback(&from_a, &from_b, j, pair);
+        add_parted(parts, *pair, test)?;
     }
     Ok(())
 }
