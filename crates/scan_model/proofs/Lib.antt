@@ -5,6 +5,7 @@ pub mod Orders
 pub mod Gates
 pub mod Along
 pub mod NetValues
+pub mod FanSweeps
 pub mod Folds
 pub mod Assigned
 pub mod Inputs

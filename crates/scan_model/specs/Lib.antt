@@ -7,6 +7,7 @@ pub mod TestOrder
 pub mod GateSearch
 pub mod PinCounts
 pub mod Cone
+pub mod Marks
 pub mod ChainShift
 pub mod ScanTest
 pub mod Faults

@@ -4,6 +4,7 @@
 mod bits;
 mod branches;
 mod circuit;
+mod cones;
 mod digest;
 mod evaluation;
 mod expected;

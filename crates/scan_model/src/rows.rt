@@ -66,6 +66,11 @@ impl<T> Rows<T> {
         items
     }
 
+    /// The allocator that the list's memory comes from.
+    pub(crate) fn allocator(&self) -> Global {
+        *self.items.allocator()
+    }
+
     pub fn len(&self) -> usize
         ensures { result ≡ length self.now }
     {

@@ -1,0 +1,4 @@
+pub mod PairText
+pub mod PairSets
+pub mod FieldViews
+pub mod NamedNets

@@ -1,0 +1,10 @@
+//! Reads lists of pairs of neighbouring nets.
+#![tactic(auto)]
+
+mod fields;
+mod named;
+mod reading;
+mod records;
+mod sweep;
+
+pub use reading::read_pairs;

@@ -1,0 +1,53 @@
+ghost use Rattle.std.specs.Prelude.{◌≡◌, ◌≤◌, length, IfOk};
+ghost use Rattle.scan_model.specs.ScanText.{net_names};
+ghost use Rattle.scan_model.specs.ScanTest.{ArePairs};
+ghost use Rattle.text_parts.specs.Gives.{Gives};
+ghost use Rattle.bridge_pairs.specs.PairText.{records_in, naming, pairs_reading};
+ghost use Rattle.bridge_pairs.specs.NamedNets.{AreNamed};
+
+use crate::named::NamedPairs;
+use crate::records::records_of;
+use crate::sweep::part;
+use scan_model::{Circuit, Net, Pair, Pairs};
+use std::alloc::{AllocError, Global};
+use text_parts::{Names, ReadFault, TextFault};
+
+fn names_of(alloc: Global, nets: &[Net]) -> Result<Names<'_>, AllocError>
+    ensures { IfOk result (λ names. names ≡ net_names nets.now) }
+{
+    let mut names = Names::new(alloc);
+    for net in nets {
+        names.add(net.name.as_slice())?;
+    }
+    Ok(names)
+}
+
+/// The different pairs that a text names over these nets.
+fn named_pairs(alloc: Global, nets: &[Net], bytes: &[u8]) -> Result<Vec<Pair>, ReadFault>
+    requires { length nets.now ≤ 65536 }
+    ensures naming { Gives (λ v. v.items) result (naming (net_names nets.now) (records_in bytes.now)) }
+    ensures named { IfOk result (λ v. AreNamed (length nets.now) v.items) }
+{
+    let names = names_of(alloc, nets)?;
+    let records = records_of(alloc, bytes)?;
+    let mut named = NamedPairs::new(alloc);
+    for (i, record) in records.iter().enumerate() {
+        if let Some(rule) = named.take_record(&names, i, record)? {
+            let line = i as u64 + 1;
+            return Err(ReadFault::Text(TextFault { line, rule }));
+        }
+    }
+    Ok(named.into_vec())
+}
+
+/// The pairs that a list of neighbouring nets names, feedback pairs apart, or its first fault: the number of a record,
+/// counted from 1 with the header, and one of the rules 31 to 34. 64 pairs take two sweeps over the gates and pins.
+pub fn read_pairs(alloc: Global, circuit: &Circuit, bytes: &[u8]) -> Result<Pairs, ReadFault>
+    ensures reading { Gives (λ pairs. pairs) result (pairs_reading circuit.now bytes.now) }
+    ensures fits { IfOk result (ArePairs circuit.now) }
+{
+    let nets = circuit.nets().as_slice();
+    let named = named_pairs(alloc, nets, bytes)?;
+    let pairs = part(alloc, circuit, &named)?;
+    Ok(pairs)
+}

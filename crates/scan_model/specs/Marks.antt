@@ -1,0 +1,6 @@
+-- Marks on nets.
+use Rattle.std.specs.Prelude.{ℕ, List, Bool, false, slice_index_or}
+
+-- the net has a mark
+abbrev pub is_marked : List Bool → ℕ → Bool
+is_marked marks n = slice_index_or marks n false
