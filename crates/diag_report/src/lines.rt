@@ -1,6 +1,6 @@
 ghost use Rattle.std.specs.Prelude.{◌≡◌, ◌++◌, ◌∷◌, [], ◌<◌, length, decimal, OnOk};
 ghost use Rattle.scan_model.specs.ScanTest.{points_of, IsPoint};
-ghost use Rattle.scan_model.specs.Universe.{listed};
+ghost use Rattle.scan_model.specs.Universe.{universe};
 ghost use Rattle.scan_model.specs.ReportText as text_of;
 ghost use Rattle.fault_universe.specs.LineWords.{after_spaces};
 ghost use Rattle.diag_report.specs.LineEnds.{AddsLines};
@@ -99,8 +99,8 @@ pub(crate) fn candidate_line(
     rank: u64,
     row: &Scored,
 ) -> Result<(), NoMemory>
-    requires { row.now.place < length (listed parts.now) }
-    ensures { OnOk result (AddsLines (text_of.candidate_line (listed parts.now) parts.now (rank, row.now) ∷ []) draft.old draft.new) }
+    requires { row.now.place < length (universe parts.now) }
+    ensures { OnOk result (AddsLines (text_of.candidate_line (universe parts.now) parts.now (rank, row.now) ∷ []) draft.old draft.new) }
 {
     let Some(fault) = fault_at(parts, row.place) else {
         unreachable!()

@@ -3,7 +3,7 @@ ghost use Rattle.std.specs.List.{enumerate_from};
 ghost use Rattle.scan_model.specs.declared.logs.LogFacts.{LogFacts};
 ghost use Rattle.scan_model.specs.ScanTest.{points_of};
 ghost use Rattle.scan_model.specs.Response.{expected_rows};
-ghost use Rattle.scan_model.specs.Universe.{listed};
+ghost use Rattle.scan_model.specs.Universe.{universe};
 ghost use Rattle.scan_model.specs.ReportText as text_of;
 ghost use Rattle.log_join.specs.Joining.{StandsFor, IsJoinedOf};
 ghost use Rattle.diag_report.specs.LineEnds.{AddsLines};
@@ -66,8 +66,8 @@ fn candidate_lines(
     parts: &Parts,
     rows: &[Scored],
 ) -> Result<(), NoMemory>
-    requires { All (λ row. row.place < length (listed parts.now)) rows.now }
-    ensures { OnOk result (AddsLines (map (text_of.candidate_line (listed parts.now) parts.now) (enumerate_from 1 rows.now)) draft.old draft.new) }
+    requires { All (λ row. row.place < length (universe parts.now)) rows.now }
+    ensures { OnOk result (AddsLines (map (text_of.candidate_line (universe parts.now) parts.now) (enumerate_from 1 rows.now)) draft.old draft.new) }
 {
     for i in 0..rows.len() {
         candidate_line(alloc, draft, parts, i as u64 + 1, &rows[i])?;
@@ -84,8 +84,8 @@ fn write_lines(
 ) -> Result<Report, NoMemory>
     requires conflict { All (λ b. b.point < length (points_of parts.now)) tally.now.conflict }
     requires masked { All (λ b. b.point < length (points_of parts.now)) tally.now.masked }
-    requires places { All (λ row. row.place < length (listed parts.now)) rows.now }
-    ensures { IfOk result (λ r. r ≡ layout (listed parts.now) parts.now head.now.design head.now.die head.now.logs tally.now rows.now) }
+    requires places { All (λ row. row.place < length (universe parts.now)) rows.now }
+    ensures { IfOk result (λ r. r ≡ layout (universe parts.now) parts.now head.now.design head.now.die head.now.logs tally.now rows.now) }
 {
     let mut draft = new_draft(alloc);
     title(alloc, &mut draft, head)?;
@@ -114,8 +114,8 @@ pub fn make_text(
 ) -> Result<Report, NoMemory>
     requires expected { expected.now ≡ expected_rows parts.now }
     requires joined { IsJoinedOf (length parts.now.patterns) (length (points_of parts.now)) joined.now }
-    requires places { All (λ row. row.place < length (listed parts.now)) ranked.now }
-    ensures { (logs : List LogFacts) → StandsFor logs joined.now → IfOk result (λ r. r ≡ text_of.report_layout (listed parts.now) parts.now head.now.design head.now.die head.now.logs logs ranked.now) }
+    requires places { All (λ row. row.place < length (universe parts.now)) ranked.now }
+    ensures { (logs : List LogFacts) → StandsFor logs joined.now → IfOk result (λ r. r ≡ text_of.report_layout (universe parts.now) parts.now head.now.design head.now.die head.now.logs logs ranked.now) }
 {
     let tally = tally_bits(alloc, parts, expected, joined)?;
     write_lines(alloc, parts, head, &tally, ranked.as_slice())

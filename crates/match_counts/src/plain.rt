@@ -2,7 +2,7 @@ ghost use Rattle.std.specs.Prelude.{◌≡◌, ◌≤◌, ◌^◌, ◌++◌, ◌
 ghost use Rattle.scan_model.specs.declared.logs.LogFacts.{LogFacts};
 ghost use Rattle.scan_model.specs.ScanTest.{points_of, HasSite};
 ghost use Rattle.scan_model.specs.Response.{expected_rows};
-ghost use Rattle.scan_model.specs.Universe.{listed};
+ghost use Rattle.scan_model.specs.Universe.{universe};
 ghost use Rattle.scan_model.specs.MatchCounts.{counts_of, candidates_among, is_candidate};
 ghost use Rattle.log_join.specs.Joining.{StandsFor, IsJoinedOf};
 
@@ -60,7 +60,7 @@ pub fn plain_counts(
 ) -> Result<Rows<Scored>, NoMemory>
     requires expected { expected.now ≡ expected_rows parts.now }
     requires joined { IsJoinedOf (length parts.now.patterns) (length (points_of parts.now)) joined.now }
-    ensures { (logs : List LogFacts) → StandsFor logs joined.now → IfOk result (λ rows. rows ≡ candidates_among (listed parts.now) parts.now logs) }
+    ensures { (logs : List LogFacts) → StandsFor logs joined.now → IfOk result (λ rows. rows ≡ candidates parts.now logs) }
 {
     let mut rows = Rows::new(alloc);
     for place in 0..universe_len(parts) {

@@ -40,7 +40,3 @@ cells t = flat_map chain_faults (enumerate_from 0 t.chains)
 
 abbrev pub universe : ScanTest → List Fault
 universe t = stems t ++ branches t ++ bridges t ++ cells t
-
--- the lists of it that the report goes through so far
-abbrev pub listed : ScanTest → List Fault
-listed t = stems t ++ branches t

@@ -2,7 +2,7 @@ use Rattle.std.proofs.Common.{List, length, map, subst}
 use Rattle.std.specs.Prelude.{codes}
 use Rattle.std.specs.List.{enumerate_from}
 use Rattle.scan_model.specs.declared.logs.Bit.{Bit}
-use Rattle.scan_model.specs.Universe.{listed}
+use Rattle.scan_model.specs.Universe.{universe}
 use Rattle.scan_model.specs.ReportText.{bit_line, candidate_line}
 use Rattle.diag_report.specs.LineEnds.{AddsLines}
 use Rattle.diag_report.specs.Layout.{title_lines, total_lines, layout}
@@ -22,9 +22,9 @@ finished-requires c =
     let masked = map (bit_line t (codes "masked")) tally.masked in
     let third : AddsLines conflict d2 d3 = subst (λ (bits : List Bit). AddsLines (map (bit_line t (codes "conflict")) bits) d2 d3) c.as_slice.ensures c.in_ok-bit_lines.ensures in
     let fourth : AddsLines masked d3 d4 = subst (λ (bits : List Bit). AddsLines (map (bit_line t (codes "masked")) bits) d3 d4) c.as_slice-2.ensures c.in_ok-bit_lines-2.ensures in
-    let lines = layout (listed t) t head.design head.die head.logs tally rows in
+    let lines = layout (universe t) t head.design head.die head.logs tally rows in
     let has =
-    five_added (title_lines head.design head.die head.logs) (total_lines tally (length rows)) conflict masked (map (candidate_line (listed t) t) (enumerate_from 1 rows))
+    five_added (title_lines head.design head.die head.logs) (total_lines tally (length rows)) conflict masked (map (candidate_line (universe t) t) (enumerate_from 1 rows))
     c.new_draft-draft.result c.title.new.draft d2 d3 d4 c.candidate_lines.new.draft c.new_draft-draft.ensures.text c.new_draft-draft.ensures.ends
     c.in_ok-title.ensures c.in_ok-totals.ensures third fourth c.in_ok-candidate_lines.ensures in
     (lines, has)
@@ -42,9 +42,9 @@ returns c =
     let masked = map (bit_line t (codes "masked")) tally.masked in
     let third : AddsLines conflict d2 d3 = subst (λ (bits : List Bit). AddsLines (map (bit_line t (codes "conflict")) bits) d2 d3) c.as_slice.ensures c.in_ok-bit_lines.ensures in
     let fourth : AddsLines masked d3 d4 = subst (λ (bits : List Bit). AddsLines (map (bit_line t (codes "masked")) bits) d3 d4) c.as_slice-2.ensures c.in_ok-bit_lines-2.ensures in
-    let lines = layout (listed t) t head.design head.die head.logs tally rows in
+    let lines = layout (universe t) t head.design head.die head.logs tally rows in
     let has =
-    five_added (title_lines head.design head.die head.logs) (total_lines tally (length rows)) conflict masked (map (candidate_line (listed t) t) (enumerate_from 1 rows))
+    five_added (title_lines head.design head.die head.logs) (total_lines tally (length rows)) conflict masked (map (candidate_line (universe t) t) (enumerate_from 1 rows))
     c.new_draft-draft.result c.title.new.draft d2 d3 d4 c.candidate_lines.new.draft c.new_draft-draft.ensures.text c.new_draft-draft.ensures.ends
     c.in_ok-title.ensures c.in_ok-totals.ensures third fourth c.in_ok-candidate_lines.ensures in
     c.finished.ensures lines has
