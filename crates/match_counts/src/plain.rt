@@ -3,7 +3,7 @@ ghost use Rattle.scan_model.specs.declared.logs.LogFacts.{LogFacts};
 ghost use Rattle.scan_model.specs.ScanTest.{points_of, HasSite};
 ghost use Rattle.scan_model.specs.Response.{expected_rows};
 ghost use Rattle.scan_model.specs.Universe.{universe};
-ghost use Rattle.scan_model.specs.MatchCounts.{counts_of, candidates_among, is_candidate};
+ghost use Rattle.scan_model.specs.MatchCounts.{counts_of, candidates, is_candidate};
 ghost use Rattle.log_join.specs.Joining.{StandsFor, IsJoinedOf};
 
 use crate::tally::count_row;
