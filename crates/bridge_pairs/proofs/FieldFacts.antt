@@ -1,7 +1,7 @@
 -- Fields and their names.
-use Rattle.std.proofs.Common.{◌≡◌, ◌≢◌, ℕ, zero, suc, List, [], ◌∷◌, length, map, Option, Some, None, refl, sym, ap, ◌∙◌, arith}
+use Rattle.std.proofs.Common.{◌≡◌, ℕ, zero, suc, List, [], ◌∷◌, length, map, Some, None, refl, arith}
 use Rattle.csv.specs.Records.{field_at}
-use Rattle.bridge_pairs.specs.PairText.{TwoNames, two_names, trimmed}
+use Rattle.bridge_pairs.specs.PairText.{two_names, trimmed}
 
 pub names_of_two : (fields : List (List ℕ)) (a b : List ℕ) → length fields ≡ 2 → Some a ≡ field_at fields 0 → Some b ≡ field_at fields 1 → Some (record { a = trimmed a; b = trimmed b }) ≡ two_names (map trimmed fields)
 unfolding field_at

@@ -1,7 +1,7 @@
 -- One more record of a list of pairs.
-use Rattle.std.proofs.Common.{◌≡◌, ℕ, ◌+◌, ◌-◌, ◌<◌, ◌≤◌, Bool, true, false, not, cond, eqb, ◌&&◌, ◌||◌, List, [], ◌∷◌, ◌++◌, length, map, get_or, Option, Some, None, Ok, Err, is_some, refl, sym, ap, ◌∙◌, inl, inr, arith, add-one}
-use Rattle.std.specs.Prelude.{All, nat_lt, nat_le, bytes_eq}
-use Rattle.std.specs.List.{IsDistinct, AllByRecursion, list_any}
+use Rattle.std.proofs.Common.{◌≡◌, ℕ, ◌+◌, ◌-◌, ◌<◌, ◌≤◌, Bool, true, false, not, cond, ◌&&◌, List, [], ◌∷◌, ◌++◌, length, map, get_or, Option, Some, None, Ok, Err, is_some, refl, sym, ap, ◌∙◌, arith, add-one}
+use Rattle.std.specs.Prelude.{nat_lt, nat_le, bytes_eq}
+use Rattle.std.specs.List.{IsDistinct, AllByRecursion}
 use Rattle.std.proofs.lemmas.Bool.{not-false, or_parts, ltb-true, leb-false}
 use Rattle.std.proofs.lemmas.List.{get_or-map, length-map, length-append}
 use Rattle.std.proofs.lemmas.List.Elements.{All-nil, All-push}
@@ -13,7 +13,7 @@ use Rattle.scan_model.specs.NetlistText.{net_number}
 use Rattle.scan_model.specs.ScanTest.{same_pair}
 use Rattle.scan_model.proofs.FaultSteps.{fault_goes_on, fault_is_here, fault_is_none}
 use Rattle.text_parts.proofs.Places.{any_position}
-use Rattle.bridge_pairs.specs.PairText.{TwoNames, trimmed, record_at, two_names, nets_named, has_other_form, numbered, is_named, with_pair, pairs_before, pairs_in, pair_rules, pair_rule, pairs_fault, naming, names_no_net, names_one_net, names_too_many, pair_limit}
+use Rattle.bridge_pairs.specs.PairText.{TwoNames, trimmed, record_at, nets_named, has_other_form, numbered, is_named, with_pair, pairs_before, pairs_in, pair_rules, pair_rule, pairs_fault, naming, names_no_net, names_one_net, names_too_many, pair_limit}
 use Rattle.bridge_pairs.specs.NamedNets.{AreNamed}
 
 pub none_named : (nets : ℕ) → AreNamed nets []

@@ -1,5 +1,4 @@
-use Rattle.std.proofs.Common.{refl, sym, ap, ◌∙◌, arith, rules}
-use Rattle.std.specs.Option.{option_map}
+use Rattle.std.proofs.Common.{refl, arith}
 use Rattle.csv.specs.Records.{fields_of}
 use Rattle.bridge_pairs.proofs.FieldFacts.{names_of_two, field_missing, second_missing}
 use Rattle.bridge_pairs.proofs.fields.NetNames.of_record.Goals as goal

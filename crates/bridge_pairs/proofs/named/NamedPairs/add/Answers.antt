@@ -1,5 +1,4 @@
-use Rattle.std.proofs.Common.{◌≡◌, ◌∷◌, [], ◌++◌, sym, ap, ◌∙◌}
-use Rattle.bridge_pairs.specs.PairSets.{HasPairs, key_of}
+use Rattle.std.proofs.Common.{◌≡◌, ◌∷◌, [], ◌++◌, ap, ◌∙◌}
 use Rattle.bridge_pairs.proofs.SetSteps.{HasPairs-push}
 use Rattle.bridge_pairs.proofs.named.NamedPairs.add.Goals as goal
 
