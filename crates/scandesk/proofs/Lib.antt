@@ -1,4 +1,5 @@
 pub mod WordFacts
 pub mod Chain
+pub mod ReadLogs
 pub mod NoPairs
 pub mod Pages

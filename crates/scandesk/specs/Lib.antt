@@ -4,4 +4,5 @@ pub mod Work
 pub mod Requests
 pub mod Stops
 pub mod Ending
+pub mod Logs
 pub mod Joined

@@ -1,5 +1,5 @@
 -- What a command in memory says.
-use Rattle.std.specs.Prelude.{◌≡◌, ℕ, List, true}
+use Rattle.std.specs.Prelude.{◌≡◌, ℕ, List, map, string_bytes, true}
 use Rattle.scandesk.specs.declared.words.Diagnose.{Diagnose}
 use Rattle.scandesk.specs.Words.{Request, are_right, request_of}
 
@@ -11,7 +11,7 @@ said command = record {
   scan = command.scan.now;
   patterns = command.patterns.now;
   neighbours = command.neighbours.now;
-  log = command.log.now;
+  logs = map string_bytes command.logs.now;
 }
 
 -- the words are right, and this is what they name

@@ -48,6 +48,11 @@ Follows (Err (Refused n refusal)) reading = reading.outcome ≡ Err (n.now, refu
 Follows (Err (Fault n)) reading = Contains reading.read n.now
 Follows (Err NoMemory) reading = Unit {0}
 
+-- an answer, with what the view shows in place of its value
+abbrev pub shown : {X Y : Type 0} → (X → Y) → Result X Stop → Result Y Stop
+shown view (Ok x) = Ok (view x)
+shown view (Err stop) = Err stop
+
 -- the shelf failed
 abbrev pub is_fault : Stop → Bool
 is_fault (Refused n refusal) = false

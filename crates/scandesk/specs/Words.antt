@@ -1,5 +1,5 @@
 -- Which words are right, and what they name.
-use Rattle.std.specs.Prelude.{ℕ, List, [], length, Bool, not, ◌&&◌, ◌==◌, nat_lt, codes, slice_index, slice_index_or}
+use Rattle.std.specs.Prelude.{ℕ, List, [], length, Bool, not, ◌&&◌, ◌==◌, nat_lt, nat_le, drop, codes, slice_index, slice_index_or}
 use Rattle.std.specs.List.{list_all}
 use Rattle.std.specs.Str.{bytes_eq}
 use Rattle.scan_model.specs.Words.{is_tag}
@@ -12,10 +12,10 @@ is_plain_word word = nat_lt 0 (length word) && not (slice_index word 0 == 45)
 abbrev pub word_at : List (List ℕ) → ℕ → List ℕ
 word_at words place = slice_index_or words place []
 
--- `diagnose DESIGN DIE NETLIST SCAN PATTERNS NEIGHBOURS LOG`
+-- `diagnose DESIGN DIE NETLIST SCAN PATTERNS NEIGHBOURS LOG..` with one log or more
 abbrev pub are_right : List (List ℕ) → Bool
 are_right words =
-    length words == 8 && list_all is_plain_word words && bytes_eq (word_at words 0) (codes "diagnose") && is_tag (word_at words 1) && is_tag (word_at words 2)
+    nat_le 8 (length words) && list_all is_plain_word words && bytes_eq (word_at words 0) (codes "diagnose") && is_tag (word_at words 1) && is_tag (word_at words 2)
 
 -- the names of a design and a die, and of the files
 pub record Request : Type 0 where
@@ -25,7 +25,7 @@ pub record Request : Type 0 where
   pub scan : List ℕ
   pub patterns : List ℕ
   pub neighbours : List ℕ
-  pub log : List ℕ
+  pub logs : List (List ℕ)
 
 -- what right words name
 abbrev pub request_of : List (List ℕ) → Request
@@ -36,5 +36,5 @@ request_of words = record {
   scan = word_at words 4;
   patterns = word_at words 5;
   neighbours = word_at words 6;
-  log = word_at words 7;
+  logs = drop 7 words;
 }

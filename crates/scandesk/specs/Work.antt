@@ -10,7 +10,7 @@ use Rattle.scan_model.specs.ScanTest.{ScanTest, scan_test}
 use Rattle.scan_model.specs.NetlistText.{netlist_reading}
 use Rattle.scan_model.specs.ScanText.{scan_reading}
 use Rattle.scan_model.specs.PatternText.{pattern_frame, pattern_reading}
-use Rattle.scan_model.specs.LogText.{log_frame, log_reading}
+use Rattle.scan_model.specs.LogText.{LogFrame, log_frame, log_reading}
 use Rattle.scan_model.specs.Universe.{listed}
 use Rattle.scan_model.specs.DieReport.{die_report_among}
 use Rattle.scandesk.specs.declared.files.Refusal.{Refusal}
@@ -65,17 +65,28 @@ abbrev pub in_place_of : {X Y : Type 0} → Result X Refusal → Y → Result Y 
 in_place_of (Ok x) y = Ok y
 in_place_of (Err refusal) y = Err refusal
 
--- the report of one log, where its text breaks no rule
-abbrev pub log_report : ScanTest → List ℕ → List ℕ → List ℕ → Result (List ℕ) Refusal
-log_report t design die text =
-    in_place_of (by_rules (log_reading (log_frame t design die) text)) (die_report_among (listed t) t design die (text ∷ []))
+module _ (files : List File) (frame : LogFrame) where
+  -- the text of a log, where it breaks no rule
+  abbrev pub log_file : List ℕ → Reading (List ℕ)
+  log_file name = one_file files name (λ text. in_place_of (by_rules (log_reading frame text)) text)
 
-abbrev pub log_file : List File → Request → ScanTest → Reading (List ℕ)
-log_file files r t = one_file files r.log (log_report t r.design r.die)
+  -- the texts of logs, after those that are read before them
+  abbrev pub logs_after : List (List ℕ) → List (List ℕ) → Reading (List (List ℕ))
+  logs_after texts [] = value texts
+  logs_after texts (name ∷ names) = and_then (log_file name) (λ text. logs_after (texts ++ text ∷ []) names)
+
+  -- the texts of the logs of these names, each read and judged before the next is read
+  abbrev pub logs_reading : List (List ℕ) → Reading (List (List ℕ))
+  logs_reading names = logs_after [] names
+
+-- the report of the logs of a request, over its scan test
+abbrev pub with_design : List File → Request → ScanTest → Reading (List ℕ)
+with_design files r t =
+    and_then (logs_reading files (log_frame t r.design r.die) r.logs) (λ texts. value (die_report_among (listed t) t r.design r.die texts))
 
 -- the report of the files of a request
 abbrev pub report_reading : List File → Request → Reading (List ℕ)
-report_reading files r = and_then (design_reading files r) (log_file files r)
+report_reading files r = and_then (design_reading files r) (with_design files r)
 
 -- a status, the bytes to write, and the names of the files that decide it, in the order in which they are read
 pub record Output : Type 0 where

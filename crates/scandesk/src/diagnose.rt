@@ -2,14 +2,14 @@
 ghost use Rattle.std.specs.Prelude.{◌≡◌, ◌≢◌, ◌≤◌, ℕ, List, Some, IfOk, true};
 ghost use Rattle.desk_outside.specs.declared.shelf.File.{File};
 ghost use Rattle.desk_outside.specs.Faults.{Rose};
-ghost use Rattle.scandesk.specs.Reading.{one_file};
-ghost use Rattle.scandesk.specs.Work.{log_report, report_reading, output_of};
+ghost use Rattle.scandesk.specs.Work.{with_design, report_reading, output_of};
 ghost use Rattle.scandesk.specs.Requests.{said};
 ghost use Rattle.scandesk.specs.Stops.{Follows, ends_by_fault};
 ghost use Rattle.scandesk.specs.Ending.{IsDueOf};
 
 use crate::design::read_parts;
-use crate::files::{Stop, named, read_text};
+use crate::files::Stop;
+use crate::logs::{Logs, different_logs, read_logs};
 use crate::page::{Page, page_of};
 use crate::report::report_of;
 use crate::words::Diagnose;
@@ -17,24 +17,21 @@ use desk_outside::Shelf;
 use scan_model::{NoMemory, Parts, Rows};
 use std::alloc::Global;
 
-// The report of the log of a command, over its scan test.
+// The report of the logs of a command, over its scan test.
 fn read_log_report<'a, F: Shelf>(
     alloc: Global,
     shelf: &mut F,
     command: &Diagnose<'a>,
     parts: &Parts,
 ) -> Result<Rows<u8>, Stop<'a>>
-    ensures told { (held : List File) → F.files shelf.old ≡ Some held → Follows result (one_file held command.now.log.now (log_report parts.now command.now.design.now command.now.die.now)) }
+    ensures told { (held : List File) → F.files shelf.old ≡ Some held → Follows result (with_design held (said command.now) parts.now) }
     ensures fault { ends_by_fault result ≡ true → Rose (F.faults shelf.old) (F.faults shelf.new) }
     ensures later { F.faults shelf.old ≤ F.faults shelf.new }
 {
     let design = command.design.as_bytes();
     let die = command.die.as_bytes();
-    let text = read_text(alloc, shelf, command.log)?;
-    let answer = fail_logs::read_log(alloc, parts, design, die, &text);
-    let log = named(command.log, answer)?;
-    let mut logs = Rows::new(alloc);
-    logs.push(log)?;
+    let Logs { texts, facts } = read_logs(alloc, shelf, command, parts)?;
+    let logs = different_logs(alloc, texts.as_slice(), facts)?;
     let report = report_of(alloc, parts, design, die, logs.as_slice())?;
     Ok(Rows::from_vec(report))
 }

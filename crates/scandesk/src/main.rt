@@ -5,6 +5,7 @@ mod design;
 mod diagnose;
 mod file_shelf;
 mod files;
+mod logs;
 mod page;
 mod report;
 mod stdout_sink;

@@ -1,11 +1,11 @@
 //! The words of a command.
-ghost use Rattle.std.specs.Prelude.{◌≡◌, ◌<◌, List, map, length, true, false, MatchOption, string_bytes};
+ghost use Rattle.std.specs.Prelude.{◌≡◌, ◌<◌, ◌≤◌, List, map, length, drop, true, false, MatchOption, string_bytes};
 ghost use Rattle.std.specs.List.{list_all};
 ghost use Rattle.scan_model.specs.Words.{is_letter, is_digit, is_tag_byte, is_tag};
 ghost use Rattle.scandesk.specs.Words.{is_plain_word, are_right, word_at};
 ghost use Rattle.scandesk.specs.Requests.{Says};
 
-/// `diagnose DESIGN DIE NETLIST SCAN PATTERNS NEIGHBOURS LOG`
+/// `diagnose DESIGN DIE NETLIST SCAN PATTERNS NEIGHBOURS LOG..` with one log or more.
 #[derive(Drop)]
 pub struct Diagnose<'a> {
     pub design: &'a str,
@@ -14,7 +14,7 @@ pub struct Diagnose<'a> {
     pub scan: &'a str,
     pub patterns: &'a str,
     pub neighbours: &'a str,
-    pub log: &'a str,
+    pub logs: &'a [String],
 }
 
 fn is_letter(byte: u8) -> bool
@@ -72,11 +72,18 @@ fn word(words: &[String], place: usize) -> &str
     words[place].as_str()
 }
 
+fn words_from(words: &[String], place: usize) -> &[String]
+    requires { place ≤ length words.now }
+    ensures { map string_bytes result.now ≡ drop place (map string_bytes words.now) }
+{
+    &words[place..]
+}
+
 #[tactic(auto, using(crate::proofs::WordFacts::all_plain))]
 fn are_right(words: &[String]) -> bool
     ensures { result ≡ are_right (map string_bytes words.now) }
 {
-    if words.len() != 8 {
+    if words.len() < 8 {
         return false;
     }
     if !are_plain(words) {
@@ -102,6 +109,6 @@ pub fn diagnose_of(words: &[String]) -> Option<Diagnose<'_>>
         scan: word(words, 4),
         patterns: word(words, 5),
         neighbours: word(words, 6),
-        log: word(words, 7),
+        logs: words_from(words, 7),
     })
 }
