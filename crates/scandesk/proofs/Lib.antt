@@ -1,5 +1,4 @@
 pub mod WordFacts
 pub mod Chain
 pub mod ReadLogs
-pub mod NoPairs
 pub mod Pages

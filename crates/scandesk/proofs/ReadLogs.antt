@@ -7,7 +7,7 @@ use Rattle.desk_outside.specs.declared.shelf.File.{File}
 use Rattle.scan_model.specs.declared.logs.LogFacts.{LogFacts}
 use Rattle.scan_model.specs.Coverage.{FitsLog}
 use Rattle.scan_model.specs.ScanTest.{ScanTest}
-use Rattle.scan_model.specs.Universe.{listed}
+use Rattle.scan_model.specs.Universe.{universe}
 use Rattle.scan_model.specs.Words.{has_word}
 use Rattle.scan_model.specs.LogText.{LogFrame, log_frame, log_reading}
 use Rattle.scan_model.specs.DieReport.{different_after, different, accepted, die_report_among}
@@ -21,10 +21,10 @@ use Rattle.scandesk.proofs.Chain.{at_stop, after_serving}
 
 -- the report of the different texts follows, where the logs are read
 pub reports : (files : List File) (r : Request) (t : ScanTest) (texts : List (List ℕ)) (report : List ℕ)
-    → (logs_reading files (log_frame t r.design r.die) r.logs).outcome ≡ Ok texts → report ≡ die_report_among (listed t) t r.design r.die texts
+    → (logs_reading files (log_frame t r.design r.die) r.logs).outcome ≡ Ok texts → report ≡ die_report_among (universe t) t r.design r.die texts
     → Follows (Ok report) (with_design files r t)
 reports files r t texts report serves is =
-    after_serving (logs_reading files (log_frame t r.design r.die) r.logs) (λ ts. value (die_report_among (listed t) t r.design r.die ts)) texts (Ok report) serves (ap Ok (sym is))
+    after_serving (logs_reading files (log_frame t r.design r.die) r.logs) (λ ts. value (die_report_among (universe t) t r.design r.die ts)) texts (Ok report) serves (ap Ok (sym is))
 
 -- the next of the names that are left
 pub next_name : (words : List (String Global)) (i : ℕ) (word : String Global) → i < length words → word ≡ get_or words i word

@@ -4,7 +4,7 @@ use Rattle.text_parts.specs.declared.fault.ReadFault.{ReadFault}
 use Rattle.text_parts.specs.declared.fault.ReadFault.TheVariants as answer
 use Rattle.text_parts.specs.declared.fault.TextFault.{TextFault}
 use Rattle.scandesk.specs.declared.files.Refusal.{Refusal}
-use Rattle.scandesk.specs.declared.files.Refusal.TheVariants.{Absent, TooLong, Rule, OtherForm}
+use Rattle.scandesk.specs.declared.files.Refusal.TheVariants.{Absent, TooLong, Rule}
 use Rattle.scandesk.specs.declared.files.Stop.{Stop}
 use Rattle.scandesk.specs.declared.files.Stop.TheVariants.{Refused, Fault, NoMemory}
 use Rattle.scandesk.specs.Reading.{Reading, file_limit}
@@ -15,7 +15,6 @@ abbrev pub RefusesText : Option (List ℕ) → Refusal → Type 0
 RefusesText text Absent = text ≡ None
 RefusesText text TooLong = IsSomeAnd text (λ t. file_limit < length t)
 RefusesText text (Rule fault) = ⊥
-RefusesText text OtherForm = ⊥
 
 -- a stop at the file of that name, whose text is refused where it is no failure
 abbrev pub StopsAt : Option (List ℕ) → List ℕ → Stop → Type 0

@@ -10,11 +10,11 @@ use Rattle.scan_model.specs.ScanTest.{ScanTest, scan_test}
 use Rattle.scan_model.specs.NetlistText.{netlist_reading}
 use Rattle.scan_model.specs.ScanText.{scan_reading}
 use Rattle.scan_model.specs.PatternText.{pattern_frame, pattern_reading}
+use Rattle.bridge_pairs.specs.PairText.{pairs_reading}
 use Rattle.scan_model.specs.LogText.{LogFrame, log_frame, log_reading}
-use Rattle.scan_model.specs.Universe.{listed}
-use Rattle.scan_model.specs.DieReport.{die_report_among}
+use Rattle.scan_model.specs.DieReport.{die_report}
 use Rattle.scandesk.specs.declared.files.Refusal.{Refusal}
-use Rattle.scandesk.specs.declared.files.Refusal.TheVariants.{Absent, TooLong, Rule, OtherForm}
+use Rattle.scandesk.specs.declared.files.Refusal.TheVariants.{Absent, TooLong, Rule}
 use Rattle.scandesk.specs.Words.{Request, are_right, request_of}
 use Rattle.scandesk.specs.Reading.{Reading, value, one_file, and_then}
 
@@ -23,17 +23,8 @@ abbrev pub by_rules : {X : Type 0} → Result X (ℕ × ℕ) → Result X Refusa
 by_rules (Ok x) = Ok x
 by_rules (Err fault) = Err (Rule (record { line = fault.0; rule = fault.1 }))
 
--- no neighbours
-abbrev pub no_pairs : Pairs
-no_pairs = record { kept = []; left_out = [] }
-
--- so far a list of neighbours is empty
-abbrev pub neighbour_reading : List ℕ → Result Pairs Refusal
-neighbour_reading [] = Ok no_pairs
-neighbour_reading (b ∷ bs) = Err OtherForm
-
 module _ (files : List File) (r : Request) where
-  -- the circuit, then its chains, then patterns for both
+  -- the circuit, then its chains, patterns for both, and the neighbours of the circuit's nets
   abbrev pub netlist_file : Reading Netlist
   netlist_file = one_file files r.netlist (λ text. by_rules (netlist_reading text))
 
@@ -43,12 +34,12 @@ module _ (files : List File) (r : Request) where
   abbrev pub pattern_file : Netlist → List Chain → Reading (List Pattern)
   pattern_file c chains = one_file files r.patterns (λ text. by_rules (pattern_reading (pattern_frame c chains) text))
 
-  abbrev pub neighbour_file : Reading Pairs
-  neighbour_file = one_file files r.neighbours neighbour_reading
+  abbrev pub neighbour_file : Netlist → Reading Pairs
+  neighbour_file c = one_file files r.neighbours (λ text. by_rules (pairs_reading c text))
 
   -- the scan test, after the files before the neighbours, before the patterns, and before the chains
   abbrev pub with_patterns : Netlist → List Chain → List Pattern → Reading ScanTest
-  with_patterns c chains patterns = and_then neighbour_file (λ pairs. value (scan_test c chains patterns pairs))
+  with_patterns c chains patterns = and_then (neighbour_file c) (λ pairs. value (scan_test c chains patterns pairs))
 
   abbrev pub with_chains : Netlist → List Chain → Reading ScanTest
   with_chains c chains = and_then (pattern_file c chains) (with_patterns c chains)
@@ -82,7 +73,7 @@ module _ (files : List File) (frame : LogFrame) where
 -- the report of the logs of a request, over its scan test
 abbrev pub with_design : List File → Request → ScanTest → Reading (List ℕ)
 with_design files r t =
-    and_then (logs_reading files (log_frame t r.design r.die) r.logs) (λ texts. value (die_report_among (listed t) t r.design r.die texts))
+    and_then (logs_reading files (log_frame t r.design r.die) r.logs) (λ texts. value (die_report t r.design r.die texts))
 
 -- the report of the files of a request
 abbrev pub report_reading : List File → Request → Reading (List ℕ)
@@ -98,14 +89,12 @@ abbrev pub refusal_status : Refusal → ℕ
 refusal_status Absent = 4
 refusal_status TooLong = 11
 refusal_status (Rule fault) = 3
-refusal_status OtherForm = 12
 
 -- the line of a file that is refused
 abbrev pub refusal_line : List ℕ → Refusal → List ℕ
 refusal_line name Absent = name ++ codes " absent\n"
 refusal_line name TooLong = name ++ codes " too long\n"
 refusal_line name (Rule fault) = name ++ (codes " line " ++ (decimal fault.line ++ (codes " rule " ++ (decimal fault.rule ++ codes "\n"))))
-refusal_line name OtherForm = name ++ codes " not of the first form\n"
 
 abbrev pub outcome_status : Result (List ℕ) (List ℕ × Refusal) → ℕ
 outcome_status (Ok text) = 0

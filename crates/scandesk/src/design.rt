@@ -3,16 +3,17 @@ ghost use Rattle.std.specs.Prelude.{◌≡◌, ◌≤◌, ℕ, List, length, Som
 ghost use Rattle.desk_outside.specs.declared.shelf.File.{File};
 ghost use Rattle.desk_outside.specs.Faults.{Rose};
 ghost use Rattle.scan_model.specs.Circuits.{IsCircuit};
-ghost use Rattle.scan_model.specs.ScanTest.{AreChains, ArePatterns};
+ghost use Rattle.scan_model.specs.ScanTest.{AreChains, ArePatterns, ArePairs};
 ghost use Rattle.scan_model.specs.NetlistText.{netlist_reading};
 ghost use Rattle.scan_model.specs.ScanText.{scan_reading};
 ghost use Rattle.scan_model.specs.PatternText.{pattern_frame, pattern_reading};
+ghost use Rattle.bridge_pairs.specs.PairText.{pairs_reading};
 ghost use Rattle.scandesk.specs.Reading.{one_file};
-ghost use Rattle.scandesk.specs.Work.{by_rules, neighbour_reading, design_reading, no_pairs};
+ghost use Rattle.scandesk.specs.Work.{by_rules, design_reading};
 ghost use Rattle.scandesk.specs.Requests.{said};
 ghost use Rattle.scandesk.specs.Stops.{Follows, ends_by_fault};
 
-use crate::files::{Refusal, Stop, named, read_text};
+use crate::files::{Stop, named, read_text};
 use crate::words::Diagnose;
 use desk_outside::Shelf;
 use scan_model::{Chain, Circuit, Pairs, Parts, Pattern, Rows};
@@ -69,22 +70,20 @@ fn read_patterns<'a, F: Shelf>(
     )
 }
 
-fn read_pairs<'a, F: Shelf>(alloc: Global, shelf: &mut F, name: &'a str) -> Result<Pairs, Stop<'a>>
-    ensures told { (held : List File) → F.files shelf.old ≡ Some held → Follows result (one_file held name.now neighbour_reading) }
-    ensures none { IfOk result (λ pairs. pairs ≡ no_pairs) }
+fn read_neighbours<'a, F: Shelf>(
+    alloc: Global,
+    shelf: &mut F,
+    name: &'a str,
+    circuit: &Circuit,
+) -> Result<Pairs, Stop<'a>>
+    ensures told { (held : List File) → F.files shelf.old ≡ Some held → Follows result (one_file held name.now (λ text. by_rules (pairs_reading circuit.now text))) }
+    ensures fits { IfOk result (ArePairs circuit.now) }
     ensures fault { ends_by_fault result ≡ true → Rose (F.faults shelf.old) (F.faults shelf.new) }
     ensures same { F.files shelf.new ≡ F.files shelf.old }
     ensures later { F.faults shelf.old ≤ F.faults shelf.new }
 {
     let text = read_text(alloc, shelf, name)?;
-    if !text.is_empty() {
-        let refusal = Refusal::OtherForm;
-        return Err(Stop::Refused { name, refusal });
-    }
-    Ok(Pairs {
-        kept: Rows::new(alloc),
-        left_out: Rows::new(alloc),
-    })
+    named(name, bridge_pairs::read_pairs(alloc, circuit, &text))
 }
 
 /// The scan test of the files of a command.
@@ -101,6 +100,6 @@ pub fn read_parts<'a, F: Shelf>(
     let circuit = read_circuit(alloc, shelf, command.netlist)?;
     let chains = read_chains(alloc, shelf, command.scan, &circuit)?;
     let patterns = read_patterns(alloc, shelf, command.patterns, &circuit, &chains)?;
-    let pairs = read_pairs(alloc, shelf, command.neighbours)?;
+    let pairs = read_neighbours(alloc, shelf, command.neighbours, &circuit)?;
     Ok(Parts::make(alloc, circuit, chains, patterns, pairs)?)
 }

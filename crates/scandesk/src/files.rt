@@ -23,8 +23,6 @@ pub enum Refusal {
     TooLong,
     /// Its text breaks a rule, at its first fault.
     Rule(TextFault),
-    /// A list of neighbours that isn't empty, which isn't read yet.
-    OtherForm,
 }
 
 /// Why a command has no report.

@@ -31,7 +31,6 @@ fn refused_line(alloc: Global, name: &str, refusal: Refusal) -> Result<String, N
         Refusal::Absent => Ok(format!(in alloc; "{name} absent\n")?),
         Refusal::TooLong => Ok(format!(in alloc; "{name} too long\n")?),
         Refusal::Rule(fault) => rule_line(alloc, name, fault),
-        Refusal::OtherForm => Ok(format!(in alloc; "{name} not of the first form\n")?),
     }
 }
 
@@ -53,7 +52,6 @@ fn status_of(refusal: Refusal) -> u8
         Refusal::Rule(_) => 3,
         Refusal::Absent => 4,
         Refusal::TooLong => 11,
-        Refusal::OtherForm => 12,
     }
 }
 

@@ -2,8 +2,7 @@
 ghost use Rattle.std.specs.Prelude.{◌≡◌, All, length, take, IfOk};
 ghost use Rattle.scan_model.specs.Coverage.{FitsLog};
 ghost use Rattle.scan_model.specs.ScanTest.{points_of};
-ghost use Rattle.scan_model.specs.Universe.{listed};
-ghost use Rattle.scan_model.specs.ReportText.{report_text_among};
+ghost use Rattle.scan_model.specs.ReportText.{report_text};
 ghost use Rattle.log_join.specs.Joining.{StandsFor, IsJoinedOf};
 
 use diag_report::{Head, make_text, rank};
@@ -37,7 +36,7 @@ pub fn report_of(
     logs: &[LogFacts],
 ) -> Result<Vec<u8>, NoMemory>
     requires fits { All (FitsLog (length parts.now.patterns) (length (points_of parts.now))) logs.now }
-    ensures { IfOk result (λ text. text.items ≡ report_text_among (listed parts.now) parts.now design.now die.now logs.now) }
+    ensures { IfOk result (λ text. text.items ≡ report_text parts.now design.now die.now logs.now) }
 {
     let expected = expected_all(alloc, parts)?;
     let joined = joined_of(alloc, parts, logs)?;

@@ -4,7 +4,6 @@ use Rattle.scandesk.specs.Work.{netlist_file, scan_file, pattern_file, neighbour
 use Rattle.scandesk.specs.Reading.{value}
 use Rattle.scan_model.specs.ScanTest.{scan_test}
 use Rattle.scandesk.proofs.Chain.{at_stop, after_serving}
-use Rattle.scandesk.proofs.NoPairs.{no_pairs_fit}
 use Rattle.scandesk.proofs.design.read_parts.Goals as goal
 
 pub returns-in_err-chains-clause-told : goal.returns-in_err-chains-clause-told
@@ -41,12 +40,12 @@ returns-in_err-pairs-clause-told g c = λ held e.
     rw is (after_serving (netlist_file held r) (with_circuit held r) circuit (Err stop) (c.in_ok-circuit.ensures.told held e)
     (after_serving (scan_file held r circuit) (with_chains held r circuit) chains (Err stop) (c.in_ok-chains.ensures.told held same)
     (after_serving (pattern_file held r circuit chains) (with_patterns held r circuit chains) patterns (Err stop) (c.in_ok-patterns.ensures.told held same_after)
-    (at_stop (neighbour_file held r) (λ pairs. value (scan_test circuit chains patterns pairs)) stop (c.in_err-pairs.ensures.told held (c.read_patterns.ensures.same ∙ same_after))))))
+    (at_stop (neighbour_file held r circuit) (λ pairs. value (scan_test circuit chains patterns pairs)) stop (c.in_err-pairs.ensures.told held (c.read_patterns.ensures.same ∙ same_after))))))
 
 pub make-requires : goal.make-requires
 make-requires g c = record {
   circuit = c.in_ok-circuit.ensures.fits;
   chains = c.in_ok-chains.ensures.fits;
   patterns = c.in_ok-patterns.ensures.fits;
-  pairs = no_pairs_fit _ _ c.in_ok-pairs.ensures.none;
+  pairs = c.in_ok-pairs.ensures.fits;
 }

@@ -1,5 +1,5 @@
 use Rattle.std.proofs.Common.{◌≡◌, ◌∙◌, ap, length}
-use Rattle.scan_model.specs.Universe.{listed}
+use Rattle.scan_model.specs.Universe.{universe}
 use Rattle.scan_model.specs.ScanTest.{points_of}
 use Rattle.scan_model.specs.LogText.{log_frame}
 use Rattle.scan_model.specs.ReportText.{report_text_among}
@@ -29,7 +29,7 @@ returns-clause-told g c = λ held e.
     let kept : c.as_slice-2.result.now ≡ logs_of frame (different texts) =
         c.as_slice-2.ensures ∙ c.in_ok-logs.ensures.different frame (length t.patterns) (length (points_of t)) read ∙ ap (λ all. logs_of frame (different all)) same_texts in
     let report = c.in_ok-report.ensures
-        ∙ ap (λ design. report_text_among (listed t) t design c.as_bytes-die.result.now c.as_slice-2.result.now) c.as_bytes-design.ensures.value
-        ∙ ap (λ die. report_text_among (listed t) t r.design die c.as_slice-2.result.now) c.as_bytes-die.ensures.value
-        ∙ ap (λ logs. report_text_among (listed t) t r.design r.die logs) kept in
+        ∙ ap (λ design. report_text_among (universe t) t design c.as_bytes-die.result.now c.as_slice-2.result.now) c.as_bytes-design.ensures.value
+        ∙ ap (λ die. report_text_among (universe t) t r.design die c.as_slice-2.result.now) c.as_bytes-die.ensures.value
+        ∙ ap (λ logs. report_text_among (universe t) t r.design r.die logs) kept in
     reports held r t texts c.from_vec.result (c.in_ok-texts.ensures.told held e) (c.from_vec.ensures ∙ report)
