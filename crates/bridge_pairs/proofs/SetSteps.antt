@@ -8,19 +8,15 @@ use Rattle.std.proofs.lemmas.Bool.Decides.{nat_tests}
 use Rattle.std.proofs.lemmas.List.Folds.{list_any-append}
 use Rattle.scan_model.specs.declared.parts.Pair.{Pair}
 use Rattle.scan_model.specs.ScanTest.{same_pair}
+use Rattle.scan_model.proofs.FanSweeps.{same_answer}
 use Rattle.bridge_pairs.specs.PairText.{is_named}
 use Rattle.bridge_pairs.specs.PairSets.{pair_cmp, key_of, HasPairs}
 
-same_answer : (a b : Bool) → (a ≡ true → b ≡ true) → (b ≡ true → a ≡ true) → a ≡ b
-same_answer true b to from = sym (to refl)
-same_answer false true to from = from refl
-same_answer false false to from = refl
-
-pub pair_cmp_eq : (a b x y : ℕ) → is_eq (pair_cmp (a, b) (x, y)) ≡ (eqb a x && eqb b y)
+pair_cmp_eq : (a b x y : ℕ) → is_eq (pair_cmp (a, b) (x, y)) ≡ (eqb a x && eqb b y)
 pair_cmp_eq a b x y = grind (arith, nat_tests)
 
--- two pairs have one key exactly where they have the same two nets
-pub same_key : (p q : Pair) → is_eq (pair_cmp (key_of p) (key_of q)) ≡ same_pair p q
+-- Two pairs have one key exactly where they have the same two nets
+same_key : (p q : Pair) → is_eq (pair_cmp (key_of p) (key_of q)) ≡ same_pair p q
 same_key p q = pair_cmp_eq (min p.a p.b) (max p.a p.b) (min q.a q.b) (max q.a q.b) ∙ same_answer (eqb (min p.a p.b) (min q.a q.b) && eqb (max p.a p.b) (max q.a q.b)) (same_pair p q) to from
   where
     to : (eqb (min p.a p.b) (min q.a q.b) && eqb (max p.a p.b) (max q.a q.b)) ≡ true → same_pair p q ≡ true

@@ -104,6 +104,7 @@ impl NamedPairs {
         self.take_names(names, index, two)
     }
 
+    /// The same for the names of a record that is not the header.
     fn take_names(
         &mut self,
         names: &Names<'_>,

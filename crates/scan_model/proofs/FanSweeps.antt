@@ -111,7 +111,8 @@ pub record IsSpread (c : Netlist) (order : List ℕ) (n k : ℕ) (marked : ℕ �
   pub sound : (m : ℕ) → m < length c.nets → marked m ≡ true → in_fan_in c m n ≡ true
   pub reach : (m : ℕ) → in_fan_in c m n ≡ true → (marked m ≡ true) ⊎ ((i : ℕ) × (i < k) × (marked (get_or order i 0) ≡ true) × (in_fan_in c m (get_or order i 0) ≡ true))
 
-same_answer : (a b : Bool) → (a ≡ true → b ≡ true) → (b ≡ true → a ≡ true) → a ≡ b
+-- two tests that pass together are one
+pub same_answer : (a b : Bool) → (a ≡ true → b ≡ true) → (b ≡ true → a ≡ true) → a ≡ b
 same_answer true b to from = sym (to refl)
 same_answer false true to from = from refl
 same_answer false false to from = refl
