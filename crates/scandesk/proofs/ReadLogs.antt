@@ -1,6 +1,6 @@
 -- Logs that are read one after another, and the different ones among them.
-use Rattle.std.proofs.Common.{◌≡◌, ◌∙◌, ◌<◌, ◌+◌, ℕ, Bool, true, false, List, [], ◌∷◌, ◌++◌, String, Global, get_or, refl, sym, ap, map, length, drop, string_bytes, Result, Ok, Err, append_assoc, arith}
-use Rattle.std.specs.Prelude.{All, if◌then◌else◌}
+use Rattle.std.proofs.Common.{◌≡◌, ◌∙◌, ◌<◌, ◌+◌, ℕ, Bool, true, false, List, [], ◌∷◌, ◌++◌, String, Global, get_or, refl, sym, ap, map, length, drop, string_bytes, Ok, Err, append_assoc}
+use Rattle.std.specs.Prelude.{if◌then◌else◌}
 use Rattle.std.proofs.lemmas.List.{append-nil, drop-map, drop_more, map-append}
 use Rattle.std.proofs.lemmas.List.Elements.{All-head, All-tail, All-cons, All-nil, All-append, filter_map-append}
 use Rattle.desk_outside.specs.declared.shelf.File.{File}
@@ -77,13 +77,13 @@ module _ (frame : LogFrame) (patterns points : ℕ) where
     read = record { stand = cc old.read.stand; fit = All-tail Fits log more old.read.fit };
   }
   kept_by false all rest seen more kept text log is old =
-    let stands : log_reading frame text ≡ Ok log = cc old.read.stand in
-    record {
-    texts = append_assoc seen (text ∷ []) (different_after (seen ++ text ∷ []) rest) ∙ rw is at old.texts;
-    logs = ap (λ logs. logs ++ log ∷ []) old.logs ∙ sym (filter_map-append (λ t. accepted (log_reading frame t)) seen (text ∷ []) ∙ rw stands refl);
-    fit = All-append Fits kept (log ∷ []) old.fit (All-cons Fits log [] (All-head Fits log more old.read.fit) (All-nil Fits));
-    read = record { stand = cc old.read.stand; fit = All-tail Fits log more old.read.fit };
-  }
+      let stands : log_reading frame text ≡ Ok log = cc old.read.stand in
+      record {
+        texts = append_assoc seen (text ∷ []) (different_after (seen ++ text ∷ []) rest) ∙ rw is at old.texts;
+        logs = ap (λ logs. logs ++ log ∷ []) old.logs ∙ sym (filter_map-append (λ t. accepted (log_reading frame t)) seen (text ∷ []) ∙ rw stands refl);
+        fit = All-append Fits kept (log ∷ []) old.fit (All-cons Fits log [] (All-head Fits log more old.read.fit) (All-nil Fits));
+        read = record { stand = cc old.read.stand; fit = All-tail Fits log more old.read.fit };
+      }
 
   pub keeps_on : (all left rest seen new_seen : List (List ℕ)) (facts more kept new_kept : List LogFacts) (text : List ℕ) (log : LogFacts)
       → AreKept frame patterns points all left seen facts kept → left ≡ text ∷ rest → facts ≡ log ∷ more

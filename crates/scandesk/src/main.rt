@@ -1,4 +1,4 @@
-//! Diagnoses the fail log of a die: the outermost layer.
+//! Diagnoses the fail logs of a die: the outermost layer.
 #![tactic(auto)]
 
 mod design;

@@ -1,4 +1,4 @@
-use Rattle.std.proofs.Common.{rules, ◌≡◌, ◌≤◌, ◌+◌, ◌∙◌, List, ◌∷◌, ℕ, Err, length, drop, map, string_bytes, arith}
+use Rattle.std.proofs.Common.{rules, ◌≡◌, ◌≤◌, ◌+◌, ◌∙◌, ◌∷◌, Err, length, drop, map, string_bytes, arith}
 use Rattle.std.proofs.lemmas.List.{drop_all, length-map}
 use Rattle.scan_model.specs.ScanTest.{points_of}
 use Rattle.scan_model.specs.LogText.{log_frame}
