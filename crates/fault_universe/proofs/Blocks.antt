@@ -42,12 +42,18 @@ module _ {X Y : Type 0} (f : X → List Y) where
       slice_get-right (f y) (flat_map f xs) k (omega (arith, size y, mul-suc n i)) ∙ block_at n xs i j (k - length (f y)) x size at lt later
 
   -- an element is one of a block
-  pub owner : (P : X → Y → Type 0) (xs : List X) (y : Y) → ((x : X) → AllByRecursion (P x) (f x)) → Contains (flat_map f xs) y → (x : X) × Contains xs x × P x y
-  owner P [] y each there = absurd (omega (arith, there.1))
-  owner P (x ∷ xs) y each there = elim (Contains-append_cases (f x) (flat_map f xs) y there) [
-    | inl here ↦ (x, (0, omega arith, refl), All-contains (P x) (f x) y (All-from_recursion (P x) (f x) (each x)) here)
-    | inr later ↦ let at = owner P xs y each later in (at.0, (suc at.1.0, omega (arith, at.1.1), at.1.2), at.2)
+
+  pub block_of : (xs : List X) (y : Y) → Contains (flat_map f xs) y → (x : X) × Contains xs x × Contains (f x) y
+  block_of [] y there = absurd (omega (arith, there.1))
+  block_of (x ∷ xs) y there = elim (Contains-append_cases (f x) (flat_map f xs) y there) [
+    | inl here ↦ (x, (0, omega arith, refl), here)
+    | inr later ↦ let at = block_of xs y later in (at.0, (suc at.1.0, omega (arith, at.1.1), at.1.2), at.2)
   ]
+
+  pub owner : (P : X → Y → Type 0) (xs : List X) (y : Y) → ((x : X) → AllByRecursion (P x) (f x)) → Contains (flat_map f xs) y → (x : X) × Contains xs x × P x y
+  owner P xs y each there =
+      let at = block_of xs y there in
+      (at.0, at.1, All-contains (P at.0) (f at.0) y (All-from_recursion (P at.0) (f at.0) (each at.0)) at.2)
 
 -- where a fault stands, once other faults follow or stand before
 

@@ -3,3 +3,5 @@ pub mod StemPlaces
 pub mod Blocks
 pub mod BranchPlaces
 pub mod FaultSites
+pub mod BridgePlaces
+pub mod CellPlaces

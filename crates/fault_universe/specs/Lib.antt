@@ -1,3 +1,4 @@
 pub mod LineWords
 pub mod BitRows
 pub mod FoundPlace
+pub mod KeptPairs

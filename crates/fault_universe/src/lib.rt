@@ -2,6 +2,8 @@
 #![tactic(auto)]
 
 mod branches;
+mod bridges;
+mod cells;
 mod places;
 mod stems;
 mod texts;
