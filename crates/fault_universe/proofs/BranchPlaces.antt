@@ -1,24 +1,19 @@
 -- The branch faults: where each stands, and whose they are.
-use Rattle.std.proofs.Common.{◌≡◌, ℕ, ◌+◌, ◌*◌, ◌<◌, ◌≤◌, List, ◌++◌, length, get_or, Some, Result, Ok, Err, Bool, refl, subst, ◌∙◌, inl, inr, arith}
+use Rattle.std.proofs.Common.{◌≡◌, ℕ, ◌+◌, ◌*◌, ◌<◌, ◌≤◌, List, length, get_or, Some, Result, Ok, Err, Bool, refl, subst, ◌∙◌, inl, inr, arith}
 use Rattle.std.specs.Prelude.{filter, flat_map, slice_get, Contains}
 use Rattle.std.specs.List.{range_with_len}
 use Rattle.std.specs.List.Sorted.{IsBinarySearchResult}
 use Rattle.std.specs.Ordering.{nat_cmp}
 use Rattle.std.proofs.lemmas.Bool.{cases_lt}
 use Rattle.std.proofs.lemmas.List.{get_or_default}
-use Rattle.std.proofs.lemmas.List.Elements.{Contains-append_cases}
 use Rattle.std.proofs.lemmas.List.Sorted.{searched}
 use Rattle.std.proofs.lemmas.List.Sums.{length-filter, count_by-le-length}
 use Rattle.std.proofs.lemmas.List.FromFn.{length-range_with_len}
 use Rattle.std.proofs.lemmas.Option.{slice_get-get_or}
-use Rattle.scan_model.specs.declared.fault.Stuck.{Stuck}
 use Rattle.scan_model.specs.declared.fault.Stuck.TheVariants.{Zero, One}
 use Rattle.scan_model.specs.declared.fault.Fault.{Fault}
 use Rattle.scan_model.specs.declared.fault.Fault.TheVariants.{Stem, Branch, Bridge, Cell}
-use Rattle.scan_model.specs.Netlist.{is_branch, pin_numbers}
-use Rattle.scan_model.specs.ScanTest.{ScanTest}
-use Rattle.scan_model.specs.Universe.{branch_faults, stems, branches}
-use Rattle.fault_universe.proofs.StemPlaces.{only_stems}
+use Rattle.scan_model.specs.Universe.{branch_faults}
 use Rattle.fault_universe.proofs.Blocks.{length-blocks, block_at, owner}
 
 pub length-branches_of : (pins : List ℕ) → length (flat_map branch_faults pins) ≡ 2 * length pins
@@ -58,16 +53,3 @@ pin_missing pins pin (Err k) i found rising e there =
       | inl below ↦ absurd (omega (arith, told.1 there.0 below, is))
       | inr past ↦ absurd (omega (arith, told.2 there.0 past there.1, is))
     ]
-
--- a fault of another kind is among neither stems nor branches
-pub neither : (t : ScanTest) (f : Fault) → ((n : ℕ) (v : Stuck) → f ≡ Stem n v → ⊥) → ((p : ℕ) (v : Stuck) → f ≡ Branch p v → ⊥) → Contains (stems t ++ branches t) f → ⊥
-neither t (Stem n v) no_stem no_branch there = no_stem n v refl
-neither t (Branch p v) no_stem no_branch there = no_branch p v refl
-neither t (Bridge a b kind) no_stem no_branch there = elim (Contains-append_cases (stems t) (branches t) (Bridge a b kind) there) [
-  | inl here ↦ only_stems t (Bridge a b kind) here
-  | inr later ↦ (branch_owner (filter (is_branch t.netlist) (pin_numbers t.netlist)) (Bridge a b kind) later).2
-]
-neither t (Cell h i kind) no_stem no_branch there = elim (Contains-append_cases (stems t) (branches t) (Cell h i kind) there) [
-  | inl here ↦ only_stems t (Cell h i kind) here
-  | inr later ↦ (branch_owner (filter (is_branch t.netlist) (pin_numbers t.netlist)) (Cell h i kind) later).2
-]

@@ -1,5 +1,5 @@
 -- The cell faults: where each stands, and whose they are.
-use Rattle.std.proofs.Common.{◌≡◌, ℕ, zero, suc, ◌+◌, ◌-◌, ◌*◌, ◌/◌, ◌%◌, ◌<◌, ◌≤◌, List, ◌∷◌, [], ◌++◌, length, get_or, take, drop, Option, Some, None, refl, sym, ap, ◌∙◌, arith, subst, length-append}
+use Rattle.std.proofs.Common.{◌≡◌, ℕ, zero, suc, ◌+◌, ◌-◌, ◌*◌, ◌/◌, ◌%◌, ◌<◌, ◌≤◌, List, ◌∷◌, [], ◌++◌, length, get_or, take, drop, Some, refl, sym, ap, ◌∙◌, arith, length-append}
 use Rattle.std.specs.Prelude.{flat_map, slice_get, Contains}
 use Rattle.std.specs.List.{range_with_len, enumerate_from}
 use Rattle.std.proofs.lemmas.Option.{slice_get-get_or}
@@ -9,10 +9,9 @@ use Rattle.std.proofs.lemmas.List.{flat_map_more, length-take}
 use Rattle.std.proofs.lemmas.List.Folds.{length-flat_map-take}
 use Rattle.std.proofs.lemmas.List.FromFn.{length-range_with_len, get_or-range_with_len}
 use Rattle.scan_model.specs.declared.parts.Chain.{Chain}
-use Rattle.scan_model.specs.declared.fault.CellKind.{CellKind}
 use Rattle.scan_model.specs.declared.fault.Fault.{Fault}
 use Rattle.scan_model.specs.declared.fault.Fault.TheVariants.{Stem, Branch, Bridge, Cell}
-use Rattle.scan_model.specs.ScanTest.{cells_of, no_chain}
+use Rattle.scan_model.specs.ScanTest.{cells_of}
 use Rattle.scan_model.specs.Universe.{cell_faults, chain_faults}
 use Rattle.fault_universe.proofs.BitSteps.{enumerate_push}
 use Rattle.fault_universe.proofs.Blocks.{length-blocks, block_at, owner, block_of, slice_get-left, slice_get-right}

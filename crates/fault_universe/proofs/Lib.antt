@@ -2,6 +2,6 @@ pub mod BitSteps
 pub mod StemPlaces
 pub mod Blocks
 pub mod BranchPlaces
-pub mod FaultSites
+pub mod UniversePlaces
 pub mod BridgePlaces
 pub mod CellPlaces

@@ -1,4 +1,4 @@
-use Rattle.std.proofs.Common.{length, sym, arith}
+use Rattle.std.proofs.Common.{sym, arith}
 use Rattle.fault_universe.proofs.BridgePlaces.{length-bridges_of}
 use Rattle.fault_universe.proofs.bridges.bridge_count.Goals as goal
 

@@ -1,4 +1,4 @@
-use Rattle.std.proofs.Common.{◌*◌, sym, ◌∙◌, ap, length, arith}
+use Rattle.std.proofs.Common.{sym, ◌∙◌, arith}
 use Rattle.fault_universe.proofs.CellPlaces.{chain_room, in_this_chain, in_later_chain}
 use Rattle.fault_universe.proofs.cells.cell_at.Goals as goal
 

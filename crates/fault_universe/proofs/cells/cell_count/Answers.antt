@@ -1,4 +1,4 @@
-use Rattle.std.proofs.Common.{◌≡◌, ◌*◌, length, take, sym, ap, ◌∙◌, arith}
+use Rattle.std.proofs.Common.{length, ap, arith}
 use Rattle.std.proofs.Math.Seq.{take-length}
 use Rattle.scan_model.specs.ScanTest.{cells_of}
 use Rattle.fault_universe.proofs.CellPlaces.{length-cells_from}

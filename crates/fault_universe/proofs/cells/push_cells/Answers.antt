@@ -1,4 +1,4 @@
-use Rattle.std.proofs.Common.{◌++◌, List, length, ap, ◌∙◌, arith}
+use Rattle.std.proofs.Common.{◌++◌, List, ap, ◌∙◌, arith}
 use Rattle.std.specs.Prelude.{flat_map}
 use Rattle.std.specs.List.{range_with_len}
 use Rattle.scan_model.specs.declared.fault.Fault.{Fault}

@@ -1,23 +1,22 @@
-use Rattle.std.specs.Prelude.{filter}
-use Rattle.scan_model.specs.declared.fault.Fault.TheVariants.{Stem, Branch}
-use Rattle.scan_model.specs.Netlist.{is_branch, pin_numbers}
-use Rattle.scan_model.specs.Universe.{stems, branches}
-use Rattle.fault_universe.proofs.Blocks.{found_before, found_after}
-use Rattle.fault_universe.proofs.StemPlaces.{only_stems}
-use Rattle.fault_universe.proofs.BranchPlaces.{branch_owner, neither}
+use Rattle.std.proofs.Common.{◌≡◌, ◌+◌, ◌++◌, length, arith, length-append}
+use Rattle.scan_model.specs.Universe.{stems, branches, bridges}
+use Rattle.fault_universe.proofs.UniversePlaces.{finds_stem, finds_branch, finds_bridge, finds_cell}
 use Rattle.fault_universe.proofs.places.place_of.Goals as goal
 
 pub returns-in-Stem : goal.returns-in-Stem
-returns-in-Stem c =
-    let t = c.args.parts.now in
-    let f = Stem c.in-Stem.net c.in-Stem.value in
-    rw c.in-Stem.is (found_before (stems t) (branches t) f c.stem_place.result (λ there. (branch_owner (filter (is_branch t.netlist) (pin_numbers t.netlist)) f there).2) c.stem_place.ensures)
+returns-in-Stem c = rw c.in-Stem.is (finds_stem c.args.parts.now c.in-Stem.net c.in-Stem.value c.stem_place.result c.stem_place.ensures)
 
 pub returns-in-Branch : goal.returns-in-Branch
-returns-in-Branch c =
-    let t = c.args.parts.now in
-    let f = Branch c.in-Branch.pin c.in-Branch.value in
-    rw (c.after.ensures, c.stem_count.ensures.count, c.in-Branch.is) (found_after (stems t) (branches t) f c.branch_place.result (only_stems t f) c.branch_place.ensures.place)
+returns-in-Branch c = rw (c.after.ensures, c.stem_count.ensures.count, c.in-Branch.is) (finds_branch c.args.parts.now c.in-Branch.pin c.in-Branch.value c.branch_place.result c.branch_place.ensures.place)
 
-pub returns-in_default : goal.returns-in_default
-returns-in_default c = neither c.args.parts.now c.args.fault.now c.in_default.not-Stem c.in_default.not-Branch
+pub returns-in-Bridge : goal.returns-in-Bridge
+returns-in-Bridge c =
+    let t = c.args.parts.now in
+    let before : c.stem_count-in-Bridge.result + c.branch_count.result ≡ length (stems t ++ branches t) = omega (arith, length-append (stems t) (branches t), c.stem_count-in-Bridge.ensures.count, c.branch_count.ensures.count) in
+    rw (c.after-in-Bridge.ensures, before, c.in-Bridge.is) (finds_bridge t c.in-Bridge.a c.in-Bridge.b c.in-Bridge.kind c.bridge_place.result c.bridge_place.ensures.place)
+
+pub returns-in-Cell : goal.returns-in-Cell
+returns-in-Cell c =
+    let t = c.args.parts.now in
+    let before : c.stem_count-in-Cell.result + c.branch_count-in-Cell.result + c.bridge_count.result ≡ length (stems t ++ branches t ++ bridges t) = omega (arith, length-append (stems t ++ branches t) (bridges t), length-append (stems t) (branches t), c.stem_count-in-Cell.ensures.count, c.branch_count-in-Cell.ensures.count, c.bridge_count.ensures.count) in
+    rw (c.after-in-Cell.ensures, before, c.in-Cell.is) (finds_cell t c.in-Cell.chain c.in-Cell.pos c.in-Cell.kind c.cell_place.result c.cell_place.ensures.place)
