@@ -5,3 +5,4 @@ pub mod BranchPlaces
 pub mod UniversePlaces
 pub mod BridgePlaces
 pub mod CellPlaces
+pub mod PairSearch

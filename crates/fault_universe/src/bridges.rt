@@ -4,7 +4,7 @@ ghost use Rattle.fault_universe.specs.KeptPairs.{FindsPair};
 ghost use Rattle.scan_model.specs.declared.fault.Fault.TheVariants as fault;
 ghost use Rattle.scan_model.specs.Universe.{bridge_faults, bridges};
 
-use scan_model::{BridgeKind, Fault, NoMemory, Pair, Parts, Rows};
+use scan_model::{BridgeKind, Fault, NoMemory, Pair, Parts, Rows, nets_number};
 
 /// The pairs of neighbouring nets that are kept.
 fn kept_pairs(parts: &Parts) -> &[Pair]
@@ -69,14 +69,18 @@ pub(crate) fn bridge_at(parts: &Parts, place: u32) -> Option<Fault>
     Some(bridge_of(&pairs[at], place % 4))
 }
 
-/// The place of the pair of these two nets, in this order, among the kept pairs. Goes through these one by one.
+/// The place of the pair of these two nets, in this order, among the kept pairs.
 fn pair_place(parts: &Parts, a: u32, b: u32) -> Option<u32>
     ensures pair { FindsPair parts.now.pairs.kept a b result }
     ensures small { IfSome result (λ at. at < 65536) }
 {
-    let pairs = kept_pairs(parts);
-    let at = pairs.iter().position(|pair| pair.a == a && pair.b == b)?;
-    Some(at as u32)
+    let _fits = parts.pairs();
+    let index = parts.pair_index().as_slice();
+    let nets = nets_number(a, b);
+    let Ok(at) = index.binary_search_by_key(&nets, |pair| pair.nets) else {
+        return None;
+    };
+    Some(index[at].place)
 }
 
 /// The place of the bridge in which one net drives another among the bridge faults.

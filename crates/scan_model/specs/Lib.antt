@@ -10,6 +10,7 @@ pub mod Cone
 pub mod Marks
 pub mod ChainShift
 pub mod ScanTest
+pub mod PairIndex
 pub mod Faults
 pub mod NetValue
 pub mod Response

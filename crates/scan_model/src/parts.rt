@@ -1,7 +1,9 @@
 ghost use Rattle.std.specs.Prelude.{◌≡◌, ◌≤◌, length, IfOk};
 ghost use Rattle.scan_model.specs.ScanTest.{scan_test, points_of, IsScanTest};
+ghost use Rattle.scan_model.specs.PairIndex.{IsPairIndex};
 
 use crate::circuit::Circuit;
+use crate::pair_index::{PairPlace, pair_index};
 use crate::rows::{Name, NoMemory, Rows};
 use crate::test_order::points_in_order;
 use crate::values::Tri;
@@ -57,16 +59,18 @@ pub struct Parts {
     patterns: Rows<Pattern>,
     pairs: Pairs,
     points: Rows<Point>,
+    pair_index: Rows<PairPlace>,
 }
 
 impl Model for Parts {
     ghost use Rattle.scan_model.specs.ScanTest.{ScanTest, scan_test, IsSoundTest};
+    ghost use Rattle.scan_model.specs.PairIndex.{IsPairIndex};
 
     ghost Value = { ScanTest };
 
     ghost view = { λ p. scan_test p.circuit p.chains p.patterns p.pairs };
 
-    ghost invariant = { λ p. IsSoundTest (scan_test p.circuit p.chains p.patterns p.pairs) p.points };
+    ghost invariant = { λ p. IsSoundTest (scan_test p.circuit p.chains p.patterns p.pairs) p.points × IsPairIndex p.pairs.kept p.pair_index };
 }
 
 impl Parts {
@@ -82,12 +86,14 @@ impl Parts {
         ensures { IfOk result (λ p. p ≡ scan_test circuit chains patterns pairs) }
     {
         let points = points_in_order(alloc, circuit.outputs().len(), chains.as_slice())?;
+        let pair_index = pair_index(alloc, pairs.kept.as_slice())?;
         Ok(Parts {
             circuit,
             chains,
             patterns,
             pairs,
             points,
+            pair_index,
         })
     }
 
@@ -126,5 +132,12 @@ impl Parts {
         ensures fits { IsScanTest self.now }
     {
         &self.points
+    }
+
+    /// The places of the kept pairs, in rising order of their nets.
+    pub fn pair_index(&self) -> &Rows<PairPlace>
+        ensures { IsPairIndex self.now.pairs.kept result.now }
+    {
+        &self.pair_index
     }
 }

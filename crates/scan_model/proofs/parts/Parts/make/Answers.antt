@@ -1,5 +1,5 @@
 use Rattle.std.proofs.Common.{arith}
-use Rattle.scan_model.specs.ScanTest.{scan_test}
+use Rattle.scan_model.specs.ScanTest.{scan_test, IsSoundTest}
 use Rattle.scan_model.proofs.PointCount.{outputs_few, longest_few, points_few}
 use Rattle.scan_model.proofs.parts.Parts.make.Goals as goal
 
@@ -10,8 +10,10 @@ pub points_in_order-requires-clause-cells : goal.points_in_order-requires-clause
 points_in_order-requires-clause-cells c = rw c.as_slice.ensures (longest_few c.args.circuit c.args.chains c.requires.circuit c.requires.chains)
 
 pub invariant_of-result : goal.invariant_of-result
-invariant_of-result c = record {
-  fits = c.requires;
-  in_order = rw (← c.outputs.ensures.value, ← c.len.ensures, ← c.as_slice.ensures) c.in_ok-points.ensures;
-  few = points_few (scan_test c.args.circuit c.args.chains c.args.patterns c.args.pairs) c.requires;
-}
+invariant_of-result c =
+    let sound : IsSoundTest (scan_test c.args.circuit c.args.chains c.args.patterns c.args.pairs) c.in_ok-points.points = record {
+      fits = c.requires;
+      in_order = rw (← c.outputs.ensures.value, ← c.len.ensures, ← c.as_slice.ensures) c.in_ok-points.ensures;
+      few = points_few (scan_test c.args.circuit c.args.chains c.args.patterns c.args.pairs) c.requires;
+    } in
+    (sound, rw (← c.as_slice-2.ensures) c.in_ok-pair_index.ensures)
