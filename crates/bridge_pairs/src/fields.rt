@@ -49,14 +49,14 @@ impl<'a> NetNames<'a> {
     ghost use Rattle.bridge_pairs.specs.FieldViews.{names_view};
 
     /// The names of a record, if it has two fields.
-    pub fn of_record(record: &'a ByteRecord) -> Option<Self>
-        ensures { option_map names_view result ≡ two_names (map trimmed (fields_of record.now)) }
+    pub fn of_record(row: &'a ByteRecord) -> Option<Self>
+        ensures { option_map names_view result ≡ two_names (map trimmed (fields_of row.now)) }
     {
-        if record.len() != 2 {
+        if row.len() != 2 {
             return None;
         }
-        let a = record.get(0)?;
-        let b = record.get(1)?;
+        let a = row.get(0)?;
+        let b = row.get(1)?;
         Some(NetNames {
             a: trim(a),
             b: trim(b),
@@ -65,10 +65,10 @@ impl<'a> NetNames<'a> {
 }
 
 /// Whether a record is the header.
-pub fn is_header(record: &ByteRecord) -> bool
-    ensures { result ≡ is_header (two_names (map trimmed (fields_of record.now))) }
+pub fn is_header(row: &ByteRecord) -> bool
+    ensures { result ≡ is_header (two_names (map trimmed (fields_of row.now))) }
 {
-    match NetNames::of_record(record) {
+    match NetNames::of_record(row) {
         Some(names) => names.a == b"net_a".as_slice() && names.b == b"net_b".as_slice(),
         None => false,
     }

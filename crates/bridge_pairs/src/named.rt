@@ -88,17 +88,17 @@ impl NamedPairs {
         &mut self,
         names: &Names<'_>,
         index: usize,
-        record: &ByteRecord,
+        row: &ByteRecord,
     ) -> Result<Option<u32>, NoMemory>
         requires limit { length names.now ≤ 65536 }
         requires index { index < 2 ^ 63 }
-        ensures rule { IfOk result (λ r. r ≡ lowest (pair_rules names.now self.old index (map trimmed (fields_of record.now)))) }
-        ensures taken { result ≡ Ok None → self.new ≡ with_pair names.now self.old index (nets_named index (map trimmed (fields_of record.now))) }
+        ensures rule { IfOk result (λ r. r ≡ lowest (pair_rules names.now self.old index (map trimmed (fields_of row.now)))) }
+        ensures taken { result ≡ Ok None → self.new ≡ with_pair names.now self.old index (nets_named index (map trimmed (fields_of row.now))) }
     {
         if index == 0 {
-            return Ok(if is_header(record) { None } else { Some(31) });
+            return Ok(if is_header(row) { None } else { Some(31) });
         }
-        let Some(two) = NetNames::of_record(record) else {
+        let Some(two) = NetNames::of_record(row) else {
             return Ok(Some(31));
         };
         self.take_names(names, index, two)
