@@ -3,3 +3,4 @@ pub mod Files
 pub mod Bytes
 pub mod Schedule
 pub mod Memory
+pub mod KeeperMemory

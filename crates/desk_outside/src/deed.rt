@@ -1,0 +1,97 @@
+//! What a keeper keeps.
+ghost use Rattle.std.specs.Prelude.{◌≡◌, IfOk};
+
+use scan_model::{Digest, Name, NoMemory};
+use std::alloc::Global;
+
+/// One accepted change of the book, and the number of the seat that made it.
+#[derive(Debug, Drop)]
+pub struct Deed {
+    pub by: u32,
+    pub what: DeedKind,
+}
+
+/// What was accepted.
+#[derive(Debug, Drop)]
+pub enum DeedKind {
+    /// A design by its name, and the text of its bundle.
+    Design {
+        name: Name,
+        text: Name,
+    },
+    /// The text of a fail log of a die of a design.
+    Log {
+        design: Name,
+        die: Name,
+        text: Name,
+    },
+    /// A sign-off of a die's report over its first `revision` logs, with the SHA-256 digest of that report.
+    Sign {
+        design: Name,
+        die: Name,
+        revision: u64,
+        signer: Name,
+        digest: Digest,
+    },
+}
+
+fn copy_of_sign(
+    alloc: Global,
+    design: &Name,
+    die: &Name,
+    revision: u64,
+    signer: &Name,
+    digest: Digest,
+) -> Result<DeedKind, NoMemory>
+    ensures { IfOk result (λ what. what ≡ DeedKind.Sign design.now die.now revision signer.now digest) }
+{
+    Ok(DeedKind::Sign {
+        design: Name::copy_of(alloc, design.as_slice())?,
+        die: Name::copy_of(alloc, die.as_slice())?,
+        revision,
+        signer: Name::copy_of(alloc, signer.as_slice())?,
+        digest,
+    })
+}
+
+impl DeedKind {
+    ghost use Rattle.std.specs.Prelude.{◌≡◌, IfOk};
+
+    /// A copy.
+    pub fn copy_in(&self, alloc: Global) -> Result<DeedKind, NoMemory>
+        ensures { IfOk result (λ what. what ≡ self.now) }
+    {
+        match self {
+            DeedKind::Design { name, text } => Ok(DeedKind::Design {
+                name: Name::copy_of(alloc, name.as_slice())?,
+                text: Name::copy_of(alloc, text.as_slice())?,
+            }),
+            DeedKind::Log { design, die, text } => Ok(DeedKind::Log {
+                design: Name::copy_of(alloc, design.as_slice())?,
+                die: Name::copy_of(alloc, die.as_slice())?,
+                text: Name::copy_of(alloc, text.as_slice())?,
+            }),
+            DeedKind::Sign {
+                design,
+                die,
+                revision,
+                signer,
+                digest,
+            } => copy_of_sign(alloc, design, die, *revision, signer, *digest),
+        }
+    }
+}
+
+impl Deed {
+    ghost use Rattle.std.specs.Prelude.{◌≡◌, IfOk};
+
+    /// A copy.
+    pub fn copy_in(&self, alloc: Global) -> Result<Deed, NoMemory>
+        ensures { IfOk result (λ deed. deed ≡ self.now) }
+    {
+        Ok(Deed {
+            by: self.by,
+            what: self.what.copy_in(alloc)?,
+        })
+    }
+}
