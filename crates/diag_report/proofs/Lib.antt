@@ -2,3 +2,16 @@ pub mod Ranked
 mod LineSteps
 mod TallySteps
 mod PageSteps
+mod SummarySteps
+mod FailSteps
+mod Bools
+mod BitRanges
+mod OwnLog
+mod PlainWords
+mod NumberWords
+mod LogForms
+mod LogRules
+mod ListedBits
+mod LogWalk
+mod LogBits
+mod RoundTrip

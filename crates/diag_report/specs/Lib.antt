@@ -1,3 +1,5 @@
 pub mod LineEnds
 pub mod BitTally
 pub mod Layout
+pub mod Summary
+pub mod PredictedLog

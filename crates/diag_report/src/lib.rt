@@ -2,12 +2,16 @@
 #![tactic(auto)]
 
 mod draft;
+mod fails;
 mod lines;
 mod ranking;
 mod report;
+mod summary;
 mod tally;
 mod text;
 
+pub use fails::fails_text;
 pub use ranking::rank;
 pub use report::{PastEnd, Report};
+pub use summary::summary_text;
 pub use text::{Head, make_text};
