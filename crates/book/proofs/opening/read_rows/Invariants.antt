@@ -1,0 +1,13 @@
+use Rattle.std.proofs.Common.{◌≡◌, ◌≤◌, ℕ, List, [], length, take, true, Some}
+use Rattle.desk_outside.specs.declared.deed.Deed.{Deed}
+use Rattle.book.specs.Legal.{each_fits}
+use Rattle.book.proofs.opening.read_rows.Given as goal
+
+abbrev pub invariant-loop-row : goal.invariant-loop-row
+invariant-loop-row g l = record {
+  fit : each_fits [] l.kept ≡ true;
+  count : length l.kept ≡ l.row;
+  rows : (rows : List Deed) → g.K.Keeper.rows l.fn.keeper ≡ Some rows → l.kept ≡ take l.row rows;
+  same : g.K.Keeper.rows l.keeper ≡ g.K.Keeper.rows l.fn.keeper;
+  later : g.K.Keeper.faults l.fn.keeper ≤ g.K.Keeper.faults l.keeper;
+}

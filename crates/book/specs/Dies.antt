@@ -1,0 +1,61 @@
+-- Dies as contracts see them.
+use Rattle.std.specs.Prelude.{◌≡◌, ℕ, true, Bool, ◌&&◌, List, [], ◌∷◌, ◌++◌, Option, Some, None, Result, Vec, slice_get}
+use Rattle.std.specs.List.{find}
+use Rattle.std.specs.Str.{bytes_eq}
+use Rattle.std.specs.BTreeMap.{BTreeMap}
+use Rattle.std.specs.declared.alloc.Global.{Global}
+use Rattle.desk_outside.specs.declared.keeper.KeepFault.{KeepFault}
+use Rattle.scan_model.specs.Words.{is_tag}
+use Rattle.book.specs.declared.sign.Sign.{Sign as SignOff}
+use Rattle.book.specs.Designs.{ReadLogFacts}
+use Rattle.book.specs.Kinds.{appended}
+use Rattle.book.specs.Places.{place_of}
+
+-- a die of a design, with its logs and sign-offs in the order of their deeds
+pub record DieFacts : Type 0 where
+  pub design : List ℕ
+  pub die : List ℕ
+  pub logs : List ReadLogFacts
+  pub signs : List SignOff
+
+-- a die without logs
+abbrev pub bare_die : List ℕ → List ℕ → DieFacts
+bare_die design die = record { design = design; die = die; logs = []; signs = [] }
+
+abbrev pub is_die : List ℕ → List ℕ → DieFacts → Bool
+is_die design die k = bytes_eq k.design design && bytes_eq k.die die
+
+-- the die with one more log, where the call went well
+abbrev pub with_log : Result (Unit {0}) KeepFault → DieFacts → ReadLogFacts → DieFacts
+with_log result k log = record { design = k.design; die = k.die; logs = appended result k.logs log; signs = k.signs }
+
+-- the die with one more sign-off, where the call went well
+abbrev pub with_sign : Result (Unit {0}) KeepFault → DieFacts → SignOff → DieFacts
+with_sign result k sign = record { design = k.design; die = k.die; logs = k.logs; signs = appended result k.signs sign }
+
+abbrev pub logs_in : Option DieFacts → List ReadLogFacts
+logs_in None = []
+logs_in (Some k) = k.logs
+
+abbrev pub signs_in : Option DieFacts → List SignOff
+signs_in None = []
+signs_in (Some k) = k.signs
+
+-- the logs and the sign-offs that are kept of a die
+abbrev pub kept_logs : List DieFacts → List ℕ → List ℕ → List ReadLogFacts
+kept_logs dies design die = logs_in (find (is_die design die) dies)
+
+abbrev pub kept_signs : List DieFacts → List ℕ → List ℕ → List SignOff
+kept_signs dies design die = signs_in (find (is_die design die) dies)
+
+-- the names of a die with `/` (47) between them, which isn't in the name of a design
+abbrev pub die_key : List ℕ → List ℕ → List ℕ
+die_key design die = design ++ 47 ∷ die
+
+-- the die stands at the place that is noted for its names
+pub record IsNotedDie (places : BTreeMap (Vec ℕ Global) ℕ) (i : ℕ) (k : DieFacts) : Type 0 where
+  pub noted : place_of places (die_key k.design k.die) ≡ Some i
+  pub tag : is_tag k.design ≡ true
+
+abbrev pub AreNotedDies : BTreeMap (Vec ℕ Global) ℕ → List DieFacts → Type 0
+AreNotedDies places dies = (i : ℕ) (k : DieFacts) → slice_get dies i ≡ Some k → IsNotedDie places i k

@@ -1,0 +1,17 @@
+pub mod Bundle
+pub mod BundleRest
+pub mod Sections
+pub mod Reading
+pub mod Designs
+pub mod Adding
+pub mod Deeds
+pub mod Legal
+pub mod Answers
+pub mod Kinds
+pub mod Changes
+pub mod Finding
+pub mod Places
+pub mod Dies
+pub mod Kept
+pub mod Putting
+pub mod Rows

@@ -1,0 +1,29 @@
+-- Parts of a change.
+use Rattle.std.specs.Prelude.{ℕ, ◌+◌, Bool, if◌then◌else◌, List, length, Option, Some, None, Result, Ok, Err}
+use Rattle.std.specs.List.{list_any, position_or_len}
+use Rattle.std.specs.Str.{bytes_eq}
+use Rattle.sha2.specs.Sha256.{sha256}
+use Rattle.desk_outside.specs.declared.keeper.KeepFault.{KeepFault}
+use Rattle.desk_outside.specs.declared.keeper.KeepFault.TheVariants as keep_fault
+use Rattle.book.specs.declared.answers.Put.{Put}
+use Rattle.book.specs.declared.answers.Put.TheVariants.{Created, Same}
+use Rattle.book.specs.declared.answers.PutFault.{PutFault}
+use Rattle.book.specs.declared.answers.PutFault.TheVariants as put_fault
+
+-- what a keeper's fault is to a change
+abbrev pub put_fault_of : KeepFault → PutFault
+put_fault_of keep_fault.Failed = put_fault.Failed
+put_fault_of keep_fault.NoMemory = put_fault.NoMemory
+
+-- the entry at a place, by its number from 1, or the one that would be created
+abbrev pub put_numbered : Option ℕ → ℕ → Put
+put_numbered (Some place) count = Same (place + 1)
+put_numbered None count = Created (count + 1)
+
+-- the first entry of a list that passes the test, by its number from 1, or the one that would be created
+abbrev pub put_where : {X : Type 0} → (X → Bool) → List X → Put
+put_where test xs = if list_any test xs then Same (position_or_len test xs + 1) else Created (length xs + 1)
+
+-- a design's text beside the one that its name has, under this number
+abbrev pub beside : ℕ → List ℕ → List ℕ → Result Put PutFault
+beside number kept text = if bytes_eq kept text then Ok (Same number) else Err (put_fault.NameTaken (sha256 kept))

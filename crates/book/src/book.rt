@@ -1,0 +1,232 @@
+//! The book, and its changes.
+ghost use Rattle.std.specs.Prelude.{◌≡◌, ◌≤◌, ◌<◌, ◌^◌, [], length, take, true, Some, OnOk, IfOk, IfErr, IfSome};
+ghost use Rattle.std.specs.Str.{bytes_eq};
+ghost use Rattle.std.specs.Arc.{arc_value};
+ghost use Rattle.sha2.specs.Sha256.{sha256};
+ghost use Rattle.scan_model.specs.Words.{is_tag};
+ghost use Rattle.book.specs.declared.answers.PutFault.{PutFault};
+ghost use Rattle.book.specs.Designs.{view_report, texts_of};
+ghost use Rattle.book.specs.Deeds.{die_logs, die_signs, is_signed_by};
+ghost use Rattle.book.specs.Putting.{beside, put_numbered, put_where};
+ghost use Rattle.book.specs.Answers.{design_answer, log_answer, sign_answer};
+ghost use Rattle.book.specs.Changes.{IsBook, Changed, StandsIn, IsViewIn};
+ghost use Rattle.book.specs.Kinds.{design_deed, log_deed, sign_deed, arc_values};
+
+use crate::answers::{Put, PutFault};
+use crate::checked::Checked;
+use crate::design::Design;
+use crate::kept::{Found, Kept};
+use crate::log::ReadLog;
+use crate::sign::Sign;
+use desk_outside::Keeper;
+use scan_model::{Digest, Name, NoMemory};
+use std::alloc::Global;
+use std::marker::Model;
+use std::sync::Arc;
+
+/// The designs, logs and sign-offs of a desk, with the keeper of their deeds. Contracts see the deeds, the most that there
+/// may be, the keeper's rows where they are told, and the keeper's count of faults. The deeds are legal, and the rows
+/// equal them.
+#[derive(Drop)]
+pub struct Book<K: Keeper> {
+    pub(crate) alloc: Global,
+    pub(crate) keeper: K,
+    pub(crate) limit: u32,
+    pub(crate) kept: Kept,
+}
+
+impl<K: Keeper> Model for Book<K> {
+    ghost use Rattle.book.specs.Changes.{BookFacts, IsBook};
+
+    ghost Value = { BookFacts };
+
+    ghost view = { λ b. record { deeds = b.kept; limit = b.limit; rows = K.rows b.keeper; faults = K.faults b.keeper } };
+
+    ghost invariant = { λ b. IsBook (record { deeds = b.kept; limit = b.limit; rows = K.rows b.keeper; faults = K.faults b.keeper }) };
+}
+
+pub(crate) fn is_same_digest(digest: &Digest, other: &Digest) -> bool
+    ensures { result ≡ bytes_eq digest.now other.now }
+{
+    digest.as_bytes().as_slice() == other.as_bytes().as_slice()
+}
+
+// What a text finds whose name has a design.
+fn put_beside(found: &Found<'_>, text: &[u8]) -> Result<Put, PutFault>
+    ensures { result ≡ beside found.now.number (arc_value found.now.design.now).text text.now }
+{
+    if found.design.text() == text {
+        return Ok(Put::Same {
+            number: found.number,
+        });
+    }
+    Err(PutFault::NameTaken {
+        kept: *found.design.digest(),
+    })
+}
+
+// The entry at a place, or the next one.
+fn put_at(place: Option<usize>, count: usize) -> Put
+    requires room { count < 2 ^ 63 }
+    requires within { IfSome place (λ i. i < count) }
+    ensures { result ≡ put_numbered place count }
+{
+    match place {
+        Some(i) => Put::Same {
+            number: i as u64 + 1,
+        },
+        None => Put::Created {
+            number: count as u64 + 1,
+        },
+    }
+}
+
+// The log of that text among those of its die, or the next one.
+pub(crate) fn put_text(logs: &[Arc<ReadLog>], text: &[u8]) -> Put
+    ensures { result ≡ put_where (bytes_eq text.now) (texts_of (arc_values logs.now)) }
+{
+    let place = logs.iter().position(|log| text == log.text());
+    put_at(place, logs.len())
+}
+
+// The sign-off of that revision by that signer among those of its die, or the next one.
+pub(crate) fn put_sign(signs: &[Sign], revision: u64, signer: &[u8]) -> Put
+    ensures { result ≡ put_where (is_signed_by revision signer.now) signs.now }
+{
+    let place = signs.iter().position(|sign| sign.revision == revision
+        && sign.signer.as_slice() == signer);
+    put_at(place, signs.len())
+}
+
+impl<K: Keeper> Book<K> {
+    /// The number of deeds.
+    pub fn deeds(&self) -> u64
+        ensures number { result ≡ length self.now.deeds }
+        ensures book { IsBook self.now }
+    {
+        self.kept.deeds()
+    }
+
+    /// The keeper's count of faults.
+    pub fn faults(&self) -> u64
+        ensures { result ≡ self.now.faults }
+    {
+        self.keeper.count()
+    }
+
+    /// Gives back the keeper as it is.
+    pub fn close(self) -> K
+        ensures rows { K.rows result ≡ self.rows }
+        ensures faults { K.faults result ≡ self.faults }
+    {
+        let Book { keeper, .. } = self;
+        keeper
+    }
+
+    // The log of that text among those of the die.
+    fn log_among(&self, design: &[u8], die: &[u8], text: &[u8]) -> Result<Put, NoMemory>
+        ensures { IfOk result (λ put. put ≡ put_where (bytes_eq text.now) (die_logs self.now.deeds design.now die.now)) }
+    {
+        match self.kept.die(design, die)? {
+            Some(die) => Ok(put_text(die.logs(), text)),
+            None => Ok(Put::Created { number: 1 }),
+        }
+    }
+
+    // The sign-off of the die at that revision by that signer.
+    fn sign_among(
+        &self,
+        design: &[u8],
+        die: &[u8],
+        revision: u64,
+        signer: &[u8],
+    ) -> Result<Put, NoMemory>
+        ensures { IfOk result (λ put. put ≡ put_where (is_signed_by revision signer.now) (die_signs self.now.deeds design.now die.now)) }
+    {
+        match self.kept.die(design, die)? {
+            Some(die) => Ok(put_sign(die.signs(), revision, signer)),
+            None => Ok(Put::Created { number: 1 }),
+        }
+    }
+
+    // Whether one more deed may be added.
+    fn has_room(&self) -> Result<(), PutFault>
+        ensures room { OnOk result (length self.now.deeds < self.now.limit) }
+        ensures full { IfErr result (λ fault. (fault ≡ PutFault.Full self.now.limit) × (self.now.limit ≤ length self.now.deeds)) }
+    {
+        if self.kept.deeds() >= u64::from(self.limit) {
+            return Err(PutFault::Full { limit: self.limit });
+        }
+        Ok(())
+    }
+
+    /// Puts a design. `Same` where its name has an equal text, `NameTaken` where it has another.
+    pub fn put_design(&mut self, by: u32, design: &Arc<Design>) -> Result<Put, PutFault>
+        ensures { Changed (design_answer self.old.limit self.old.deeds (arc_value design.now).name (arc_value design.now).text)
+            (design_deed by (arc_value design.now)) result self.old self.new }
+    {
+        if let Some(found) = self.kept.design(design.name()) {
+            return put_beside(&found, design.text());
+        }
+        self.has_room()?;
+        let number = self.kept.designs() + 1;
+        self.kept.add_design(&mut self.keeper, by, design)?;
+        Ok(Put::Created { number })
+    }
+
+    /// Puts a log. `UnknownDesign` where its design isn't there, `Same` where its die has an equal text. The number is the
+    /// revision that the text made.
+    pub fn put_log(&mut self, by: u32, log: &Arc<ReadLog>) -> Result<Put, PutFault>
+        requires { StandsIn self.old.deeds (arc_value log.now) }
+        ensures { Changed (log_answer self.old.limit self.old.deeds (arc_value log.now).design (arc_value log.now).die (arc_value log.now).text)
+            (log_deed by (arc_value log.now)) result self.old self.new }
+    {
+        if self.kept.design(log.design()).is_none() {
+            return Err(PutFault::UnknownDesign);
+        }
+        let number = match self.log_among(log.design(), log.die(), log.text())? {
+            Put::Created { number } => number,
+            same => return Ok(same),
+        };
+        self.has_room()?;
+        self.kept.add_log(&mut self.keeper, by, log)?;
+        Ok(Put::Created { number })
+    }
+
+    /// Signs the report of a die at the revision that was checked. `DigestDiffers` where the digest isn't the checked one,
+    /// `Same` where the signer signed that revision before.
+    pub fn sign(
+        &mut self,
+        by: u32,
+        checked: &Checked,
+        signer: &Name,
+        digest: &Digest,
+    ) -> Result<Put, PutFault>
+        requires view { IsViewIn self.old.deeds checked.now }
+        requires signer { is_tag signer.now ≡ true }
+        ensures { Changed
+            (sign_answer self.old.limit self.old.deeds checked.now.design.name checked.now.die (length checked.now.logs) (sha256 (view_report checked.now)) signer.now digest.now)
+            (sign_deed by checked.now.design.name checked.now.die (record { revision = length checked.now.logs; signer = signer.now; digest = digest.now }))
+            result self.old self.new }
+    {
+        let right = *checked.digest();
+        let (view, revision) = (checked.view(), checked.view().revision());
+        let (design, die) = (view.design().name(), view.die());
+        let place = self.sign_among(design, die, revision, signer.as_slice())?;
+        if !is_same_digest(digest, &right) {
+            return Err(PutFault::DigestDiffers { right });
+        }
+        let number = match place {
+            Put::Created { number } => number,
+            same => return Ok(same),
+        };
+        self.has_room()?;
+        let sign = Sign {
+            revision,
+            signer: Name::copy_of(self.alloc, signer.as_slice())?,
+            digest: *digest,
+        };
+        self.kept.add_sign(&mut self.keeper, by, design, die, sign)?;
+        Ok(Put::Created { number })
+    }
+}

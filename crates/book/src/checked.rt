@@ -1,0 +1,113 @@
+//! The report of a die, and its digest.
+ghost use Rattle.std.specs.Prelude.{◌≡◌, ◌<◌, ℕ, List, All, length, map, IfOk};
+ghost use Rattle.std.specs.Arc.{arc_value};
+ghost use Rattle.sha2.specs.Sha256.{sha256};
+ghost use Rattle.scan_model.specs.ScanTest.{points_of};
+ghost use Rattle.scan_model.specs.DieReport.{die_report};
+ghost use Rattle.scan_model.specs.ReportText as text_of;
+ghost use Rattle.log_join.specs.Joining.{StandsFor, IsJoinedOf};
+ghost use Rattle.book.specs.Designs.{StandsOver, view_report, texts_of, facts_of, HaveSameTexts};
+
+use crate::design::Design;
+use crate::log::ReadLog;
+use crate::view::DieView;
+use diag_report::{Head, Report, make_text, rank};
+use log_join::Joined;
+use match_counts::plain_counts;
+use scan_model::{Digest, Name, NoMemory, Parts};
+use sha2::Sha256;
+use std::alloc::Global;
+use std::marker::Model;
+use std::sync::Arc;
+
+// The logs, joined.
+fn joined_of(alloc: Global, parts: &Parts, logs: &[Arc<ReadLog>]) -> Result<Joined, NoMemory>
+    requires stand { All (StandsOver parts.now) (map (λ log. arc_value log) logs.now) }
+    ensures size { IfOk result (IsJoinedOf (length parts.now.patterns) (length (points_of parts.now))) }
+    ensures stands { IfOk result (StandsFor (facts_of (map (λ log. arc_value log) logs.now))) }
+{
+    let patterns = parts.patterns().len() as u32;
+    let points = parts.points().len() as u32;
+    let mut joined = Joined::make(alloc, patterns, points)?;
+    for log in logs {
+        joined.add(log.facts());
+    }
+    Ok(joined)
+}
+
+// The report of different logs of the die.
+fn report_of(
+    alloc: Global,
+    design: &Design,
+    die: &[u8],
+    logs: &[Arc<ReadLog>],
+) -> Result<Report, NoMemory>
+    requires stand { All (StandsOver design.now.test) (map (λ log. arc_value log) logs.now) }
+    ensures { IfOk result (λ report. report ≡ text_of.report_lines design.now.test design.now.name die.now (facts_of (map (λ log. arc_value log) logs.now))) }
+{
+    let parts = design.parts();
+    let expected = design.expected();
+    let joined = joined_of(alloc, parts, logs)?;
+    let mut rows = plain_counts(alloc, parts, expected, &joined)?;
+    rank(&mut rows);
+    let head = Head {
+        design: Name::copy_of(alloc, design.name())?,
+        die: Name::copy_of(alloc, die)?,
+        logs: logs.len() as u64,
+    };
+    make_text(alloc, parts, &head, expected, &joined, &rows)
+}
+
+/// The report over the logs of a die. Their order doesn't matter, nor does it that a text is given again.
+pub fn make_report<R>(_rt: &R, alloc: Global, view: &DieView) -> Result<Report, NoMemory>
+    ensures report { IfOk result (λ report. text_of.joined report ≡ view_report view.now) }
+    ensures any_order { (others : List (List ℕ)) → HaveSameTexts (texts_of view.now.logs) others → IfOk result (λ report. text_of.joined report ≡ die_report view.now.design.test view.now.design.name view.now.die others) }
+{
+    report_of(alloc, view.design(), view.die(), view.logs())
+}
+
+/// A die with the SHA-256 digest (FIPS 180-4) of its report's bytes, at the revision that is its number of logs.
+#[derive(Drop)]
+pub struct Checked {
+    view: DieView,
+    digest: Digest,
+}
+
+impl Model for Checked {
+    ghost use Rattle.std.specs.Prelude.{◌≡◌, ◌<◌, length};
+    ghost use Rattle.sha2.specs.Sha256.{sha256};
+    ghost use Rattle.book.specs.Designs.{ViewFacts, view_report};
+
+    ghost Value = { ViewFacts };
+
+    ghost view = { λ c. c.view };
+
+    ghost invariant = { λ c. (c.digest ≡ sha256 (view_report c.view)) × (0 < length c.view.logs) };
+}
+
+impl Checked {
+    /// The digest of the report.
+    pub fn digest(&self) -> &Digest
+        ensures value { result.now ≡ sha256 (view_report self.now) }
+        ensures some { 0 < length self.now.logs }
+    {
+        &self.digest
+    }
+
+    pub(crate) fn view(&self) -> &DieView
+        ensures { result.now ≡ self.now }
+    {
+        &self.view
+    }
+}
+
+/// Makes the report of a die that has a log, for its digest.
+pub fn check_report<R>(rt: &R, alloc: Global, view: DieView) -> Result<Checked, NoMemory>
+    requires { 0 < length view.logs }
+    ensures { IfOk result (λ checked. checked ≡ view) }
+{
+    let report = make_report(rt, alloc, &view)?;
+    let bytes = <Sha256 as sha2::Digest>::digest(report.bytes());
+    let digest = Digest::from_bytes(bytes);
+    Ok(Checked { view, digest })
+}

@@ -1,0 +1,53 @@
+//! Deeds that are made.
+ghost use Rattle.std.specs.Prelude.{◌≡◌, IfOk};
+ghost use Rattle.book.specs.Kinds.{design_deed, log_deed, sign_deed};
+
+use crate::design::Design;
+use crate::log::ReadLog;
+use crate::sign::Sign;
+use desk_outside::{Deed, DeedKind};
+use scan_model::{Name, NoMemory};
+use std::alloc::Global;
+
+/// The deed of a design.
+pub(super) fn deed_of_design(alloc: Global, by: u32, design: &Design) -> Result<Deed, NoMemory>
+    ensures { IfOk result (λ deed. deed ≡ design_deed by design.now) }
+{
+    let what = DeedKind::Design {
+        name: Name::copy_of(alloc, design.name())?,
+        text: Name::copy_of(alloc, design.text())?,
+    };
+    Ok(Deed { by, what })
+}
+
+/// The deed of a log.
+pub(super) fn deed_of_log(alloc: Global, by: u32, log: &ReadLog) -> Result<Deed, NoMemory>
+    ensures { IfOk result (λ deed. deed ≡ log_deed by log.now) }
+{
+    let what = DeedKind::Log {
+        design: Name::copy_of(alloc, log.design())?,
+        die: Name::copy_of(alloc, log.die())?,
+        text: Name::copy_of(alloc, log.text())?,
+    };
+    Ok(Deed { by, what })
+}
+
+/// The deed of a sign-off.
+pub(super) fn deed_of_sign(
+    alloc: Global,
+    by: u32,
+    design: &[u8],
+    die: &[u8],
+    sign: &Sign,
+) -> Result<Deed, NoMemory>
+    ensures { IfOk result (λ deed. deed ≡ sign_deed by design.now die.now sign.now) }
+{
+    let what = DeedKind::Sign {
+        design: Name::copy_of(alloc, design)?,
+        die: Name::copy_of(alloc, die)?,
+        revision: sign.revision,
+        signer: Name::copy_of(alloc, sign.signer.as_slice())?,
+        digest: sign.digest,
+    };
+    Ok(Deed { by, what })
+}

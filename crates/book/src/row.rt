@@ -1,0 +1,289 @@
+//! Rows of a keeper, judged as deeds after those before them.
+ghost use Rattle.std.specs.Prelude.{◌≡◌, ◌&&◌, ℕ, List, [], length, All, true, is_some, nat_le, IfOk, IfSome};
+ghost use Rattle.std.specs.List.{list_any};
+ghost use Rattle.std.specs.Arc.{arc_value};
+ghost use Rattle.sha2.specs.Sha256.{sha256};
+ghost use Rattle.desk_outside.specs.declared.deed.DeedKind.TheVariants as deed_kind;
+ghost use Rattle.book.specs.declared.sign.Sign.{Sign as SignOff};
+ghost use Rattle.scan_model.specs.Words.{is_tag, has_word};
+ghost use Rattle.book.specs.Deeds.{report_at, die_logs, die_signs, is_signed_by};
+ghost use Rattle.book.specs.Legal.{fits, each_fits};
+ghost use Rattle.book.specs.Changes.{StandsIn};
+ghost use Rattle.book.specs.Kinds.{sign_deed};
+ghost use Rattle.book.specs.Rows.{added_if};
+
+use crate::answers::Put;
+use crate::book::{is_same_digest, put_sign, put_text};
+use crate::checked::check_report;
+use crate::design::{Design, read_bundle};
+use crate::dies::view_of;
+use crate::kept::Kept;
+use crate::log::{ReadLog, log_of};
+use crate::section::BundleFault;
+use crate::sign::Sign;
+use crate::tag::is_tag;
+use desk_outside::{Deed, DeedKind, KeepFault, Keeper};
+use scan_model::{Digest, NoMemory};
+use std::alloc::Global;
+use std::sync::Arc;
+use text_parts::ReadFault;
+
+// The keeper of deeds that are kept already.
+#[derive(Drop)]
+struct Past;
+
+impl Keeper for Past {
+    ghost use Rattle.std.specs.Prelude.{None};
+
+    ghost rows = { λ _. None };
+
+    ghost faults = { λ _. 0 };
+
+    fn append(&mut self, _deed: &Deed) -> Result<(), KeepFault> {
+        Ok(())
+    }
+
+    fn row(&mut self, _i: u64) -> Result<Option<Deed>, KeepFault> {
+        Ok(None)
+    }
+
+    fn count(&self) -> u64 {
+        0
+    }
+}
+
+// The design that the row puts, where it fits.
+fn design_of_row(
+    alloc: Global,
+    kept: &Kept,
+    name: &[u8],
+    text: &[u8],
+) -> Result<Option<Arc<Design>>, NoMemory>
+    ensures judged { IfOk result (λ r. fits kept.now (deed_kind.Design name.now text.now) ≡ is_some r) }
+    ensures name { IfOk result (λ r. IfSome r (λ design. (arc_value design).name ≡ name.now)) }
+    ensures text { IfOk result (λ r. IfSome r (λ design. (arc_value design).text ≡ text.now)) }
+{
+    if !is_tag(name) || kept.design(name).is_some() {
+        return Ok(None);
+    }
+    match read_bundle(alloc, name, text) {
+        Ok(design) => Ok(Some(Arc::new(alloc, design)?)),
+        Err(BundleFault::Text { .. }) => Ok(None),
+        Err(BundleFault::NoMemory) => Err(NoMemory),
+    }
+}
+
+fn has_text(kept: &Kept, design: &[u8], die: &[u8], text: &[u8]) -> Result<bool, NoMemory>
+    ensures { IfOk result (λ r. r ≡ has_word (die_logs kept.now design.now die.now) text.now) }
+{
+    match kept.die(design, die)? {
+        Some(found) => Ok(matches!(put_text(found.logs(), text), Put::Same { .. })),
+        None => Ok(false),
+    }
+}
+
+// The log that the row puts, where it fits.
+fn log_of_row(
+    alloc: Global,
+    kept: &Kept,
+    design: &[u8],
+    die: &[u8],
+    text: &[u8],
+) -> Result<Option<Arc<ReadLog>>, NoMemory>
+    ensures judged { IfOk result (λ r. fits kept.now (deed_kind.Log design.now die.now text.now) ≡ is_some r) }
+    ensures stands { IfOk result (λ r. IfSome r (λ log. StandsIn kept.now (arc_value log))) }
+    ensures design { IfOk result (λ r. IfSome r (λ log. (arc_value log).design ≡ design.now)) }
+    ensures die { IfOk result (λ r. IfSome r (λ log. (arc_value log).die ≡ die.now)) }
+    ensures text { IfOk result (λ r. IfSome r (λ log. (arc_value log).text ≡ text.now)) }
+{
+    if !is_tag(die) {
+        return Ok(None);
+    }
+    let Some(found) = kept.design(design) else {
+        return Ok(None);
+    };
+    if has_text(kept, found.design.name(), die, text)? {
+        return Ok(None);
+    }
+    match log_of(alloc, found.design, die, text) {
+        Ok(log) => Ok(Some(Arc::new(alloc, log)?)),
+        Err(ReadFault::Text(_)) => Ok(None),
+        Err(ReadFault::NoMemory) => Err(NoMemory),
+    }
+}
+
+// The digest of a sign-off of that revision, where there is one.
+fn known_digest(signs: &[Sign], revision: u64) -> Option<Digest>
+    ensures { (report : ℕ → List ℕ) → All (λ sign. sign.digest ≡ sha256 (report sign.revision)) signs.now → IfSome result (λ digest. digest ≡ sha256 (report revision)) }
+{
+    for sign in signs {
+        if sign.revision == revision {
+            return Some(sign.digest);
+        }
+    }
+    None
+}
+
+// The digest of the report of a die at a revision, where it has that revision.
+fn right_digest<R>(
+    rt: &R,
+    alloc: Global,
+    kept: &Kept,
+    design: &[u8],
+    die: &[u8],
+    revision: u64,
+) -> Result<Option<Digest>, NoMemory>
+    requires { each_fits [] kept.now ≡ true }
+    ensures right { IfOk result (λ r. IfSome r (λ digest. digest ≡ sha256 (report_at kept.now design.now die.now revision))) }
+    ensures within { IfOk result (λ r. is_some r ≡ (nat_le 1 revision && nat_le revision (length (die_logs kept.now design.now die.now)))) }
+{
+    let Some(found) = kept.design(design) else {
+        return Ok(None);
+    };
+    let Some(die_found) = kept.die(found.design.name(), die)? else {
+        return Ok(None);
+    };
+    let logs = die_found.logs();
+    if revision == 0 || revision > logs.len() as u64 {
+        return Ok(None);
+    }
+    if let Some(digest) = known_digest(die_found.signs(), revision) {
+        return Ok(Some(digest));
+    }
+    let view = view_of(alloc, found.design, die, &logs[..revision as usize])?;
+    Ok(Some(*check_report(rt, alloc, view)?.digest()))
+}
+
+fn is_signed(
+    kept: &Kept,
+    design: &[u8],
+    die: &[u8],
+    revision: u64,
+    signer: &[u8],
+) -> Result<bool, NoMemory>
+    ensures { IfOk result (λ r. r ≡ list_any (is_signed_by revision signer.now) (die_signs kept.now design.now die.now)) }
+{
+    match kept.die(design, die)? {
+        Some(found) => Ok(matches!(put_sign(found.signs(), revision, signer), Put::Same { .. })),
+        None => Ok(false),
+    }
+}
+
+// Whether the sign-off of the row fits.
+fn sign_fits<R>(
+    rt: &R,
+    alloc: Global,
+    kept: &Kept,
+    design: &[u8],
+    die: &[u8],
+    sign: &Sign,
+) -> Result<bool, NoMemory>
+    requires { each_fits [] kept.now ≡ true }
+    ensures { IfOk result (λ r. fits kept.now (deed_kind.Sign design.now die.now sign.now.revision sign.now.signer sign.now.digest) ≡ r) }
+{
+    let signer = sign.signer.as_slice();
+    if !is_tag(signer) || is_signed(kept, design, die, sign.revision, signer)? {
+        return Ok(false);
+    }
+    match right_digest(rt, alloc, kept, design, die, sign.revision)? {
+        Some(right) => Ok(is_same_digest(&sign.digest, &right)),
+        None => Ok(false),
+    }
+}
+
+fn add_design_row(
+    alloc: Global,
+    kept: &mut Kept,
+    by: u32,
+    name: &[u8],
+    text: &[u8],
+) -> Result<bool, NoMemory>
+    ensures judged { IfOk result (λ r. fits kept.old (deed_kind.Design name.now text.now) ≡ r) }
+    ensures deeds { IfOk result (λ r. kept.new ≡ added_if r kept.old (record { by = by; what = deed_kind.Design name.now text.now })) }
+{
+    let Some(design) = design_of_row(alloc, kept, name, text)? else {
+        return Ok(false);
+    };
+    match kept.add_design(&mut Past, by, &design) {
+        Ok(()) => Ok(true),
+        Err(_) => Err(NoMemory),
+    }
+}
+
+fn add_log_row(
+    alloc: Global,
+    kept: &mut Kept,
+    by: u32,
+    design: &[u8],
+    die: &[u8],
+    text: &[u8],
+) -> Result<bool, NoMemory>
+    ensures judged { IfOk result (λ r. fits kept.old (deed_kind.Log design.now die.now text.now) ≡ r) }
+    ensures deeds { IfOk result (λ r. kept.new ≡ added_if r kept.old (record { by = by; what = deed_kind.Log design.now die.now text.now })) }
+{
+    let Some(log) = log_of_row(alloc, kept, design, die, text)? else {
+        return Ok(false);
+    };
+    match kept.add_log(&mut Past, by, &log) {
+        Ok(()) => Ok(true),
+        Err(_) => Err(NoMemory),
+    }
+}
+
+fn add_sign_row<R>(
+    rt: &R,
+    alloc: Global,
+    kept: &mut Kept,
+    by: u32,
+    design: &[u8],
+    die: &[u8],
+    sign: Sign,
+) -> Result<bool, NoMemory>
+    requires { each_fits [] kept.old ≡ true }
+    ensures judged { IfOk result (λ r. fits kept.old (deed_kind.Sign design.now die.now sign.revision sign.signer sign.digest) ≡ r) }
+    ensures deeds { IfOk result (λ r. kept.new ≡ added_if r kept.old (sign_deed by design.now die.now sign)) }
+{
+    if !sign_fits(rt, alloc, kept, design, die, &sign)? {
+        return Ok(false);
+    }
+    match kept.add_sign(&mut Past, by, design, die, sign) {
+        Ok(()) => Ok(true),
+        Err(_) => Err(NoMemory),
+    }
+}
+
+/// Adds the deed of a row to those before it, if it fits them.
+pub fn add_row<R>(rt: &R, alloc: Global, kept: &mut Kept, row: Deed) -> Result<bool, NoMemory>
+    requires { each_fits [] kept.old ≡ true }
+    ensures judged { IfOk result (λ r. fits kept.old row.what ≡ r) }
+    ensures deeds { IfOk result (λ r. kept.new ≡ added_if r kept.old row) }
+{
+    let Deed { by, what } = row;
+    match what {
+        DeedKind::Design { name, text } => {
+            add_design_row(alloc, kept, by, name.as_slice(), text.as_slice())
+        }
+        DeedKind::Log { design, die, text } => add_log_row(
+            alloc,
+            kept,
+            by,
+            design.as_slice(),
+            die.as_slice(),
+            text.as_slice(),
+        ),
+        DeedKind::Sign {
+            design,
+            die,
+            revision,
+            signer,
+            digest,
+        } => {
+            let sign = Sign {
+                revision,
+                signer,
+                digest,
+            };
+            add_sign_row(rt, alloc, kept, by, design.as_slice(), die.as_slice(), sign)
+        }
+    }
+}
