@@ -50,6 +50,7 @@ const FILES: &[(&[u8], &[u8])] = &[
         b"FAILLOG 1\ndie D1\ndesign c17\ntested 0 0\ntruncated\n",
     ),
     (b"odd", b"INPUT(a)\ny = FOO(a)\n"),
+    (b"scanq", b"CHAIN c0 q\n"),
     (b"net27", S27),
     (b"scan27", b"CHAIN c0 G5 G6 G7\n"),
     (b"pat27", b"CAPTURE 0000 000\n"),
@@ -57,6 +58,10 @@ const FILES: &[(&[u8], &[u8])] = &[
     (
         b"log27",
         b"FAILLOG 1\ndie D1\ndesign s27\ntested 0 0\nfail 0 out G17\nend\n",
+    ),
+    (
+        b"pass27",
+        b"FAILLOG 1\ndie D1\ndesign s27\ntested 0 0\nend\n",
     ),
 ];
 
@@ -98,6 +103,11 @@ const REPORTS: &[(&str, &[&str], &[u8])] = &[
         "s27",
         &["net27", "scan27", "pat27", "near", "log27"],
         FAILING_G17,
+    ),
+    (
+        "s27",
+        &["net27", "scan27", "pat27", "near", "pass27"],
+        PASSING_S27,
     ),
     (
         "s27",
@@ -222,6 +232,18 @@ candidate 9 fault 45 tfsf 1 tfsp 0 tpsf 1 branch G8 to G16 2 sa1\n\
 candidate 10 fault 53 tfsf 1 tfsp 0 tpsf 3 cell c0 0 stuck1\n\
 ";
 
+const PASSING_S27: &[u8] = b"\
+REPORT 1\n\
+design s27\n\
+die D1\n\
+logs 1\n\
+failing 0\n\
+passing 4\n\
+conflicts 0\n\
+masked 0\n\
+candidates 0\n\
+";
+
 const MASKED_G17: &[u8] = b"\
 REPORT 1\n\
 design s27\n\
@@ -322,9 +344,21 @@ fn ran(
     failing_reads: &[u64],
     failing_writes: &[u64],
 ) -> Result<(u8, Vec<u8>), Fail> {
+    let held = files_in_memory(rt.alloc())?;
+    ran_over(rt, held, design, files, failing_reads, failing_writes)
+}
+
+// The same over a shelf with these files.
+fn ran_over(
+    rt: &HostRuntime,
+    held: Rows<File>,
+    design: &str,
+    files: &[&str],
+    failing_reads: &[u64],
+    failing_writes: &[u64],
+) -> Result<(u8, Vec<u8>), Fail> {
     let alloc = rt.alloc();
     let words = words_of_files(alloc, design, files)?;
-    let held = files_in_memory(alloc)?;
     if !are_distinct(held.as_slice()) {
         Err::<(), _>("a name stands twice")?;
     }
@@ -347,6 +381,15 @@ fn each_refusal_has_its_line(rt: HostRuntime) -> Result<(), Fail> {
     let (status, text) = ran(&rt, "c17", &["net", "gone", "pat", "near", "log"], &[], &[])?;
     assert_eq!(rt; status, 4);
     assert_eq!(rt; text.as_slice(), b"gone absent\n".as_slice());
+    let (status, text) = ran(
+        &rt,
+        "c17",
+        &["net", "scanq", "pat", "near", "log"],
+        &[],
+        &[],
+    )?;
+    assert_eq!(rt; status, 3);
+    assert_eq!(rt; text.as_slice(), b"scanq line 1 rule 12\n".as_slice());
     let (status, text) = ran(&rt, "c17", &["net", "scan", "pat", "odd", "log"], &[], &[])?;
     assert_eq!(rt; status, 3);
     assert_eq!(rt; text.as_slice(), b"odd line 1 rule 31\n".as_slice());
@@ -362,6 +405,20 @@ fn each_refusal_has_its_line(rt: HostRuntime) -> Result<(), Fail> {
     )?;
     assert_eq!(rt; status, 4);
     assert_eq!(rt; text.as_slice(), b"gone absent\n".as_slice());
+    Ok(())
+}
+
+#[test]
+fn a_file_past_the_limit_has_its_line(rt: HostRuntime) -> Result<(), Fail> {
+    let alloc = rt.alloc();
+    let name = Name::copy_of(alloc, b"long")?;
+    let text = Rows::from_vec(vec![in alloc; b'#'; 16_777_217]?);
+    let mut held = files_in_memory(alloc)?;
+    held.push(File { name, text })?;
+    let files = ["long", "scan", "pat", "near", "log"];
+    let (status, text) = ran_over(&rt, held, "c17", &files, &[], &[])?;
+    assert_eq!(rt; status, 11);
+    assert_eq!(rt; text.as_slice(), b"long too long\n".as_slice());
     Ok(())
 }
 

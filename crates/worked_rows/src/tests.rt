@@ -1,0 +1,9 @@
+mod chains;
+mod circuits;
+mod logs;
+mod neighbours;
+mod netlists;
+mod patterns;
+mod refusal;
+mod reports;
+mod responses;

@@ -1,0 +1,64 @@
+use super::circuits::c17;
+use super::refusal::stops_at;
+use bench_reader::read_netlist;
+use std::alloc::{AllocError, Global};
+use text_parts::ReadFault;
+
+fn is_refused(alloc: Global, text: &str, line: u64, rule: u32) -> bool {
+    stops_at(read_netlist(alloc, text.as_bytes()), line, rule)
+}
+
+/// A text, and the line and the rule of its first fault.
+fn case(i: u32) -> (&'static str, u64, u32) {
+    match i {
+        0 => ("INPUT(c)\na = AND(b, c)\nb = OR(a, c)\n", 2, 8),
+        1 => ("INPUT(a)\ny = AND(a, q)\n", 2, 7),
+        2 => ("INPUT(a)\ny = FOO(a)\n", 2, 3),
+        3 => ("INPUT(a)\ny = NOT(a, a)\n", 2, 4),
+        4 => ("INPUT(a)\nINPUT(a)\n", 2, 6),
+        _ => ("INPUT(a)\nINPUT(b\n", 2, 2),
+    }
+}
+
+#[test]
+fn refused_netlists(rt: HostRuntime) {
+    for i in 0..6 {
+        let (text, line, rule) = case(i);
+        assert!(rt; is_refused(rt.alloc(), text, line, rule), "{text}");
+    }
+}
+
+fn inputs(alloc: Global, count: u32) -> Result<String, AllocError> {
+    let mut text = String::new(alloc);
+    for i in 0..count {
+        text.push_str(format!(in alloc; "INPUT(n{i})\n")?.as_str())?;
+    }
+    Ok(text)
+}
+
+fn is_refused_past_the_limit(alloc: Global) -> bool {
+    match inputs(alloc, 65537) {
+        Ok(text) => is_refused(alloc, text.as_str(), 65537, 9),
+        Err(_) => false,
+    }
+}
+
+#[test]
+fn the_first_net_past_the_limit(rt: HostRuntime) {
+    assert!(rt; is_refused_past_the_limit(rt.alloc()));
+}
+
+/// Whether the fan-out cone of net 6 of c17 has the nets 6 to 10.
+fn reaches_both_outputs(alloc: Global) -> Result<bool, ReadFault> {
+    let circuit = read_netlist(alloc, c17().as_bytes())?;
+    if circuit.nets().len() != 11 {
+        return Ok(false);
+    }
+    let cone = circuit.cone_out(6)?;
+    Ok(cone.as_slice() == [6, 7, 8, 9, 10].as_slice())
+}
+
+#[test]
+fn a_cone_to_both_outputs(rt: HostRuntime) {
+    assert!(rt; matches!(reaches_both_outputs(rt.alloc()), Ok(true)));
+}

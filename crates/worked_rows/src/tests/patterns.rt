@@ -1,0 +1,33 @@
+use super::circuits::{s27, s27_chain};
+use super::refusal::stops_at;
+use crate::parts_of;
+use std::alloc::Global;
+
+fn is_refused(alloc: Global, text: &str, line: u64, rule: u32) -> bool {
+    let answer = parts_of(
+        alloc,
+        s27().as_bytes(),
+        s27_chain().as_bytes(),
+        text.as_bytes(),
+    );
+    stops_at(answer, line, rule)
+}
+
+/// A text, and the line and the rule of its first fault.
+fn case(i: u32) -> (&'static str, u64, u32) {
+    match i {
+        0 => ("CAPTURE 0000\n", 1, 22),
+        1 => ("CAPTURE 000 000\n", 1, 23),
+        2 => ("CAPTURE 0002 000\n", 1, 24),
+        3 => ("RUN 0\n", 1, 21),
+        _ => ("", 1, 26),
+    }
+}
+
+#[test]
+fn refused_patterns(rt: HostRuntime) {
+    for i in 0..5 {
+        let (text, line, rule) = case(i);
+        assert!(rt; is_refused(rt.alloc(), text, line, rule), "{text}");
+    }
+}

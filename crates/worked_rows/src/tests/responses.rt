@@ -1,0 +1,87 @@
+//! Responses: the outputs, then the cells from the last position to the first.
+use super::circuits::{s27, s27_chain};
+use crate::parts_of;
+use chain_faults::{faulty_load, faulty_unload};
+use fault_universe::{fault_at, universe_len};
+use good_sim::plain_response;
+use scan_model::{CellKind, Parts, Rows, Tri};
+use std::alloc::Global;
+use text_parts::ReadFault;
+
+const X: Tri = Tri::Unknown;
+
+/// The response in the first pattern under the fault at a place; without a fault where there is none.
+fn first_response(alloc: Global, parts: &Parts, place: u32) -> Result<Rows<Tri>, ReadFault> {
+    if parts.patterns().is_empty() {
+        return Ok(Rows::new(alloc));
+    }
+    Ok(plain_response(alloc, parts, 0, fault_at(parts, place))?)
+}
+
+fn response_of_s27(alloc: Global, patterns: &str, place: u32) -> Result<Rows<Tri>, ReadFault> {
+    let parts = parts_of(
+        alloc,
+        s27().as_bytes(),
+        s27_chain().as_bytes(),
+        patterns.as_bytes(),
+    )?;
+    first_response(alloc, &parts, place)
+}
+
+fn shows(answer: Result<Rows<Tri>, ReadFault>, values: &[Tri]) -> bool {
+    match answer {
+        Ok(shown) => shown.as_slice() == values,
+        Err(_) => false,
+    }
+}
+
+#[test]
+fn a_capture_of_known_values(rt: HostRuntime) {
+    let answer = response_of_s27(rt.alloc(), "CAPTURE 0000 000\n", 64);
+    assert!(rt; shows(answer, &[Tri::One, Tri::Zero, Tri::Zero, Tri::Zero]));
+}
+
+#[test]
+fn a_capture_of_an_unknown_value(rt: HostRuntime) {
+    let answer = response_of_s27(rt.alloc(), "CAPTURE 0000 0X0\n", 64);
+    assert!(rt; shows(answer, &[X, Tri::Zero, X, Tri::Zero]));
+}
+
+#[test]
+fn a_slow_cell_in_a_shift(rt: HostRuntime) {
+    let answer = response_of_s27(rt.alloc(), "SHIFT 101\n", 58);
+    assert!(rt; shows(answer, &[X, X, Tri::Zero, Tri::Zero]));
+}
+
+/// A netlist in other letter case, with comments, and without an end of its last line.
+fn inverter(alloc: Global) -> Result<Parts, ReadFault> {
+    let netlist = "# c\r\ninput(a)\r\nOUTPUT ( y )  # out\r\ny = nand(a)";
+    parts_of(alloc, netlist.as_bytes(), b"", b"CAPTURE 1\n")
+}
+
+fn has_sizes(parts: &Parts) -> bool {
+    parts.circuit().nets().len() == 2
+        && parts.circuit().pins().len() == 2
+        && universe_len(parts) == 4
+}
+
+fn inverts(alloc: Global) -> Result<bool, ReadFault> {
+    let parts = inverter(alloc)?;
+    let answer = first_response(alloc, &parts, 4);
+    Ok(has_sizes(&parts) && shows(answer, &[Tri::Zero]))
+}
+
+#[test]
+fn a_netlist_in_other_letter_case(rt: HostRuntime) {
+    assert!(rt; matches!(inverts(rt.alloc()), Ok(true)));
+}
+
+#[test]
+fn a_stuck_last_cell(rt: HostRuntime) {
+    let zeros = [Tri::Zero; 3];
+    let mut row = [X; 3];
+    faulty_load(CellKind::Stuck1, 2, &zeros, &mut row);
+    assert!(rt; row == [Tri::Zero; 3]);
+    faulty_unload(CellKind::Stuck1, 2, &zeros, &mut row);
+    assert!(rt; row == [Tri::One; 3]);
+}
