@@ -1,0 +1,22 @@
+#!/bin/sh
+# Times logs put into a book over a keeper in memory, a hundred of each die: 10,000 of 100 dies, then twice and four times
+# as many. Builds the program book_logs, which is proved first, in a copy of the repository.
+set -eu
+top=$(CDPATH='' cd -- "$(dirname -- "$0")/.." && pwd)
+work=$(mktemp -d)
+trap 'rm -rf "$work"' EXIT
+cp -a "$top/crates" "$top/crates.txt" "$top/HANDLES" "$work"
+cp -a "$top/bench/book_logs" "$work/crates/book_logs"
+cp "$top/crates/book/src/tag.rt" "$work/crates/book_logs/src"
+echo 'book_logs: scan_model desk_outside book' >>"$work/crates.txt"
+cd "$work/crates/book_logs"
+printf '1\n' >args
+rt run >"$work/build.log" 2>&1 || { tail -5 "$work/build.log"; exit 1; }
+for count in 10000 20000 40000; do
+    python3 - "$count" <<'PY'
+import resource, subprocess, sys
+program = subprocess.run(['out/book_logs', sys.argv[1]])
+used = resource.getrusage(resource.RUSAGE_CHILDREN)
+print(f'{sys.argv[1]} logs: status {program.returncode}, {used.ru_utime + used.ru_stime:.2f} s, {used.ru_maxrss // 1024} MiB')
+PY
+done
