@@ -6,7 +6,9 @@ top=$(CDPATH='' cd -- "$(dirname -- "$0")/.." && pwd)
 work=$(mktemp -d)
 trap 'rm -rf "$work"' EXIT
 cp -a "$top/crates" "$top/crates.txt" "$top/HANDLES" "$work"
-cp -a "$top/bench/book_logs" "$work/crates/book_logs"
+mkdir -p "$work/crates/book_logs/src" "$work/crates/book_logs/proofs/put_log"
+cp "$top/bench/book_logs/main.rt.in" "$work/crates/book_logs/src/main.rt"
+cp "$top/bench/book_logs/put_log.antt.in" "$work/crates/book_logs/proofs/put_log/Answers.antt"
 cp "$top/crates/book/src/tag.rt" "$work/crates/book_logs/src"
 echo 'book_logs: scan_model desk_outside book' >>"$work/crates.txt"
 cd "$work/crates/book_logs"
