@@ -12,8 +12,7 @@ cp "$top/bench/book_logs/put_log.antt.in" "$work/crates/book_logs/proofs/put_log
 cp "$top/crates/book/src/tag.rt" "$work/crates/book_logs/src"
 echo 'book_logs: scan_model desk_outside book' >>"$work/crates.txt"
 cd "$work/crates/book_logs"
-printf '1\n' >args
-rt run >"$work/build.log" 2>&1 || { tail -5 "$work/build.log"; exit 1; }
+rt run -- 1 >"$work/build.log" 2>&1 || { tail -5 "$work/build.log"; exit 1; }
 for count in 10000 20000 40000; do
     python3 - "$count" <<'PY'
 import resource, subprocess, sys
