@@ -48,7 +48,7 @@ fn kind(alloc: Global, letter: u8) -> Result<DeedKind, NoMemory> {
         b'L' => log(alloc, b"c17", b"D1", FAILS),
         b'P' => log(alloc, b"c17", b"D1", PASSES),
         b'U' => log(alloc, b"c18", b"D1", FAILS),
-        b'X' => log(alloc, b"c17", b"D2", FAILS),
+        b'X' => log(alloc, b"c17", b"other", FAILS),
         b'S' => sign(alloc, 1, b"ann", RIGHT),
         b'W' => sign(alloc, 1, b"ann", [0; 32]),
         b'0' => sign(alloc, 0, b"ann", RIGHT),
