@@ -1,4 +1,4 @@
-//! Reads fail logs.
+//! Reads fail logs, and their number words.
 #![tactic(auto)]
 
 mod bits;
@@ -10,4 +10,5 @@ mod reading;
 mod rules;
 mod tables;
 
+pub use number::number_of;
 pub use reading::read_log;
