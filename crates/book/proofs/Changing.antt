@@ -1,12 +1,11 @@
 -- A change of a book, by its case.
 use Rattle.std.proofs.Common.{◌≡◌, ℕ, ◌<◌, ◌≤◌, Bool, true, false, List, [], ◌∷◌, ◌++◌, length, Result, Ok, Err, Option, Some, None, option_map, refl, sym, ap, ◌∙◌, subst, arith}
-use Rattle.std.proofs.lemmas.Grind.{common_steps}
 use Rattle.desk_outside.specs.declared.deed.Deed.{Deed}
 use Rattle.desk_outside.specs.declared.keeper.KeepFault.{KeepFault}
 use Rattle.desk_outside.specs.declared.keeper.KeepFault.TheVariants as keep_fault
 use Rattle.desk_outside.specs.Faults.{Rose}
 use Rattle.book.specs.declared.answers.Put.{Put}
-use Rattle.book.specs.declared.answers.Put.TheVariants.{Created, Same}
+use Rattle.book.specs.declared.answers.Put.TheVariants.{Created}
 use Rattle.book.specs.declared.answers.PutFault.{PutFault}
 use Rattle.std.specs.Prelude.{if◌then◌else◌}
 use Rattle.std.specs.Str.{bytes_eq}
@@ -14,7 +13,7 @@ use Rattle.book.specs.declared.answers.PutFault.TheVariants.{DigestDiffers}
 use Rattle.book.specs.Putting.{put_fault_of}
 use Rattle.book.specs.Deeds.{die_signs}
 use Rattle.book.specs.Answers.{sign_answer, sign_among}
-use Rattle.book.specs.Legal.{fits, each_fits, is_legal}
+use Rattle.book.specs.Legal.{fits, is_legal}
 use Rattle.book.specs.Kinds.{appended}
 use Rattle.book.specs.Changes.{BookFacts, IsBook, Changed, Answered, after}
 use Rattle.book.proofs.OneMore.{legal-push}

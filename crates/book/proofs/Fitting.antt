@@ -1,12 +1,11 @@
 -- Deeds that fit.
-use Rattle.std.proofs.Common.{◌≡◌, ℕ, ◌<◌, ◌≤◌, min, nat_le, map, take, rules, Bool, true, false, not, ◌&&◌, cond, is_none, is_some, IfSome, List, [], ◌∷◌, ◌++◌, length, Option, Some, None, Result, Ok, Err, refl, sym, ap, ◌∙◌, subst, arith}
-use Rattle.std.specs.Result.{is_ok}
+use Rattle.std.proofs.Common.{◌≡◌, ℕ, ◌<◌, ◌≤◌, min, nat_le, take, rules, Bool, true, false, not, ◌&&◌, cond, is_some, IfSome, List, [], length, Option, Some, None, refl, sym, ap, ◌∙◌, subst, arith}
 use Rattle.std.specs.List.{list_any}
 use Rattle.std.specs.Str.{bytes_eq}
 use Rattle.std.proofs.lemmas.Grind.{common_steps}
 use Rattle.desk_outside.specs.declared.deed.Deed.{Deed}
 use Rattle.scan_model.specs.ScanTest.{ScanTest}
-use Rattle.scan_model.specs.Words.{is_tag, has_word}
+use Rattle.scan_model.specs.Words.{is_tag}
 use Rattle.book.specs.declared.answers.Put.{Put}
 use Rattle.book.specs.declared.answers.Put.TheVariants.{Created, Same}
 use Rattle.std.proofs.lemmas.List.{length-take, length-map}
@@ -17,7 +16,7 @@ use Rattle.book.specs.Designs.{DesignFacts, ReadLogFacts, ViewFacts, IsDesign, S
 use Rattle.book.specs.Deeds.{design_text, design_test, test_of_text, test_of_reading, die_logs, die_signs, is_signed_by, report_over, report_at}
 use Rattle.book.specs.Legal.{fits, each_fits, is_log_over}
 use Rattle.book.specs.Changes.{StandsIn, IsViewIn}
-use Rattle.book.specs.Kinds.{design_deed, log_deed, sign_deed}
+use Rattle.book.specs.Kinds.{design_deed, log_deed}
 use Rattle.book.specs.Putting.{put_where}
 use Rattle.book.proofs.LegalLists.{test_known}
 

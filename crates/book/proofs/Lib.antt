@@ -7,7 +7,9 @@ pub mod FieldPercents
 pub mod NetNames
 pub mod PairPercents
 pub mod AreUnmarked
+pub mod NoFaults
 pub mod Unmarked
+pub mod WordNames
 pub mod LineEnds
 pub mod Ended
 pub mod LastLine

@@ -1,11 +1,8 @@
 -- What longer lists of deeds have.
-use Rattle.std.proofs.Common.{◌≡◌, ℕ, Bool, true, false, ◌&&◌, cond, List, [], ◌∷◌, ◌++◌, ◌≤◌, length, take, Option, Some, None, refl, sym, ap, ◌∙◌, arith}
+use Rattle.std.proofs.Common.{◌≡◌, ℕ, List, [], ◌∷◌, ◌++◌, ◌≤◌, length, take, Option, Some, None, refl, sym, ap, ◌∙◌}
 use Rattle.std.specs.List.{filter_map, slice_get}
-use Rattle.std.specs.Str.{bytes_eq}
-use Rattle.std.proofs.lemmas.Grind.{common_steps}
 use Rattle.std.proofs.lemmas.List.Elements.{filter_map-append}
 use Rattle.desk_outside.specs.declared.deed.Deed.{Deed}
-use Rattle.book.specs.declared.sign.Sign.{Sign as SignOff}
 use Rattle.std.proofs.lemmas.List.{take-append-le}
 use Rattle.book.specs.Deeds.{test_of_text, design_test, report_over, report_at, design_in, log_in, sign_in, designs, text_if_named, design_text, die_logs, die_signs}
 

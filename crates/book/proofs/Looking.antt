@@ -1,5 +1,5 @@
 -- What looks answer.
-use Rattle.std.proofs.Common.{◌≡◌, ℕ, zero, suc, ◌+◌, ◌-◌, ◌<◌, ◌≤◌, ◌==◌, Bool, true, false, not, ◌&&◌, ◌||◌, nat_lt, List, [], ◌∷◌, ◌++◌, length, map, take, All, Option, Some, None, IfOk, Result, Ok, Err, refl, sym, ap, ◌∙◌, subst, arith}
+use Rattle.std.proofs.Common.{◌≡◌, ℕ, zero, suc, ◌+◌, ◌-◌, ◌<◌, ◌≤◌, ◌==◌, Bool, true, false, ◌||◌, nat_lt, List, [], ◌∷◌, ◌++◌, length, take, All, Option, Some, None, IfOk, Result, Ok, Err, refl, sym, ap, ◌∙◌, subst, arith}
 use Rattle.std.specs.Prelude.{if◌then◌else◌, slice_get}
 use Rattle.std.specs.Arc.{arc_value}
 use Rattle.std.specs.declared.alloc.Global.{Global}
@@ -14,7 +14,7 @@ use Rattle.desk_outside.specs.declared.deed.Deed.{Deed}
 use Rattle.book.specs.declared.answers.LookFault.{LookFault}
 use Rattle.book.specs.declared.answers.LookFault.TheVariants as look_fault
 use Rattle.book.specs.declared.sign.Sign.{Sign as SignOff}
-use Rattle.book.specs.Designs.{DesignFacts, ReadLogFacts, ViewFacts, texts_of}
+use Rattle.book.specs.Designs.{DesignFacts, ReadLogFacts, texts_of}
 use Rattle.book.specs.Deeds.{design_text, die_logs, die_signs, report_at}
 use Rattle.book.specs.Answers.{known_design, design_look, and_look, up_to, known_die, die_look, sign_numbered, sign_look}
 use Rattle.book.specs.Changes.{Looked, IsViewIn}

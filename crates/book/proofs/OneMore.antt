@@ -1,12 +1,9 @@
 -- Lists of deeds that grow by one.
-use Rattle.std.proofs.Common.{◌≡◌, ℕ, ◌<◌, ◌≤◌, true, List, [], ◌∷◌, ◌++◌, length, Result, Ok, Err, Option, Some, None, option_map, refl, sym, ap, ◌∙◌, subst, append_assoc, arith}
+use Rattle.std.proofs.Common.{◌≡◌, ℕ, ◌<◌, ◌≤◌, true, List, [], ◌∷◌, ◌++◌, length, append_assoc, arith}
 use Rattle.std.proofs.lemmas.Grind.{common_steps}
 use Rattle.desk_outside.specs.declared.deed.Deed.{Deed}
-use Rattle.desk_outside.specs.declared.keeper.KeepFault.{KeepFault}
-use Rattle.book.specs.Deeds.{designs, design_in, die_logs, die_signs}
+use Rattle.book.specs.Deeds.{designs}
 use Rattle.book.specs.Legal.{fits, each_fits, is_legal}
-use Rattle.book.specs.Kinds.{appended}
-use Rattle.book.specs.Changes.{BookFacts, IsBook}
 
 -- one more deed that fits
 pub each_fits-push : (before deeds : List Deed) (deed : Deed) → each_fits before deeds ≡ true → fits (before ++ deeds) deed.what ≡ true → each_fits before (deeds ++ deed ∷ []) ≡ true

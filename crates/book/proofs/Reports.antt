@@ -1,5 +1,5 @@
 -- The report that is written.
-use Rattle.std.proofs.Common.{◌≡◌, ◌<◌, ◌∙◌, ℕ, List, length, sym, subst, ap}
+use Rattle.std.proofs.Common.{◌≡◌, ◌<◌, ◌∙◌, ℕ, List, length, refl, sym, subst, ap}
 use Rattle.std.specs.Prelude.{All, IsPermutation}
 use Rattle.std.specs.List.{IsDistinct}
 use Rattle.std.proofs.lemmas.List.Sorted.{All-permutation}
@@ -21,12 +21,17 @@ module _ (t : ScanTest) (logs : List LogFacts) (counted sorted : List Scored) (a
       let Below : Scored → Type 0 = λ row. row.place < length (universe t) in
       All-permutation Below counted sorted same (subst (All Below) (sym all) (candidates_below (universe t) t logs))
 
-  -- in ranking order they make the report
+  -- they are in ranking order
+  pub in_order : (test : ScanTest) → (IsDistinct same_place counted → sorted ≡ ranked counted) → t ≡ test → sorted ≡ ranked (candidates test logs)
+  in_order test one is_test =
+      one (subst (IsDistinct same_place) (sym all) (candidates_distinct (universe t) t logs)) ∙ ap ranked all
+      ∙ ap (λ t. ranked (candidates t logs)) is_test
+
+  -- and make the report
   pub layout_is_report : (d e design die : List ℕ) (count : ℕ) (test : ScanTest) → (IsDistinct same_place counted → sorted ≡ ranked counted)
       → t ≡ test → d ≡ design → e ≡ die → count ≡ length logs → report_layout (universe t) t d e count logs sorted ≡ report_lines test design die logs
   layout_is_report d e design die count test one is_test is_design is_die is_count =
-      let in_order : sorted ≡ ranked (candidates t logs) = one (subst (IsDistinct same_place) (sym all) (candidates_distinct (universe t) t logs)) ∙ ap ranked all in
-      ap (λ rows. report_layout (universe t) t d e count logs rows) in_order
+      ap (λ rows. report_layout (universe t) t d e count logs rows) (in_order t one refl)
       ∙ ap (λ n. report_layout (universe t) t d e n logs (ranked (candidates t logs))) is_count
       ∙ ap (λ n. report_layout (universe t) t n e (length logs) logs (ranked (candidates t logs))) is_design
       ∙ ap (λ n. report_layout (universe t) t design n (length logs) logs (ranked (candidates t logs))) is_die

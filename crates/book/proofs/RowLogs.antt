@@ -1,11 +1,11 @@
 -- A row that puts a log.
-use Rattle.std.proofs.Common.{◌≡◌, ℕ, Bool, true, false, not, ◌&&◌, List, Option, Some, None, Result, Ok, Err, refl, sym, ap, ◌∙◌, subst, arith}
+use Rattle.std.proofs.Common.{◌≡◌, ℕ, Bool, true, false, not, ◌&&◌, List, Option, Some, Ok, Err, refl, sym, ap, ◌∙◌, subst, arith}
 use Rattle.std.specs.Result.{is_ok}
 use Rattle.desk_outside.specs.declared.deed.Deed.{Deed}
 use Rattle.scan_model.specs.ScanTest.{ScanTest}
 use Rattle.scan_model.specs.LogText.{log_frame, log_reading}
 use Rattle.scan_model.specs.Words.{is_tag, has_word}
-use Rattle.book.specs.Designs.{DesignFacts, ReadLogFacts, IsDesign, StandsOver}
+use Rattle.book.specs.Designs.{DesignFacts, ReadLogFacts, IsDesign}
 use Rattle.book.specs.Deeds.{design_test, test_of_text, test_of_reading, die_logs}
 use Rattle.book.specs.Legal.{is_log_over}
 use Rattle.book.specs.Changes.{StandsIn}

@@ -2,7 +2,7 @@
 use Rattle.std.proofs.Common.{◌≡◌, ℕ, ◌+◌, ◌<◌, ◌≤◌, Bool, true, false, not, ◌&&◌, List, [], ◌∷◌, ◌++◌, length, All, Option, Some, None, refl, sym, ap, ◌∙◌, subst, arith}
 use Rattle.std.specs.Prelude.{if◌then◌else◌, nat_le}
 use Rattle.std.specs.Bool.{⊤}
-use Rattle.std.specs.List.{filter_map, cons_option, list_any, IsDistinct}
+use Rattle.std.specs.List.{cons_option, IsDistinct}
 use Rattle.std.specs.Str.{bytes_eq}
 use Rattle.std.proofs.lemmas.Cmp.{nat_list_eq_equiv}
 use Rattle.std.proofs.lemmas.List.{append-nil, length-append}
@@ -16,7 +16,7 @@ use Rattle.desk_outside.specs.declared.deed.DeedKind.TheVariants.{Design, Log, S
 use Rattle.scan_model.specs.ScanTest.{ScanTest}
 use Rattle.scan_model.specs.Words.{is_tag, has_word}
 use Rattle.book.specs.declared.sign.Sign.{Sign as SignOff}
-use Rattle.book.specs.Deeds.{design_text, design_test, test_of_text, die_logs, die_signs, log_in, sign_in, report_at, is_signed_by}
+use Rattle.book.specs.Deeds.{design_text, design_test, test_of_text, die_logs, die_signs, log_in, sign_in, report_at}
 use Rattle.book.specs.Legal.{fits, each_fits, is_log_over}
 use Rattle.book.proofs.Longer.{or_else, text-append, logs-append, signs-append, report_stays}
 use Rattle.book.proofs.LegalLists.{both, along}

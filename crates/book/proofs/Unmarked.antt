@@ -1,6 +1,6 @@
 -- No line of the texts of a design begins with `%`.
-use Rattle.std.proofs.Common.{◌≡◌, ℕ, false, List, length, Option, Some, None, refl, sym, ap, ◌∙◌}
-use Rattle.std.specs.Prelude.{All, Result, Ok, Err}
+use Rattle.std.proofs.Common.{◌≡◌, ℕ, false, List, length, sym, ap, ◌∙◌}
+use Rattle.std.specs.Prelude.{All, Ok}
 use Rattle.scan_model.specs.declared.circuit.Net.{Net}
 use Rattle.scan_model.specs.declared.parts.Chain.{Chain}
 use Rattle.scan_model.specs.declared.parts.Pattern.{Pattern}
@@ -8,35 +8,21 @@ use Rattle.scan_model.specs.declared.parts.Pairs.{Pairs}
 use Rattle.scan_model.specs.Netlist.{Netlist}
 use Rattle.scan_model.specs.ScanTest.{ScanTest, scan_test}
 use Rattle.scan_model.specs.Lines.{text_lines}
-use Rattle.scan_model.specs.TextFaults.{or_else, first_fault, refused_or}
+use Rattle.scan_model.specs.TextFaults.{first_fault}
 use Rattle.scan_model.specs.NetlistRules.{first_rule, second_rule, early_fault}
 use Rattle.scan_model.specs.NetlistText.{third_rule, netlist_fault, netlist_reading, circuit_of}
 use Rattle.scan_model.specs.ScanText.{net_names, scan_fault, scan_reading, chains_of}
 use Rattle.scan_model.specs.PatternText.{PatternFrame, pattern_frame, pattern_fault, pattern_reading, patterns_of}
 use Rattle.bridge_pairs.specs.PairText.{ended, records_in, pairs_in, pairs_fault, pairs_reading, parted}
-use Rattle.book.specs.declared.section.Section.{Section}
 use Rattle.book.specs.declared.section.Section.TheVariants.{Netlist as NetlistText, Scan, Patterns, Neighbours}
-use Rattle.book.specs.Bundle.{FourTexts, is_mark, pieces, in_section, and_then, with_patterns, with_chains, with_circuit, texts_reading}
+use Rattle.book.specs.Bundle.{FourTexts, is_mark, pieces, with_patterns, with_chains, with_circuit, texts_reading}
 use Rattle.book.proofs.LineMarks.{unmarked_pieces, plain_pieces}
 use Rattle.book.proofs.MarkedLines.{unmarked_netlist, unmarked_scan, unmarked_patterns}
 use Rattle.book.proofs.NetNames.{plain_net_names}
 use Rattle.book.proofs.PairPercents.{records_in_percent, plain_records}
 use Rattle.book.proofs.Percents.{some_field}
 use Rattle.book.proofs.AreUnmarked.{AreUnmarked}
-
--- a text that was read has no fault
-no_fault : {X : Type 0} (fault : Option (ℕ × ℕ)) (value x : X) → refused_or fault value ≡ Ok x → (fault ≡ None) × (value ≡ x)
-no_fault None value x e = (refl, cc)
-no_fault (Some fault) value x e = absurd cc
-
-neither : (first second : Option (ℕ × ℕ)) → or_else first second ≡ None → first ≡ None
-neither None second e = refl
-neither (Some fault) second e = absurd cc
-
--- where the whole was read, the section was read
-section_read : {X Y : Type 0} (section : Section) (r : Result X (ℕ × ℕ)) (next : X → Result Y (Section × (ℕ × ℕ))) (y : Y) → and_then (in_section section r) next ≡ Ok y → (x : X) × (r ≡ Ok x) × (next x ≡ Ok y)
-section_read section (Ok x) next y e = (x, refl, e)
-section_read section (Err fault) next y e = absurd cc
+use Rattle.book.proofs.NoFaults.{no_fault, neither, section_read}
 
 -- ---- text by text
 

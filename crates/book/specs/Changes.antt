@@ -1,8 +1,6 @@
 -- What a call does to a book.
 use Rattle.std.specs.Prelude.{◌≡◌, ◌≤◌, ℕ, true, List, [], ◌∷◌, ◌++◌, length, take, Option, Some, option_map, Result, Ok, Err, ⊤}
-use Rattle.sha2.specs.Sha256.{sha256}
 use Rattle.desk_outside.specs.declared.deed.Deed.{Deed}
-use Rattle.desk_outside.specs.declared.deed.DeedKind.{DeedKind}
 use Rattle.desk_outside.specs.Faults.{Rose}
 use Rattle.book.specs.declared.answers.Put.{Put}
 use Rattle.book.specs.declared.answers.Put.TheVariants.{Created, Same}
@@ -10,7 +8,7 @@ use Rattle.book.specs.declared.answers.PutFault.{PutFault}
 use Rattle.book.specs.declared.answers.PutFault.TheVariants.{NameTaken, UnknownDesign, DigestDiffers, Full, Failed, NoMemory}
 use Rattle.book.specs.declared.answers.LookFault.{LookFault}
 use Rattle.book.specs.declared.answers.LookFault.TheVariants as look_fault
-use Rattle.book.specs.Designs.{ViewFacts, ReadLogFacts, StandsOver, texts_of, view_report}
+use Rattle.book.specs.Designs.{ViewFacts, ReadLogFacts, StandsOver, texts_of}
 use Rattle.book.specs.Deeds.{design_text, design_test, die_logs}
 use Rattle.book.specs.Legal.{is_legal}
 

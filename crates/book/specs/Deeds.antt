@@ -1,5 +1,5 @@
 -- The state after a list of deeds, read off the list.
-use Rattle.std.specs.Prelude.{ℕ, ◌==◌, Bool, ◌&&◌, if◌then◌else◌, List, [], map, take, filter_map, slice_get, Option, Some, None, Result, Ok, Err}
+use Rattle.std.specs.Prelude.{ℕ, ◌==◌, Bool, ◌&&◌, if◌then◌else◌, List, [], take, filter_map, slice_get, Option, Some, None, Result, Ok, Err}
 use Rattle.std.specs.Str.{bytes_eq}
 use Rattle.desk_outside.specs.declared.deed.Deed.{Deed}
 use Rattle.desk_outside.specs.declared.deed.DeedKind.{DeedKind}

@@ -10,7 +10,7 @@ use scan_model::{Name, NoMemory};
 use std::alloc::Global;
 use text_parts::TextFault;
 
-/// The four texts of a design.
+/// The four texts of a design, as they stand in its bundle or in files of their own.
 #[derive(Clone, Copy, Debug)]
 pub struct Sections<'a> {
     pub netlist: &'a [u8],
@@ -204,8 +204,8 @@ fn append_section(bundle: &mut Name, marker: &[u8], text: &[u8]) -> Result<(), N
     Ok(())
 }
 
-/// The bundle of four texts.
-pub fn text_of(alloc: Global, texts: &Sections<'_>) -> Result<Name, NoMemory>
+/// The bundle of four texts: each behind its marker line. One that isn't empty and doesn't end with LF is ended with it.
+pub fn bundle_text(alloc: Global, texts: &Sections<'_>) -> Result<Name, NoMemory>
     ensures { IfOk result (λ text. text ≡ bundle_text (four_texts texts.now)) }
 {
     let mut bundle = Name::new(alloc);

@@ -4,6 +4,8 @@ ghost use Rattle.std.specs.Arc.{arc_value};
 ghost use Rattle.sha2.specs.Sha256.{sha256};
 ghost use Rattle.scan_model.specs.ScanTest.{points_of};
 ghost use Rattle.scan_model.specs.DieReport.{die_report};
+ghost use Rattle.scan_model.specs.MatchCounts.{candidates};
+ghost use Rattle.scan_model.specs.Ranking.{ranked};
 ghost use Rattle.scan_model.specs.ReportText as text_of;
 ghost use Rattle.log_join.specs.Joining.{StandsFor, IsJoinedOf};
 ghost use Rattle.book.specs.Designs.{StandsOver, view_report, texts_of, facts_of, HaveSameTexts};
@@ -14,7 +16,7 @@ use crate::view::DieView;
 use diag_report::{Head, Report, make_text, rank};
 use log_join::Joined;
 use match_counts::plain_counts;
-use scan_model::{Digest, Name, NoMemory, Parts};
+use scan_model::{Digest, Name, NoMemory, Parts, Rows, Scored};
 use sha2::Sha256;
 use std::alloc::Global;
 use std::marker::Model;
@@ -35,15 +37,23 @@ fn joined_of(alloc: Global, parts: &Parts, logs: &[Arc<ReadLog>]) -> Result<Join
     Ok(joined)
 }
 
-// The report of different logs of the die.
-fn report_of(
+/// The report of a die, and the candidates that it lists, best first.
+#[derive(Drop)]
+pub struct Diagnosis {
+    pub report: Report,
+    pub candidates: Rows<Scored>,
+}
+
+// The diagnosis of different logs of the die.
+fn diagnosis_of(
     alloc: Global,
     design: &Design,
     die: &[u8],
     logs: &[Arc<ReadLog>],
-) -> Result<Report, NoMemory>
+) -> Result<Diagnosis, NoMemory>
     requires stand { All (StandsOver design.now.test) (map (λ log. arc_value log) logs.now) }
-    ensures { IfOk result (λ report. report ≡ text_of.report_lines design.now.test design.now.name die.now (facts_of (map (λ log. arc_value log) logs.now))) }
+    ensures report { IfOk result (λ d. d.report ≡ text_of.report_lines design.now.test design.now.name die.now (facts_of (map (λ log. arc_value log) logs.now))) }
+    ensures candidates { IfOk result (λ d. d.candidates ≡ ranked (candidates design.now.test (facts_of (map (λ log. arc_value log) logs.now)))) }
 {
     let parts = design.parts();
     let expected = design.expected();
@@ -55,15 +65,28 @@ fn report_of(
         die: Name::copy_of(alloc, die)?,
         logs: logs.len() as u64,
     };
-    make_text(alloc, parts, &head, expected, &joined, &rows)
+    let report = make_text(alloc, parts, &head, expected, &joined, &rows)?;
+    Ok(Diagnosis {
+        report,
+        candidates: rows,
+    })
+}
+
+/// The report over the logs of a die, with the candidates that it lists.
+pub fn make_diagnosis<R>(_rt: &R, alloc: Global, view: &DieView) -> Result<Diagnosis, NoMemory>
+    ensures report { IfOk result (λ d. text_of.joined d.report ≡ view_report view.now) }
+    ensures candidates { IfOk result (λ d. d.candidates ≡ ranked (candidates view.now.design.test (facts_of view.now.logs))) }
+{
+    diagnosis_of(alloc, view.design(), view.die(), view.logs())
 }
 
 /// The report over the logs of a die. Their order doesn't matter, nor does it that a text is given again.
-pub fn make_report<R>(_rt: &R, alloc: Global, view: &DieView) -> Result<Report, NoMemory>
+pub fn make_report<R>(rt: &R, alloc: Global, view: &DieView) -> Result<Report, NoMemory>
     ensures report { IfOk result (λ report. text_of.joined report ≡ view_report view.now) }
     ensures any_order { (others : List (List ℕ)) → HaveSameTexts (texts_of view.now.logs) others → IfOk result (λ report. text_of.joined report ≡ die_report view.now.design.test view.now.design.name view.now.die others) }
 {
-    report_of(alloc, view.design(), view.die(), view.logs())
+    let diagnosis = make_diagnosis(rt, alloc, view)?;
+    Ok(diagnosis.report)
 }
 
 /// A die with the SHA-256 digest (FIPS 180-4) of its report's bytes, at the revision that is its number of logs.

@@ -7,8 +7,9 @@ ghost use Rattle.book.specs.declared.section.BundleFault.{BundleFault};
 ghost use Rattle.book.specs.Bundle.{bundle_text, bundle_reading, texts_reading};
 ghost use Rattle.book.specs.Designs.{IsDesign};
 ghost use Rattle.book.specs.Reading.{four, RefusedBy};
+ghost use Rattle.diag_report.specs.PredictedLog.{HasWordNames};
 
-use crate::bundle::{Sections, split, text_of};
+use crate::bundle::{Sections, bundle_text, split};
 use crate::section::{BundleFault, Section};
 use crate::texts::read_texts;
 use good_sim::expected_all;
@@ -59,6 +60,7 @@ impl Design {
         })
     }
 
+    /// The name, a tag.
     pub fn name(&self) -> &[u8]
         ensures value { result.now ≡ self.now.name }
         ensures design { IsDesign self.now }
@@ -85,6 +87,7 @@ impl Design {
     pub fn parts(&self) -> &Parts
         ensures value { result.now ≡ self.now.test }
         ensures design { IsDesign self.now }
+        ensures names { HasWordNames self.now.test }
     {
         &self.parts
     }
@@ -145,7 +148,7 @@ pub fn design_with(
         patterns,
         neighbours,
     };
-    let text = text_of(alloc, &texts)?;
+    let text = bundle_text(alloc, &texts)?;
     Design::whole(alloc, name, text, parts)
 }
 

@@ -20,12 +20,14 @@ mod view;
 
 pub use answers::{LookFault, Put, PutFault};
 pub use book::Book;
-pub use checked::{Checked, check_report, make_report};
+pub use bundle::{Sections, bundle_text};
+pub use checked::{Checked, Diagnosis, check_report, make_diagnosis, make_report};
 pub use design::{Design, design_of, design_with, read_bundle};
 pub use log::{ReadLog, log_of};
 pub use opening::{NotStarted, StartFault};
 pub use section::{BundleFault, Section};
 pub use sign::Sign;
+pub use tag::is_tag;
 pub use view::DieView;
 
 #[cfg(test)]

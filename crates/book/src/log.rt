@@ -52,7 +52,8 @@ impl ReadLog {
         self.text.as_slice()
     }
 
-    pub(crate) fn facts(&self) -> &LogFacts
+    /// What the text stands for: the tested patterns and the failing bits.
+    pub fn facts(&self) -> &LogFacts
         ensures { result.now ≡ self.now.facts }
     {
         &self.facts

@@ -27,7 +27,7 @@ fn are_tag_bytes(bytes: &[u8]) -> bool
     bytes.iter().all(|&byte| is_tag_byte(byte))
 }
 
-/// Whether the bytes are a tag.
+/// Whether the bytes are a tag: 1 to 64 of letters, digits, `_`, `-` and `.`, of which the first is a letter or a digit.
 pub fn is_tag(word: &[u8]) -> bool
     ensures { result ≡ is_tag word.now }
 {

@@ -1,4 +1,4 @@
-use Rattle.std.proofs.Common.{◌≡◌, ◌≤◌, ℕ, List, [], length, take, true, Some}
+use Rattle.std.proofs.Common.{◌≡◌, ◌≤◌, List, [], length, take, true, Some}
 use Rattle.desk_outside.specs.declared.deed.Deed.{Deed}
 use Rattle.book.specs.Legal.{each_fits}
 use Rattle.book.proofs.opening.read_rows.Given as goal

@@ -1,6 +1,5 @@
-use Rattle.std.proofs.Common.{sym, ap, ◌∙◌, rules}
+use Rattle.std.proofs.Common.{rules}
 use Rattle.std.specs.Arc.{arc_value}
-use Rattle.book.specs.Designs.{DesignFacts, IsDesign}
 use Rattle.book.proofs.RowLogs.{row_fits, row_stands, row_refused}
 use Rattle.book.proofs.Showing.{some_is}
 use Rattle.book.proofs.row.log_of_row.Goals as goal

@@ -2,7 +2,6 @@ use Rattle.std.proofs.Common.{◌<◌, length, refl, sym, subst, arith, rules}
 use Rattle.book.specs.Changes.{BookFacts}
 use Rattle.book.proofs.OneMore.{few_designs}
 use Rattle.book.proofs.Changing.{book_after}
-use Rattle.book.proofs.Fitting.{design_fits}
 use Rattle.book.proofs.book.Book.put_design.Goals as goal
 
 pub overflow_add-number : goal.overflow_add-number

@@ -1,16 +1,13 @@
-use Rattle.std.proofs.Common.{◌≡◌, ◌∙◌, ℕ, List, Global, sym, subst, map, length}
+use Rattle.std.proofs.Common.{◌≡◌, ◌∙◌, Global, sym, subst, map, length}
 use Rattle.std.specs.Prelude.{All}
 use Rattle.std.specs.Arc.{arc_value}
 use Rattle.std.specs.declared.sync.Arc.{Arc}
 use Rattle.std.proofs.lemmas.List.{length-map}
-use Rattle.std.proofs.lemmas.Result.{IfOk-weaker}
-use Rattle.scan_model.specs.ReportText.{report_layout, report_lines}
 use Rattle.scan_model.specs.ScanTest.{ScanTest}
-use Rattle.scan_model.specs.Universe.{universe}
 use Rattle.book.specs.declared.log.ReadLog.{ReadLog}
 use Rattle.book.specs.Designs.{ReadLogFacts, StandsOver, facts_of}
-use Rattle.book.proofs.Reports.{places, layout_is_report}
-use Rattle.book.proofs.checked.report_of.Goals as goal
+use Rattle.book.proofs.Reports.{places, in_order, layout_is_report}
+use Rattle.book.proofs.checked.diagnosis_of.Goals as goal
 
 pub make_text-requires-clause-places : goal.make_text-requires-clause-places
 make_text-requires-clause-places c =
@@ -18,8 +15,8 @@ make_text-requires-clause-places c =
     let counted = c.in_ok-rows.ensures logs c.in_ok-joined.ensures.stands in
     places c.parts-parts.result.now logs c.in_ok-rows.rows c.rank.new.rows counted c.rank.ensures.same
 
-pub returns : goal.returns
-returns c =
+pub returns-clause-report : goal.returns-clause-report
+returns-clause-report c =
     let all = map (λ (log : Arc ReadLog Global). arc_value log) c.args.logs.now in
     let logs = facts_of all in
     let stands = c.in_ok-joined.ensures.stands in
@@ -29,10 +26,13 @@ returns c =
     let is = layout_is_report c.parts-parts.result.now logs c.in_ok-rows.rows c.rank.new.rows counted
     c.in_ok-copy_of.field-0 c.in_ok-copy_of-2.field-0 c.args.design.now.name c.args.die.now (length c.args.logs.now) c.args.design.now.test
     c.rank.ensures.one c.parts-parts.ensures.value (c.in_ok-copy_of.ensures ∙ c.name.ensures.value) c.in_ok-copy_of-2.ensures count in
-    IfOk-weaker c.make_text.result
-    (λ (report : List (List ℕ)). report ≡ report_layout (universe c.parts-parts.result.now) c.parts-parts.result.now c.in_ok-copy_of.field-0 c.in_ok-copy_of-2.field-0 (length c.args.logs.now) logs c.rank.new.rows)
-    (λ (report : List (List ℕ)). report ≡ report_lines c.args.design.now.test c.args.design.now.name c.args.die.now logs)
-    (λ report e. e ∙ is) (c.make_text.ensures logs stands)
+    c.in_ok-report.ensures logs stands ∙ is
+
+pub returns-clause-candidates : goal.returns-clause-candidates
+returns-clause-candidates c =
+    let logs = facts_of (map (λ (log : Arc ReadLog Global). arc_value log) c.args.logs.now) in
+    let counted = c.in_ok-rows.ensures logs c.in_ok-joined.ensures.stands in
+    in_order c.parts-parts.result.now logs c.in_ok-rows.rows c.rank.new.rows counted c.args.design.now.test c.rank.ensures.one c.parts-parts.ensures.value
 
 pub joined_of-requires : goal.joined_of-requires
 joined_of-requires c =
