@@ -67,3 +67,8 @@ abbrev pub IsPageOf : Stop → ℕ → List ℕ → Type 0
 IsPageOf (Refused n refusal) status text = (status ≡ refusal_status refusal) × (text ≡ refusal_line n.now refusal)
 IsPageOf (Fault n) status text = (status ≡ 5) × (text ≡ n.now ++ codes " fault\n")
 IsPageOf NoMemory status text = ⊥
+
+-- the page of a text, or of the stop in its place
+abbrev pub IsPageOfAnswer : Result (List ℕ) Stop → ℕ → List ℕ → Type 0
+IsPageOfAnswer (Ok written) status text = (status ≡ 0) × (text ≡ written)
+IsPageOfAnswer (Err stop) status text = IsPageOf stop status text

@@ -1,5 +1,5 @@
 -- What a command comes to, from its words and the files.
-use Rattle.std.specs.Prelude.{ℕ, List, [], ◌∷◌, ◌++◌, if◌then◌else◌, codes, Result, Ok, Err}
+use Rattle.std.specs.Prelude.{ℕ, List, [], ◌∷◌, ◌++◌, codes, Result, Ok, Err}
 use Rattle.std.specs.Fmt.{decimal}
 use Rattle.desk_outside.specs.declared.shelf.File.{File}
 use Rattle.scan_model.specs.declared.parts.Chain.{Chain}
@@ -13,9 +13,12 @@ use Rattle.scan_model.specs.PatternText.{pattern_frame, pattern_reading}
 use Rattle.bridge_pairs.specs.PairText.{pairs_reading}
 use Rattle.scan_model.specs.LogText.{LogFrame, log_frame, log_reading}
 use Rattle.scan_model.specs.DieReport.{die_report}
+use Rattle.diag_report.specs.Summary.{summary_text}
+use Rattle.book.specs.Bundle.{FourTexts, bundle_text}
+use Rattle.book.specs.Reading.{four}
 use Rattle.scandesk.specs.declared.files.Refusal.{Refusal}
 use Rattle.scandesk.specs.declared.files.Refusal.TheVariants.{Absent, TooLong, Rule}
-use Rattle.scandesk.specs.Words.{Request, are_right, request_of}
+use Rattle.scandesk.specs.Words.{DesignNames, Request}
 use Rattle.scandesk.specs.Reading.{Reading, value, one_file, and_then}
 
 -- what a text stands for by rules, of which the first fault has a line and a rule
@@ -23,33 +26,56 @@ abbrev pub by_rules : {X : Type 0} → Result X (ℕ × ℕ) → Result X Refusa
 by_rules (Ok x) = Ok x
 by_rules (Err fault) = Err (Rule (record { line = fault.0; rule = fault.1 }))
 
-module _ (files : List File) (r : Request) where
+-- a text before what it stands for
+abbrev pub beside : {X : Type 0} → List ℕ → Result X Refusal → Result (List ℕ × X) Refusal
+beside text (Ok x) = Ok (text, x)
+beside text (Err refusal) = Err refusal
+
+-- a file's text and what it stands for
+abbrev pub read_file : {X : Type 0} → List File → List ℕ → (List ℕ → Result X (ℕ × ℕ)) → Reading (List ℕ × X)
+read_file files name reads = one_file files name (λ text. beside text (by_rules (reads text)))
+
+-- the four texts of a design, and the scan test that they stand for
+pub record ReadDesign : Type 0 where
+  pub texts : FourTexts
+  pub test : ScanTest
+
+module _ (files : List File) (names : DesignNames) where
   -- the circuit, then its chains, patterns for both, and the neighbours of the circuit's nets
-  abbrev pub netlist_file : Reading Netlist
-  netlist_file = one_file files r.netlist (λ text. by_rules (netlist_reading text))
+  abbrev pub netlist_file : Reading (List ℕ × Netlist)
+  netlist_file = read_file files names.netlist netlist_reading
 
-  abbrev pub scan_file : Netlist → Reading (List Chain)
-  scan_file c = one_file files r.scan (λ text. by_rules (scan_reading c.nets text))
+  abbrev pub scan_file : Netlist → Reading (List ℕ × List Chain)
+  scan_file c = read_file files names.scan (scan_reading c.nets)
 
-  abbrev pub pattern_file : Netlist → List Chain → Reading (List Pattern)
-  pattern_file c chains = one_file files r.patterns (λ text. by_rules (pattern_reading (pattern_frame c chains) text))
+  abbrev pub pattern_file : Netlist → List Chain → Reading (List ℕ × List Pattern)
+  pattern_file c chains = read_file files names.patterns (pattern_reading (pattern_frame c chains))
 
-  abbrev pub neighbour_file : Netlist → Reading Pairs
-  neighbour_file c = one_file files r.neighbours (λ text. by_rules (pairs_reading c text))
+  abbrev pub neighbour_file : Netlist → Reading (List ℕ × Pairs)
+  neighbour_file c = read_file files names.neighbours (pairs_reading c)
 
-  -- the scan test, after the files before the neighbours, before the patterns, and before the chains
-  abbrev pub with_patterns : Netlist → List Chain → List Pattern → Reading ScanTest
-  with_patterns c chains patterns = and_then (neighbour_file c) (λ pairs. value (scan_test c chains patterns pairs))
+  -- the design, after the files before the neighbours, before the patterns, and before the chains
+  abbrev pub with_patterns : List ℕ × Netlist → List ℕ × List Chain → List ℕ × List Pattern → Reading ReadDesign
+  with_patterns c chains patterns = and_then (neighbour_file c.1)
+      (λ pairs. value (record { texts = four c.0 chains.0 patterns.0 pairs.0; test = scan_test c.1 chains.1 patterns.1 pairs.1 }))
 
-  abbrev pub with_chains : Netlist → List Chain → Reading ScanTest
-  with_chains c chains = and_then (pattern_file c chains) (with_patterns c chains)
+  abbrev pub with_chains : List ℕ × Netlist → List ℕ × List Chain → Reading ReadDesign
+  with_chains c chains = and_then (pattern_file c.1 chains.1) (with_patterns c chains)
 
-  abbrev pub with_circuit : Netlist → Reading ScanTest
-  with_circuit c = and_then (scan_file c) (with_chains c)
+  abbrev pub with_circuit : List ℕ × Netlist → Reading ReadDesign
+  with_circuit c = and_then (scan_file c.1) (with_chains c)
 
-  -- the scan test of the four files of a design
-  abbrev pub design_reading : Reading ScanTest
+  -- the design of the four files, each read and judged before the next is read
+  abbrev pub design_reading : Reading ReadDesign
   design_reading = and_then netlist_file with_circuit
+
+  -- the summary of the design
+  abbrev pub check_reading : Reading (List ℕ)
+  check_reading = and_then design_reading (λ d. value (summary_text d.test))
+
+  -- its bundle
+  abbrev pub pack_reading : Reading (List ℕ)
+  pack_reading = and_then design_reading (λ d. value (bundle_text d.texts))
 
 -- the other in place of what was read, where it was read
 abbrev pub in_place_of : {X Y : Type 0} → Result X Refusal → Y → Result Y Refusal
@@ -71,13 +97,13 @@ module _ (files : List File) (frame : LogFrame) where
   logs_reading names = logs_after [] names
 
 -- the report of the logs of a request, over its scan test
-abbrev pub with_design : List File → Request → ScanTest → Reading (List ℕ)
-with_design files r t =
-    and_then (logs_reading files (log_frame t r.design r.die) r.logs) (λ texts. value (die_report t r.design r.die texts))
+abbrev pub with_design : List File → Request → ReadDesign → Reading (List ℕ)
+with_design files r d =
+    and_then (logs_reading files (log_frame d.test r.design r.die) r.logs) (λ texts. value (die_report d.test r.design r.die texts))
 
 -- the report of the files of a request
 abbrev pub report_reading : List File → Request → Reading (List ℕ)
-report_reading files r = and_then (design_reading files r) (with_design files r)
+report_reading files r = and_then (design_reading files r.files) (with_design files r)
 
 -- a status, the bytes to write, and the names of the files that decide it, in the order in which they are read
 pub record Output : Type 0 where
@@ -107,10 +133,3 @@ outcome_text (Err refused) = refusal_line refused.0 refused.1
 -- the text that the files stand for, or the line of the first that is refused
 abbrev pub output_of : Reading (List ℕ) → Output
 output_of reading = record { status = outcome_status reading.outcome; text = outcome_text reading.outcome; read = reading.read }
-
-abbrev pub misunderstood : Output
-misunderstood = record { status = 2; text = codes "words not understood\n"; read = [] }
-
--- the status, the bytes and the files read of a command
-abbrev pub work : List (List ℕ) → List File → Output
-work words files = if are_right words then output_of (report_reading files (request_of words)) else misunderstood

@@ -7,7 +7,7 @@ ghost use Rattle.scandesk.specs.Reading.{file_limit};
 ghost use Rattle.scandesk.specs.Stops.{StopsAt, StopsFor, IsNamed, is_fault, ends_by_fault};
 
 use desk_outside::{Shelf, ShelfAnswer};
-use scan_model::NoMemory;
+use scan_model::{Name, NoMemory, Rows};
 use std::alloc::Global;
 use text_parts::{ReadFault, TextFault};
 
@@ -52,9 +52,9 @@ pub fn read_text<'a, F: Shelf>(
     alloc: Global,
     shelf: &mut F,
     name: &'a str,
-) -> Result<Vec<u8>, Stop<'a>>
-    ensures text { (held : List File) → F.files shelf.old ≡ Some held → IfOk result (λ text. text_of held name.now ≡ Some text.items) }
-    ensures within { IfOk result (λ text. length text.items ≤ file_limit) }
+) -> Result<Name, Stop<'a>>
+    ensures text { (held : List File) → F.files shelf.old ≡ Some held → IfOk result (λ text. text_of held name.now ≡ Some text) }
+    ensures within { IfOk result (λ text. length text ≤ file_limit) }
     ensures stops { (held : List File) → F.files shelf.old ≡ Some held → IfErr result (StopsAt (text_of held name.now) name.now) }
     ensures fault { ends_by_fault result ≡ true → Rose (F.faults shelf.old) (F.faults shelf.new) }
     ensures same { F.files shelf.new ≡ F.files shelf.old }
@@ -62,7 +62,7 @@ pub fn read_text<'a, F: Shelf>(
 {
     let mut text = Vec::new(alloc);
     let refusal = match shelf.read(name, FILE_LIMIT, &mut text) {
-        ShelfAnswer::Read => return Ok(text),
+        ShelfAnswer::Read => return Ok(Rows::from_vec(text)),
         ShelfAnswer::Failed => return Err(Stop::Fault { name }),
         ShelfAnswer::NoMemory => return Err(Stop::NoMemory),
         ShelfAnswer::Absent => Refusal::Absent,

@@ -1,13 +1,13 @@
-//! Diagnoses the fail logs of a die: the outermost layer.
+//! The diagnosis desk on the command line: the outermost layer.
 #![tactic(auto)]
 
+mod command;
+mod commands;
 mod design;
-mod diagnose;
 mod file_shelf;
 mod files;
-mod logs;
+mod generator;
 mod page;
-mod report;
 mod stdout_sink;
 mod top;
 mod words;

@@ -15,8 +15,8 @@ pub struct Page {
     pub text: Rows<u8>,
 }
 
-// The line of a text that breaks a rule.
-fn rule_line(alloc: Global, name: &str, fault: TextFault) -> Result<String, NoMemory>
+/// The line of a text that breaks a rule.
+pub fn rule_line(alloc: Global, name: &str, fault: TextFault) -> Result<String, NoMemory>
     ensures { IfOk result (λ line. string_bytes line ≡ refusal_line name.now (Refusal.Rule fault)) }
 {
     let TextFault { line, rule } = fault;
@@ -55,8 +55,8 @@ fn status_of(refusal: Refusal) -> u8
     }
 }
 
-// A page of one line.
-fn line_page(alloc: Global, status: u8, line: &str) -> Result<Page, NoMemory>
+/// A page of one line.
+pub fn line_page(alloc: Global, status: u8, line: &str) -> Result<Page, NoMemory>
     ensures { IfOk result (λ page. (page.status ≡ status) × (page.text ≡ line.now)) }
 {
     let text = Rows::copy_of(alloc, line.as_bytes())?;

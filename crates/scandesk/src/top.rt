@@ -4,11 +4,11 @@ ghost use Rattle.desk_outside.specs.declared.shelf.File.{File};
 ghost use Rattle.std.specs.Io.KnownBytes.{append_known};
 ghost use Rattle.desk_outside.specs.Faults.{Rose};
 ghost use Rattle.scandesk.specs.Words.{are_right};
-ghost use Rattle.scandesk.specs.Work.{work};
+ghost use Rattle.scandesk.specs.Commands.{work};
 ghost use Rattle.scandesk.specs.Ending.{Ran, Ends};
 
-use crate::diagnose::page_of_command;
-use crate::words::diagnose_of;
+use crate::commands::page_of_command;
+use crate::words::command_of;
 use desk_outside::{Failed, Shelf, Sink, write_all};
 use scan_model::NoMemory;
 use std::alloc::Global;
@@ -26,7 +26,7 @@ pub fn finish<O: Sink>(out: &mut O, status: u8, text: &[u8]) -> u8
 
 /// Reads the files that the words name, and writes what they come to. The answer is the program's exit status.
 pub fn run<R, F: Shelf, O: Sink>(
-    _rt: &R,
+    rt: &R,
     alloc: Global,
     words: &[String],
     shelf: &mut F,
@@ -48,10 +48,12 @@ pub fn run<R, F: Shelf, O: Sink>(
     ensures shelf_later { F.faults shelf.old ≤ F.faults shelf.new }
     ensures sink_later { O.faults out.old ≤ O.faults out.new }
 {
-    let Some(command) = diagnose_of(words) else {
-        return finish(out, 2, b"words not understood\n");
+    let command = match command_of(alloc, words) {
+        Ok(Some(command)) => command,
+        Ok(None) => return finish(out, 2, b"words not understood\n"),
+        Err(NoMemory) => return finish(out, 8, b"memory\n"),
     };
-    match page_of_command(alloc, shelf, &command) {
+    match page_of_command(rt, alloc, shelf, &command) {
         Ok(page) => finish(out, page.status, page.text.as_slice()),
         Err(NoMemory) => finish(out, 8, b"memory\n"),
     }

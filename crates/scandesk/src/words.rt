@@ -1,57 +1,17 @@
-//! The words of a command.
-ghost use Rattle.std.specs.Prelude.{◌≡◌, ◌<◌, ◌≤◌, List, map, length, drop, true, false, MatchOption, string_bytes};
+//! Which words are right, and the command that they name.
+mod assigned;
+
+ghost use Rattle.std.specs.Prelude.{◌≡◌, ◌==◌, ◌<◌, List, map, length, true, IfOk, OnErr, string_bytes, codes};
 ghost use Rattle.std.specs.List.{list_all};
-ghost use Rattle.scan_model.specs.Words.{is_letter, is_digit, is_tag_byte, is_tag};
-ghost use Rattle.scandesk.specs.Words.{is_plain_word, are_right, word_at};
-ghost use Rattle.scandesk.specs.Requests.{Says};
+ghost use Rattle.scandesk.specs.Words.{is_plain_word, word_at, begins, is_check, is_pack, is_diagnose, is_demo, are_right};
+ghost use Rattle.scandesk.specs.Requests.{TakenFor};
 
-/// `diagnose DESIGN DIE NETLIST SCAN PATTERNS NEIGHBOURS LOG..` with one log or more.
-#[derive(Drop)]
-pub struct Diagnose<'a> {
-    pub design: &'a str,
-    pub die: &'a str,
-    pub netlist: &'a str,
-    pub scan: &'a str,
-    pub patterns: &'a str,
-    pub neighbours: &'a str,
-    pub logs: &'a [String],
-}
-
-fn is_letter(byte: u8) -> bool
-    ensures { result ≡ is_letter byte }
-{
-    matches!(byte, b'A'..=b'Z' | b'a'..=b'z')
-}
-
-fn is_digit(byte: u8) -> bool
-    ensures { result ≡ is_digit byte }
-{
-    matches!(byte, b'0'..=b'9')
-}
-
-fn is_tag_byte(byte: u8) -> bool
-    ensures { result ≡ is_tag_byte byte }
-{
-    is_letter(byte) || is_digit(byte) || matches!(byte, b'_' | b'-' | b'.')
-}
-
-fn are_tag_bytes(bytes: &[u8]) -> bool
-    ensures { result ≡ list_all is_tag_byte bytes.now }
-{
-    bytes.iter().all(|&byte| is_tag_byte(byte))
-}
-
-fn is_tag(word: &[u8]) -> bool
-    ensures { result ≡ is_tag word.now }
-{
-    let [first, rest @ ..] = word else {
-        return false;
-    };
-    if !(is_letter(*first) || is_digit(*first)) {
-        return false;
-    }
-    are_tag_bytes(rest) && rest.len() < 64
-}
+use crate::command::Command;
+use crate::words::assigned::{demo_of, design_files_of, diagnose_of};
+use book::is_tag;
+use fail_logs::number_of;
+use scan_model::NoMemory;
+use std::alloc::Global;
 
 fn is_plain(word: &[u8]) -> bool
     ensures { result ≡ is_plain_word word.now }
@@ -65,50 +25,76 @@ fn are_plain(words: &[String]) -> bool
     words.iter().all(|word| is_plain(word.as_bytes()))
 }
 
+// The word at a place, which is empty past the last.
 fn word(words: &[String], place: usize) -> &str
-    requires { place < length words.now }
     ensures { result.now ≡ word_at (map string_bytes words.now) place }
 {
-    words[place].as_str()
-}
-
-fn words_from(words: &[String], place: usize) -> &[String]
-    requires { place ≤ length words.now }
-    ensures { map string_bytes result.now ≡ drop place (map string_bytes words.now) }
-{
-    &words[place..]
+    match words.get(place) {
+        Some(word) => word.as_str(),
+        None => "",
+    }
 }
 
 #[tactic(auto, using(crate::proofs::WordFacts::all_plain))]
-fn are_right(words: &[String]) -> bool
-    ensures { result ≡ are_right (map string_bytes words.now) }
+fn begins(command: &str, words: &[String]) -> bool
+    ensures { result ≡ begins command.now (map string_bytes words.now) }
 {
-    if words.len() < 8 {
-        return false;
-    }
-    if !are_plain(words) {
-        return false;
-    }
-    if word(words, 0) != "diagnose" {
-        return false;
-    }
-    is_tag(word(words, 1).as_bytes()) && is_tag(word(words, 2).as_bytes())
+    are_plain(words) && word(words, 0) == command
 }
 
-/// What right words name, or nothing where the words aren't right.
-pub fn diagnose_of(words: &[String]) -> Option<Diagnose<'_>>
-    ensures { MatchOption result (are_right (map string_bytes words.now) ≡ false) (λ command. Says (map string_bytes words.now) command) }
+fn is_check(words: &[String]) -> bool
+    ensures { result ≡ is_check (map string_bytes words.now) }
 {
-    if !are_right(words) {
-        return None;
-    }
-    Some(Diagnose {
-        design: word(words, 1),
-        die: word(words, 2),
-        netlist: word(words, 3),
-        scan: word(words, 4),
-        patterns: word(words, 5),
-        neighbours: word(words, 6),
-        logs: words_from(words, 7),
-    })
+    words.len() == 5 && begins("check", words)
 }
+
+fn is_pack(words: &[String]) -> bool
+    ensures { result ≡ is_pack (map string_bytes words.now) }
+{
+    words.len() == 5 && begins("pack", words)
+}
+
+fn is_diagnose(words: &[String]) -> bool
+    ensures { result ≡ is_diagnose (map string_bytes words.now) }
+{
+    words.len() >= 8
+        && begins("diagnose", words)
+        && is_tag(word(words, 1).as_bytes())
+        && is_tag(word(words, 2).as_bytes())
+}
+
+fn is_demo(words: &[String]) -> bool
+    ensures { result ≡ is_demo (map string_bytes words.now) }
+{
+    words.len() == 3
+        && begins("demo", words)
+        && number_of(word(words, 1).as_bytes()).is_some()
+        && matches!(number_of(word(words, 2).as_bytes()), Some(1..=200))
+}
+
+/// The command that the words are taken for, or nothing where they aren't right, which takes no memory.
+pub fn command_of(alloc: Global, words: &[String]) -> Result<Option<Command<'_>>, NoMemory>
+    ensures taken { IfOk result (TakenFor (map string_bytes words.now)) }
+    ensures memory { OnErr result (are_right (map string_bytes words.now) ≡ true) }
+{
+    if is_check(words) {
+        let files = design_files_of(alloc, "check", words)?;
+        return Ok(Some(Command::Check(files)));
+    }
+    if is_pack(words) {
+        let files = design_files_of(alloc, "pack", words)?;
+        return Ok(Some(Command::Pack(files)));
+    }
+    if is_diagnose(words) {
+        let diagnose = diagnose_of(alloc, words)?;
+        return Ok(Some(Command::Diagnose(diagnose)));
+    }
+    if is_demo(words) {
+        let demo = demo_of(alloc, words)?;
+        return Ok(Some(Command::Demo(demo)));
+    }
+    Ok(None)
+}
+
+#[cfg(test)]
+mod tests;
