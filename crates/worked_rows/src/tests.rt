@@ -4,6 +4,7 @@ mod logs;
 mod neighbours;
 mod netlists;
 mod patterns;
+mod predicted;
 mod refusal;
 mod reports;
 mod responses;
