@@ -1,0 +1,169 @@
+#!/bin/sh
+# Runs the worked day of the README and the examples of docs/formats.md, and compares what is printed with what is
+# expected. The program is the built one, or that of the first word.
+top=$(CDPATH='' cd -- "$(dirname -- "$0")/.." && pwd) || exit 1
+program=${1:-$top/crates/scandesk/out/scandesk}
+# Without words the program says that it doesn't understand; where it isn't there, it is built first.
+[ -x "$program" ] || "$top/scandesk" >/dev/null
+work=$(mktemp -d) || exit 1
+trap 'rm -rf "$work"' EXIT
+runs=0
+wrong=0
+
+# expect STATUS FILE WORD..: the program ends with the status and prints the file.
+expect() {
+    status=$1
+    expected=$2
+    shift 2
+    runs=$((runs + 1))
+    "$program" "$@" >"$work/printed"
+    ended=$?
+    if [ "$ended" -ne "$status" ] || ! cmp -s "$work/printed" "$expected"; then
+        wrong=$((wrong + 1))
+        echo "scandesk $*: ended with $ended, $status was due; printed (<) and due (>):"
+        diff "$work/printed" "$expected" | head -n 10
+    fi
+}
+
+# The same for one line.
+expect_line() {
+    status=$1
+    printf '%s\n' "$2" >"$work/line"
+    shift 2
+    expect "$status" "$work/line" "$@"
+}
+
+the_day() {
+    cd "$top/examples/day" || exit 1
+    expect 0 check.expected check block.bench block.scan block.pat block.csv
+    expect 0 pack.expected pack block.bench block.scan block.pat block.csv
+    expect 0 report.expected diagnose block W3-17 block.bench block.scan block.pat block.csv first.log second.log
+    expect 0 report.expected diagnose block W3-17 block.bench block.scan block.pat block.csv second.log first.log second.log
+    expect 0 demo.expected demo 7 2
+    expect 0 demo.expected demo 7 2
+}
+
+# The files of s27 with one of them replaced by the example of a rule.
+the_files() {
+    cp "$top"/examples/s27/* .
+    case $1 in
+        netlist) mv example s27.bench ;;
+        scan) mv example s27.scan ;;
+        patterns) mv example s27.pat ;;
+        neighbours) mv example none.csv ;;
+    esac
+}
+
+# expect_rule KIND RULE LINE: the file `example` breaks the rule at the line.
+expect_rule() {
+    the_files "$1"
+    case $1 in
+        netlist) name=s27.bench ;;
+        scan) name=s27.scan ;;
+        patterns) name=s27.pat ;;
+        neighbours) name=none.csv ;;
+        log)
+            expect_line 3 "example line $3 rule $2" diagnose s27 D1 s27.bench s27.scan s27.pat none.csv example
+            return
+            ;;
+    esac
+    expect_line 3 "$name line $3 rule $2" check s27.bench s27.scan s27.pat none.csv
+}
+
+# The examples that are told in words.
+told_example() {
+    case $1 in
+        5) printf 'INPUT(%065d)\n' 0 ;;
+        9) awk 'BEGIN { for (i = 0; i < 65537; i++) print "INPUT(n" i ")" }' ;;
+        15) awk 'BEGIN { for (i = 0; i < 257; i++) print "CHAIN c" i " q" i }' ;;
+        25) awk 'BEGIN { for (i = 0; i < 4097; i++) print "SHIFT 101" }' ;;
+        34) awk 'BEGIN { print "net_a,net_b"; for (i = 0; n < 65537; i++) for (j = 0; j < i && n < 65537; j++) { print "n" i ",n" j; n++ } }' ;;
+    esac
+}
+
+# Their netlists, where s27 is too small.
+told_netlist() {
+    case $1 in
+        15) awk 'BEGIN { print "INPUT(a)"; for (i = 0; i < 257; i++) print "q" i " = DFF(a)" }' ;;
+        34) awk 'BEGIN { for (i = 0; i < 363; i++) print "INPUT(n" i ")" }' ;;
+    esac
+}
+
+expect_told_rule() {
+    told_example "$2" >example
+    case $2 in
+        15)
+            told_netlist 15 >q.bench
+            expect_line 3 "example line $3 rule 15" check q.bench example s27.pat none.csv
+            ;;
+        34)
+            told_netlist 34 >n.bench
+            : >empty
+            { printf 'CAPTURE '; printf '%0363d\n' 0; } >n.pat
+            expect_line 3 "example line $3 rule 34" check n.bench empty n.pat example
+            ;;
+        *) expect_rule "$@" ;;
+    esac
+}
+
+# The tables of rules: a row has the rule, where it is broken, an example and its line. Printed as KIND|RULE|LINE|EXAMPLE.
+rules() {
+    awk '
+        /^## / { kind = ""; split("Netlist:netlist Scan:scan Pattern:patterns Neighbour:neighbours Fail:log", kinds, " ")
+            for (i in kinds) { split(kinds[i], k, ":"); if ($2 ~ "^" k[1]) kind = k[2] } }
+        kind != "" && /^\| [0-9]+ \|/ { split($0, cell, " *[|] *"); print kind "|" cell[2] "|" cell[5] "|" cell[4] }
+    ' "$top/docs/formats.md"
+}
+
+the_rules() {
+    cd "$work" || exit 1
+    rules >"$work/rules"
+    while IFS='|' read -r kind rule line example; do
+        the_files none
+        case $example in
+            '`'*)
+                text=${example#?}
+                printf '%b' "${text%?}" >example
+                expect_rule "$kind" "$rule" "$line"
+                ;;
+            *) expect_told_rule "$kind" "$rule" "$line" ;;
+        esac
+    done <"$work/rules"
+}
+
+# The answers of the program: a row has the status, its cause, the line, and an example with what it writes.
+answers() {
+    awk '/^## / { on = $0 ~ /^## The program/ } on && /^\| [0-9]+ \|/ { split($0, cell, " *[|] *"); print cell[2] "|" cell[5] "|" cell[6] }' "$top/docs/formats.md"
+}
+
+the_answers() {
+    cd "$work" || exit 1
+    the_files none
+    head -c 16777217 /dev/zero | tr '\0' '\n' >long.bench
+    answers >"$work/answers"
+    while IFS='|' read -r status words line; do
+        case $words in
+            '`'*)
+                words=$(printf '%s' "$words" | tr -d '\140')
+                # The words have no blanks.
+                # shellcheck disable=SC2086
+                expect_line "$status" "$(printf '%s' "$line" | tr -d '\140')" $words
+                ;;
+        esac
+    done <"$work/answers"
+}
+
+# What can't be written ends with status 6.
+the_full_device() {
+    [ -w /dev/full ] || return
+    runs=$((runs + 1))
+    "$program" demo 7 0 >/dev/full
+    [ $? -eq 6 ] || { wrong=$((wrong + 1)); echo 'no status 6 at a full device'; }
+}
+
+the_day
+the_rules
+the_answers
+the_full_device
+echo "$runs examples, $wrong wrong"
+[ "$wrong" -eq 0 ]
