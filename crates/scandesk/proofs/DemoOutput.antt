@@ -1,5 +1,5 @@
 -- What the command comes to, from what the texts that are made stand for.
-use Rattle.std.proofs.Common.{◌≡◌, ℕ, List, Result, Ok, Err, refl, sym, ap, ◌∙◌}
+use Rattle.std.proofs.Common.{◌≡◌, ℕ, Result, Ok, Err, sym, ap, ◌∙◌}
 use Rattle.std.specs.Prelude.{IfOk}
 use Rattle.std.proofs.lemmas.Result.{IfOk-weaker}
 use Rattle.scan_model.specs.ScanTest.{ScanTest}
@@ -7,15 +7,12 @@ use Rattle.book.specs.declared.section.Section.{Section}
 use Rattle.book.specs.declared.section.BundleFault.{BundleFault}
 use Rattle.book.specs.declared.section.BundleFault.TheVariants.{Text, NoMemory}
 use Rattle.book.specs.Bundle.{FourTexts, texts_reading}
-use Rattle.book.specs.Reading.{four, RefusedBy}
+use Rattle.book.specs.Reading.{RefusedBy}
 use Rattle.scandesk.specs.declared.page.Page.{Page}
 use Rattle.scandesk.specs.Work.{Output}
 use Rattle.scandesk.specs.Made.{made_texts}
 use Rattle.scandesk.specs.Demo.{demo_of, demo_output}
 use Rattle.scandesk.specs.Injected.{IsText, IsRefusal}
-
-pub four_are : (a b c d e f g h : List ℕ) → a ≡ e → b ≡ f → c ≡ g → d ≡ h → four a b c d ≡ four e f g h
-four_are a b c d e f g h one two three last = rw (one, two, three, last) refl
 
 module _ (seed blocks : ℕ) (texts : FourTexts) (made : texts ≡ made_texts seed blocks) where
   output_is : (read : Result ScanTest (Section × (ℕ × ℕ))) → texts_reading texts ≡ read → demo_of seed blocks read ≡ demo_output seed blocks

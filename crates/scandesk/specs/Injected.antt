@@ -6,9 +6,12 @@ use Rattle.scan_model.specs.Universe.{universe}
 use Rattle.scan_model.specs.ReportText.{line, joined}
 use Rattle.diag_report.specs.PredictedLog.{fault_of, predicted_log, predicted_facts}
 use Rattle.diag_report.specs.Summary.{count_line}
+use Rattle.book.specs.Bundle.{FourTexts}
+use Rattle.book.specs.Reading.{four}
 use Rattle.book.specs.Designs.{ReadLogFacts, StandsOver}
 use Rattle.book.specs.declared.section.BundleFault.{BundleFault}
 use Rattle.book.specs.declared.section.BundleFault.TheVariants.{Text, NoMemory}
+use Rattle.scandesk.specs.declared.generator.Made.{Made}
 use Rattle.scandesk.specs.declared.files.Refusal.TheVariants.{Rule}
 use Rattle.scandesk.specs.Work.{refusal_line}
 use Rattle.scandesk.specs.declared.commands.demo.injected.Injected.{Injected}
@@ -55,6 +58,10 @@ pub record IsDrawn (seed blocks : ℕ) (t : ScanTest) (place : Option ℕ) : Typ
 -- the text of the command
 pub record IsText (seed blocks : ℕ) (t : ScanTest) (text : List ℕ) : Type 0 where
   pub is : text ≡ joined (demo_lines seed blocks t)
+
+-- the texts that were made
+abbrev pub texts_of : Made → FourTexts
+texts_of made = four made.netlist made.scan made.patterns made.neighbours
 
 -- the page of texts that are refused, which is none for want of memory
 abbrev pub IsRefusal : BundleFault → ℕ → List ℕ → Type 0

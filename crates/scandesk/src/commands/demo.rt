@@ -3,17 +3,19 @@ mod diagnosis;
 mod injected;
 mod lines;
 
-ghost use Rattle.std.specs.Prelude.{◌≡◌, ◌≤◌, ◌++◌, Some, IfOk, OnOk, IfSome};
+ghost use Rattle.std.specs.Prelude.{◌≡◌, ◌≤◌, ◌++◌, Some, Ok, IfOk, IfErr, OnOk, IfSome};
 ghost use Rattle.scan_model.specs.ReportText as text_of;
+ghost use Rattle.book.specs.Bundle.{texts_reading};
+ghost use Rattle.book.specs.Reading.{RefusedBy};
 ghost use Rattle.scandesk.specs.Demo.{demo_name, demo_output, injected_lines, section_word};
-ghost use Rattle.scandesk.specs.Injected.{IsFound, IsAfterTexts, IsText, IsRefusal, place_of};
+ghost use Rattle.scandesk.specs.Injected.{IsFound, IsAfterTexts, IsText, IsRefusal, place_of, texts_of};
 
 use crate::command::Demo;
 use crate::commands::demo::diagnosis::diagnosis_of;
 use crate::commands::demo::injected::{Injected, inject};
 use crate::commands::demo::lines::{add_count, add_digest, add_head, add_injected, add_rank};
 use crate::generator::draws::Draws;
-use crate::generator::made_design;
+use crate::generator::{Made, made_design};
 use crate::page::{Page, line_page, rule_line};
 use book::{BundleFault, Design, Section, design_of};
 use scan_model::{Name, NoMemory, Rows};
@@ -109,6 +111,22 @@ fn page_of_design<R>(
     Ok(Page { status: 0, text })
 }
 
+// The design of the texts that were made.
+fn read_made(alloc: Global, made: &Made) -> Result<Design, BundleFault>
+    ensures name { IfOk result (λ design. design.name ≡ demo_name) }
+    ensures stands { IfOk result (λ design. texts_reading (texts_of made.now) ≡ Ok design.test) }
+    ensures fault { IfErr result (RefusedBy (texts_reading (texts_of made.now))) }
+{
+    design_of(
+        alloc,
+        b"demo",
+        made.netlist.as_slice(),
+        made.scan.as_slice(),
+        made.patterns.as_slice(),
+        made.neighbours.as_slice(),
+    )
+}
+
 /// The page of a made design.
 pub fn demo_page<R>(rt: &R, alloc: Global, demo: Demo) -> Result<Page, NoMemory>
     requires { demo.blocks ≤ 200 }
@@ -116,15 +134,7 @@ pub fn demo_page<R>(rt: &R, alloc: Global, demo: Demo) -> Result<Page, NoMemory>
     ensures text { IfOk result (λ page. page.text ≡ (demo_output demo.seed demo.blocks).text) }
 {
     let mut made = made_design(alloc, demo.seed, demo.blocks)?;
-    let read = design_of(
-        alloc,
-        b"demo",
-        made.netlist.as_slice(),
-        made.scan.as_slice(),
-        made.patterns.as_slice(),
-        made.neighbours.as_slice(),
-    );
-    match read {
+    match read_made(alloc, &made) {
         Ok(design) => page_of_design(rt, alloc, demo, design, &mut made.draws),
         Err(fault) => refused_page(alloc, fault),
     }

@@ -1,4 +1,4 @@
-use Rattle.std.proofs.Common.{◌≡◌, List, ℕ, subst, ◌∙◌}
+use Rattle.std.proofs.Common.{◌≡◌, subst, ◌∙◌}
 use Rattle.scan_model.specs.ScanTest.{ScanTest}
 use Rattle.diag_report.specs.PredictedLog.{fault_of, predicted_log}
 use Rattle.scandesk.specs.Demo.{demo_name}
