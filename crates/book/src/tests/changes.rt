@@ -13,7 +13,6 @@ pub const PASSES: &[u8] = b"FAILLOG 1\ndie D1\ndesign c17\ntested 0 0\nend\n";
 // c17 with one pattern.
 pub fn c17(alloc: Global, pattern: &[u8]) -> Result<Arc<Design>, NoMemory> {
     let parts: &[&[u8]] = &[
-        b"%netlist\n",
         NETLIST,
         b"%scan\n%patterns\nCAPTURE ",
         pattern,

@@ -40,7 +40,7 @@ fn sign(
 // The deeds of the tests: D and L are c17 and its failing log, S its sign-off.
 fn kind(alloc: Global, letter: u8) -> Result<DeedKind, NoMemory> {
     let rest: &[u8] = b"%scan\n%patterns\nCAPTURE 11111\n%neighbours\n";
-    let bundle = joined(alloc, &[b"%netlist\n", NETLIST, rest])?;
+    let bundle = joined(alloc, &[NETLIST, rest])?;
     match letter {
         b'D' => design(alloc, b"c17", bundle.as_slice()),
         b'T' => design(alloc, b"-c17", bundle.as_slice()),
