@@ -161,9 +161,19 @@ the_full_device() {
     [ $? -eq 6 ] || { wrong=$((wrong + 1)); echo 'no status 6 at a full device'; }
 }
 
+# A large file ends with status 8 where the program has 16 MB of memory in all.
+the_little_memory() {
+    cd "$work" || exit 1
+    head -c 16000000 long.bench >large.bench
+    runs=$((runs + 1))
+    printed=$(ulimit -v 16000 && "$program" check large.bench s27.scan s27.pat none.csv)
+    [ $? -eq 8 ] && [ "$printed" = memory ] || { wrong=$((wrong + 1)); echo 'no status 8 with little memory'; }
+}
+
 the_day
 the_rules
 the_answers
+the_little_memory
 the_full_device
 echo "$runs examples, $wrong wrong"
 [ "$wrong" -eq 0 ]
