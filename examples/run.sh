@@ -37,8 +37,8 @@ the_day() {
     cd "$top/examples/day" || exit 1
     expect 0 check.expected check block.bench block.scan block.pat block.csv
     expect 0 pack.expected pack block.bench block.scan block.pat block.csv
-    expect 0 report.expected diagnose block W3-17 block.bench block.scan block.pat block.csv first.log second.log
-    expect 0 report.expected diagnose block W3-17 block.bench block.scan block.pat block.csv second.log first.log second.log
+    expect 0 report.expected diagnose block wafer3.17 block.bench block.scan block.pat block.csv first.log second.log
+    expect 0 report.expected diagnose block wafer3.17 block.bench block.scan block.pat block.csv second.log first.log second.log
     expect 0 demo.expected demo 7 2
     expect 0 demo.expected demo 7 2
 }
