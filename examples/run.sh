@@ -1,11 +1,13 @@
 #!/bin/sh
 # Runs the worked day of the README and the examples of docs/formats.md, and compares what is printed with what is
-# expected. The program is the built one, or that of the first word.
+# expected. The program is the built one, or that of the first word; the examples of library calls are the stored run of a
+# small program over the libraries, in examples/book.
 top=$(CDPATH='' cd -- "$(dirname -- "$0")/.." && pwd) || exit 1
 program=${1:-$top/crates/scandesk/out/scandesk}
 # Without words the program says that it doesn't understand; where it isn't there, it is built first.
 [ -x "$program" ] || "$top/scandesk" >/dev/null
 work=$(mktemp -d) || exit 1
+mkdir "$work/calls"
 trap 'rm -rf "$work"' EXIT
 runs=0
 wrong=0
@@ -54,6 +56,14 @@ the_files() {
     esac
 }
 
+# expect_call LINE WORD..: this is the last line of the calls that the words tell. They are all made at the end.
+expect_call() {
+    printf '%s\n' "$1" >>"$work/stdout"
+    shift
+    runs=$((runs + 1))
+    printf '%s\n' book "$@" >>"$work/args"
+}
+
 # expect_rule KIND RULE LINE: the file `example` breaks the rule at the line.
 expect_rule() {
     the_files "$1"
@@ -62,6 +72,11 @@ expect_rule() {
         scan) name=s27.scan ;;
         patterns) name=s27.pat ;;
         neighbours) name=none.csv ;;
+        bundle)
+            cp example "$work/calls/rule$2.bundle"
+            expect_call "section bundle line $3 rule $2" 9 design s27 "rule$2.bundle"
+            return
+            ;;
         log)
             expect_line 3 "example line $3 rule $2" diagnose s27 D1 s27.bench s27.scan s27.pat none.csv example
             return
@@ -109,7 +124,7 @@ expect_told_rule() {
 # The tables of rules: a row has the rule, where it is broken, an example and its line. Printed as KIND|RULE|LINE|EXAMPLE.
 rules() {
     awk '
-        /^## / { kind = ""; split("Netlist:netlist Scan:scan Pattern:patterns Neighbour:neighbours Fail:log", kinds, " ")
+        /^## / { kind = ""; split("Netlist:netlist Scan:scan Pattern:patterns Neighbour:neighbours Fail:log Bundle:bundle", kinds, " ")
             for (i in kinds) { split(kinds[i], k, ":"); if ($2 ~ "^" k[1]) kind = k[2] } }
         kind != "" && /^\| [0-9]+ \|/ { split($0, cell, " *[|] *"); print kind "|" cell[2] "|" cell[5] "|" cell[4] }
     ' "$top/docs/formats.md"
@@ -153,6 +168,48 @@ the_answers() {
     done <"$work/answers"
 }
 
+# The answers of the libraries: a row has the rule, its meaning, an example and the last line that it writes.
+library_answers() {
+    awk '/^## / { on = $0 ~ /^## Answers of the libraries/ } on && /^\| [0-9]+ \|/ { split($0, cell, " *[|] *"); print cell[4] "|" cell[5] }' "$top/docs/formats.md" |
+        tr -d '\140'
+}
+
+the_library_answers() {
+    cd "$work/calls" || exit 1
+    the_files none
+    "$program" pack s27.bench s27.scan s27.pat none.csv >s27.bundle
+    { cat s27.bundle; echo net_a,net_b; } >other.bundle
+    printf 'FAILLOG 1\ndie D1\ndesign s27\ntested 0 0\nfail 0 out G17\nend\n' >one.log
+    library_answers >"$work/library-answers"
+    while IFS='|' read -r words line; do
+        # The words have no blanks.
+        # shellcheck disable=SC2086
+        expect_call "$line" $words
+    done <"$work/library-answers"
+}
+
+# Makes the calls: the small program is proved and run, in a copy of the repository, with them as its stored run. What the
+# gate proved is kept.
+make_calls() {
+    copy=$work/repository
+    crate=$copy/crates/book_calls
+    mkdir -p "$crate/src" "$crate/proofs/calls/put_log"
+    cp -a "$top/crates" "$top/crates.txt" "$top/HANDLES" "$copy"
+    echo 'book_calls: scan_model text_parts desk_outside fault_universe diag_report book hex' >>"$copy/crates.txt"
+    for source in "$top"/examples/book/*.rt.in; do
+        cp "$source" "$crate/src/$(basename "$source" .in)"
+    done
+    cp "$top/crates/scandesk/src/file_shelf.rt" "$top/crates/scandesk/src/stdout_sink.rt" "$crate/src"
+    cp "$top/examples/book/put_log.antt.in" "$crate/proofs/calls/put_log/Answers.antt"
+    mv "$work/calls" "$crate/data"
+    mv "$work/args" "$work/stdout" "$crate"
+    (cd "$copy" && rt ci book_calls) >"$work/calls.log" 2>&1 || {
+        wrong=$((wrong + 1))
+        echo 'the calls of the libraries; written (<) and due (>):'
+        diff "$crate/out/stdout" "$crate/stdout" || tail -n 10 "$work/calls.log"
+    }
+}
+
 # What can't be written ends with status 6.
 the_full_device() {
     [ -w /dev/full ] || return
@@ -173,6 +230,8 @@ the_little_memory() {
 the_day
 the_rules
 the_answers
+the_library_answers
+make_calls
 the_little_memory
 the_full_device
 echo "$runs examples, $wrong wrong"

@@ -1,6 +1,6 @@
 -- Texts of which no line begins with `%`.
 use Rattle.std.specs.Prelude.{◌≡◌, false, All}
-use Rattle.bridge_pairs.specs.PairText.{ended}
+use Rattle.text_parts.specs.Ended.{ended}
 use Rattle.book.specs.Bundle.{FourTexts, is_mark, pieces}
 
 pub record AreUnmarked (texts : FourTexts) : Type 0 where

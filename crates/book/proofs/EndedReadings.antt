@@ -1,5 +1,5 @@
 -- LF at the end of a text changes nothing that the text stands for.
-use Rattle.std.proofs.Common.{◌≡◌, ℕ, ◌+◌, List, length, Result, Ok, Err, refl, ap, ◌∙◌}
+use Rattle.std.proofs.Common.{◌≡◌, ℕ, ◌+◌, List, length, Ok, ap, ◌∙◌}
 use Rattle.scan_model.specs.declared.circuit.Net.{Net}
 use Rattle.scan_model.specs.declared.parts.Chain.{Chain}
 use Rattle.scan_model.specs.declared.parts.Pattern.{Pattern}
@@ -10,12 +10,12 @@ use Rattle.scan_model.specs.NetlistRules.{forms_of, early_fault}
 use Rattle.scan_model.specs.NetlistText.{circuit_in, third_rule, netlist_reading}
 use Rattle.scan_model.specs.ScanText.{scan_rule, chains_of, scan_reading}
 use Rattle.scan_model.specs.PatternText.{PatternFrame, pattern_frame, pattern_rule, patterns_of, pattern_reading}
-use Rattle.bridge_pairs.specs.PairText.{ended}
-use Rattle.book.specs.declared.section.Section.{Section}
+use Rattle.text_parts.specs.Ended.{ended}
 use Rattle.book.specs.declared.section.Section.TheVariants.{Netlist as NetlistText, Scan, Patterns}
 use Rattle.book.specs.Bundle.{FourTexts, in_section, and_then, texts_reading, with_circuit, with_chains, with_patterns}
 use Rattle.book.proofs.Ended.{ended_twice}
 use Rattle.book.proofs.LastLine.{ended_lines}
+use Rattle.book.proofs.NoFaults.{section_read}
 use Rattle.book.proofs.Accepted.{netlist_accepted, scan_accepted, patterns_accepted}
 
 -- the texts, each ended
@@ -36,26 +36,18 @@ patterns_ended frame text patterns e =
 
 -- ---- the four texts
 
-read_in_section : {X : Type 0} (section : Section) (r : Result X (ℕ × ℕ)) (x : X) → in_section section r ≡ Ok x → r ≡ Ok x
-read_in_section section (Ok y) x e = ap Ok (cc)
-read_in_section section (Err fault) x e = absurd cc
-
-read_before : {X Y : Type 0} (r : Result X (Section × (ℕ × ℕ))) (next : X → Result Y (Section × (ℕ × ℕ))) (y : Y) → and_then r next ≡ Ok y → (x : X) × (r ≡ Ok x) × (next x ≡ Ok y)
-read_before (Ok x) next y e = (x, refl, e)
-read_before (Err fault) next y e = absurd cc
-
 pub ended_read : (texts : FourTexts) (t : ScanTest) → texts_reading texts ≡ Ok t → texts_reading (ended_texts texts) ≡ Ok t
 ended_read texts t e =
-    let first = read_before (in_section NetlistText (netlist_reading texts.netlist)) (with_circuit texts) t e in
+    let first = section_read NetlistText (netlist_reading texts.netlist) (with_circuit texts) t e in
     let c : Netlist = first.0 in
-    let netlist : netlist_reading (ended texts.netlist) ≡ Ok c = netlist_ended texts.netlist c (read_in_section NetlistText (netlist_reading texts.netlist) c first.1) in
-    let second = read_before (in_section Scan (scan_reading c.nets texts.scan)) (with_chains texts c) t first.2 in
+    let netlist : netlist_reading (ended texts.netlist) ≡ Ok c = netlist_ended texts.netlist c first.1 in
+    let second = section_read Scan (scan_reading c.nets texts.scan) (with_chains texts c) t first.2 in
     let chains : List Chain = second.0 in
-    let scan : scan_reading c.nets (ended texts.scan) ≡ Ok chains = scan_ended c.nets texts.scan chains (read_in_section Scan (scan_reading c.nets texts.scan) chains second.1) in
+    let scan : scan_reading c.nets (ended texts.scan) ≡ Ok chains = scan_ended c.nets texts.scan chains second.1 in
     let frame : PatternFrame = pattern_frame c chains in
-    let third = read_before (in_section Patterns (pattern_reading frame texts.patterns)) (with_patterns texts c chains) t second.2 in
+    let third = section_read Patterns (pattern_reading frame texts.patterns) (with_patterns texts c chains) t second.2 in
     let patterns : List Pattern = third.0 in
-    let pattern : pattern_reading frame (ended texts.patterns) ≡ Ok patterns = patterns_ended frame texts.patterns patterns (read_in_section Patterns (pattern_reading frame texts.patterns) patterns third.1) in
+    let pattern : pattern_reading frame (ended texts.patterns) ≡ Ok patterns = patterns_ended frame texts.patterns patterns third.1 in
     ap (λ r. and_then (in_section NetlistText r) (with_circuit (ended_texts texts))) netlist
     ∙ ap (λ r. and_then (in_section Scan r) (with_chains (ended_texts texts) c)) scan
     ∙ ap (λ r. and_then (in_section Patterns r) (with_patterns (ended_texts texts) c chains)) pattern

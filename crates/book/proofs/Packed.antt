@@ -6,7 +6,7 @@ use Rattle.std.proofs.lemmas.List.Splits.{slice_split-cons_yes, slice_split_at, 
 use Rattle.scan_model.specs.ScanTest.{ScanTest}
 use Rattle.scan_model.specs.Lines.{text_lines}
 use Rattle.scan_model.specs.TextFaults.{first_fault}
-use Rattle.bridge_pairs.specs.PairText.{is_ended, ended}
+use Rattle.text_parts.specs.Ended.{is_ended, ended}
 use Rattle.book.specs.Bundle.{FourTexts, is_mark, pieces, joined, sections, texts_in, bundle_rule, bundle_fault, bundle_text, texts_reading, refused_or_read, bundle_reading}
 use Rattle.book.proofs.Ended.{ended-is_ended, lines_behind, pieces_behind, joined_pieces, unmarked_lines}
 use Rattle.book.proofs.EndedReadings.{ended_texts, ended_read}

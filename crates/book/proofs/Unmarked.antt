@@ -13,7 +13,8 @@ use Rattle.scan_model.specs.NetlistRules.{first_rule, second_rule, early_fault}
 use Rattle.scan_model.specs.NetlistText.{third_rule, netlist_fault, netlist_reading, circuit_of}
 use Rattle.scan_model.specs.ScanText.{net_names, scan_fault, scan_reading, chains_of}
 use Rattle.scan_model.specs.PatternText.{PatternFrame, pattern_frame, pattern_fault, pattern_reading, patterns_of}
-use Rattle.bridge_pairs.specs.PairText.{ended, records_in, pairs_in, pairs_fault, pairs_reading, parted}
+use Rattle.text_parts.specs.Ended.{ended}
+use Rattle.bridge_pairs.specs.PairText.{records_in, pairs_in, pairs_fault, pairs_reading, parted}
 use Rattle.book.specs.declared.section.Section.TheVariants.{Netlist as NetlistText, Scan, Patterns, Neighbours}
 use Rattle.book.specs.Bundle.{FourTexts, is_mark, pieces, with_patterns, with_chains, with_circuit, texts_reading}
 use Rattle.book.proofs.LineMarks.{unmarked_pieces, plain_pieces}

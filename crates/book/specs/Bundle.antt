@@ -11,7 +11,8 @@ use Rattle.scan_model.specs.TextFaults.{first_fault}
 use Rattle.scan_model.specs.NetlistText.{netlist_reading}
 use Rattle.scan_model.specs.ScanText.{scan_reading}
 use Rattle.scan_model.specs.PatternText.{pattern_frame, pattern_reading}
-use Rattle.bridge_pairs.specs.PairText.{pairs_reading, ended}
+use Rattle.text_parts.specs.Ended.{ended}
+use Rattle.bridge_pairs.specs.PairText.{pairs_reading}
 use Rattle.book.specs.declared.section.Section.{Section}
 use Rattle.book.specs.declared.section.Section.TheVariants.{Bundle, Netlist as NetlistText, Scan, Patterns, Neighbours}
 

@@ -1,14 +1,14 @@
 //! The four texts in a bundle.
 ghost use Rattle.std.specs.Prelude.{◌≡◌, ◌<◌, ◌+◌, ℕ, true, [], ◌∷◌, ◌++◌, length, None, Some, IfOk, IfErr, IfSome, IfNone, OnOk};
 ghost use Rattle.scan_model.specs.Lines.{text_lines};
-ghost use Rattle.bridge_pairs.specs.PairText.{is_ended, ended};
+ghost use Rattle.text_parts.specs.Ended.{is_ended, ended};
 ghost use Rattle.book.specs.Bundle.{is_mark, pieces, sections, bundle_fault, texts_in, bundle_text};
 ghost use Rattle.book.specs.BundleRest.{marker, line_in, is_at_mark, is_due, rest_fault, rest_texts, HasRoom};
 ghost use Rattle.book.specs.Sections.{four_texts};
 
 use scan_model::{Name, NoMemory};
 use std::alloc::Global;
-use text_parts::TextFault;
+use text_parts::{TextFault, is_ended};
 
 /// The four texts of a design, as they stand in its bundle or in files of their own.
 #[derive(Clone, Copy, Debug)]
@@ -181,15 +181,6 @@ pub fn split(bytes: &[u8]) -> Result<Sections<'_>, TextFault>
         patterns,
         neighbours,
     })
-}
-
-fn is_ended(text: &[u8]) -> bool
-    ensures { result ≡ is_ended text.now }
-{
-    match text {
-        [.., last] => *last == b'\n',
-        [] => true,
-    }
 }
 
 // Adds a section: its marker, and its text with LF at its end.

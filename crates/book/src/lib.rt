@@ -14,7 +14,6 @@ mod opening;
 mod row;
 mod section;
 mod sign;
-mod tag;
 mod texts;
 mod view;
 
@@ -27,7 +26,6 @@ pub use log::{ReadLog, log_of};
 pub use opening::{NotStarted, StartFault};
 pub use section::{BundleFault, Section};
 pub use sign::Sign;
-pub use tag::is_tag;
 pub use view::DieView;
 
 #[cfg(test)]

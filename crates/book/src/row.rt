@@ -21,12 +21,11 @@ use crate::kept::Kept;
 use crate::log::{ReadLog, log_of};
 use crate::section::BundleFault;
 use crate::sign::Sign;
-use crate::tag::is_tag;
 use desk_outside::{Deed, DeedKind, KeepFault, Keeper};
 use scan_model::{Digest, NoMemory};
 use std::alloc::Global;
 use std::sync::Arc;
-use text_parts::ReadFault;
+use text_parts::{ReadFault, is_tag};
 
 // The keeper of deeds that are kept already.
 #[derive(Drop)]

@@ -1,5 +1,5 @@
 -- The pairs of a list of neighbouring nets, and what reading the list gives.
-use Rattle.std.specs.Prelude.{ℕ, zero, suc, ◌+◌, ◌-◌, ◌==◌, Bool, false, not, ◌&&◌, ◌||◌, nat_le, if◌then◌else◌, is_none, List, [], ◌∷◌, ◌++◌, length, map, filter, reverse, slice_index_or, Option, Some, None, codes, Result}
+use Rattle.std.specs.Prelude.{ℕ, zero, suc, ◌+◌, ◌==◌, Bool, false, not, ◌&&◌, ◌||◌, nat_le, if◌then◌else◌, is_none, List, [], ◌∷◌, ◌++◌, length, map, filter, reverse, slice_index_or, Option, Some, None, codes, Result}
 use Rattle.std.specs.List.{list_any}
 use Rattle.std.specs.Str.{bytes_eq}
 use Rattle.csv.specs.Reading.{default_config, records, strip_bom}
@@ -13,20 +13,13 @@ use Rattle.scan_model.specs.TextFaults.{lowest, first_fault, refused_or}
 use Rattle.scan_model.specs.NetlistText.{net_number}
 use Rattle.scan_model.specs.ScanText.{net_names}
 use Rattle.scan_model.specs.ScanTest.{same_pair}
+use Rattle.text_parts.specs.Ended.{ended}
 
 -- the most different pairs that a list may name, kept and left out together
 abbrev pub pair_limit : ℕ
 pair_limit = 65536
 
 -- ---- records
-
--- the text is empty or ends with LF (10)
-abbrev pub is_ended : List ℕ → Bool
-is_ended bytes = slice_index_or bytes (length bytes - 1) 10 == 10
-
--- any other text is read as if LF stood at its end
-abbrev pub ended : List ℕ → List ℕ
-ended bytes = if is_ended bytes then bytes else bytes ++ 10 ∷ []
 
 -- a field from its first byte that is no blank on
 abbrev pub after_blanks : List ℕ → List ℕ

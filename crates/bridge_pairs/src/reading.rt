@@ -9,18 +9,8 @@ use crate::named::NamedPairs;
 use crate::records::records_of;
 use crate::sweep::part;
 use scan_model::{Circuit, Net, Pair, Pairs};
-use std::alloc::{AllocError, Global};
+use std::alloc::Global;
 use text_parts::{Names, ReadFault, TextFault};
-
-fn names_of(alloc: Global, nets: &[Net]) -> Result<Names<'_>, AllocError>
-    ensures { IfOk result (λ names. names ≡ net_names nets.now) }
-{
-    let mut names = Names::new(alloc);
-    for net in nets {
-        names.add(net.name.as_slice())?;
-    }
-    Ok(names)
-}
 
 /// The different pairs that a text names over these nets.
 fn named_pairs(alloc: Global, nets: &[Net], bytes: &[u8]) -> Result<Vec<Pair>, ReadFault>
@@ -28,7 +18,7 @@ fn named_pairs(alloc: Global, nets: &[Net], bytes: &[u8]) -> Result<Vec<Pair>, R
     ensures naming { Gives (λ v. v.items) result (naming (net_names nets.now) (records_in bytes.now)) }
     ensures named { IfOk result (λ v. AreNamed (length nets.now) v.items) }
 {
-    let names = names_of(alloc, nets)?;
+    let names = Names::of_nets(alloc, nets)?;
     let records = records_of(alloc, bytes)?;
     let mut named = NamedPairs::new(alloc);
     for (i, record) in records.iter().enumerate() {

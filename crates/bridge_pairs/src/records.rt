@@ -1,11 +1,12 @@
 ghost use Rattle.std.specs.Prelude.{◌≡◌, IfOk, map};
 ghost use Rattle.csv.specs.Reading.{default_config, records, strip_bom};
 ghost use Rattle.csv.specs.Records.{fields_of};
-ghost use Rattle.bridge_pairs.specs.PairText.{is_ended, ended};
+ghost use Rattle.text_parts.specs.Ended.{is_ended, ended};
 
 use csv::{ByteRecord, ReaderBuilder};
 use scan_model::NoMemory;
 use std::alloc::Global;
+use text_parts::is_ended;
 
 /// The records of a text. Any error of the reader is want of memory, since nothing else fails over bytes in memory.
 fn rows_of(alloc: Global, text: &[u8]) -> Result<Vec<ByteRecord>, NoMemory>
@@ -23,15 +24,6 @@ fn rows_of(alloc: Global, text: &[u8]) -> Result<Vec<ByteRecord>, NoMemory>
         rows.push(row)?;
     }
     Ok(rows)
-}
-
-fn is_ended(text: &[u8]) -> bool
-    ensures { result ≡ is_ended text.now }
-{
-    match text {
-        [.., last] => *last == b'\n',
-        [] => true,
-    }
 }
 
 /// The records of a text that is read as if LF stood at its end.

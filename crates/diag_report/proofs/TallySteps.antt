@@ -9,13 +9,10 @@ use Rattle.scan_model.specs.declared.logs.BitClass.{BitClass}
 use Rattle.scan_model.specs.declared.logs.BitClass.TheVariants.{Conflict, Masked, Failing, Passing, Uncounted}
 use Rattle.scan_model.specs.declared.logs.LogFacts.{LogFacts}
 use Rattle.scan_model.specs.ChainShift.{value_at}
-use Rattle.scan_model.specs.ScanTest.{ScanTest, points_of}
-use Rattle.scan_model.specs.Response.{expected_rows}
 use Rattle.scan_model.specs.Coverage.{bit_of}
 use Rattle.scan_model.specs.Classes.{class_of, is_conflict, is_masked, is_failing, is_passing}
-use Rattle.log_join.specs.Joining.{JoinedBits, IsJoinedOf, FitsExpected}
 use Rattle.fault_universe.specs.BitRows.{row_bits}
-use Rattle.fault_universe.proofs.BitSteps.{row_bits_more, length-expected_rows, expected_points}
+use Rattle.fault_universe.proofs.BitSteps.{row_bits_more}
 use Rattle.diag_report.specs.declared.tally.Tally.{Tally}
 use Rattle.diag_report.specs.BitTally.{class_in, tally_over, noted, IsTallyOf}
 
@@ -72,7 +69,3 @@ IsTallyOf-noted points n tally next class b is lt all = rw is (each class)
 
 pub IsTallyOf-le : (points m n : ℕ) (tally : Tally) → m ≤ n → IsTallyOf points m tally → IsTallyOf points n tally
 IsTallyOf-le points m n tally le all = record { failing = omega arith; passing = omega arith; conflict = all.conflict; masked = all.masked }
-
--- expected values fit logs that are joined for the same test
-pub fits_expected : (t : ScanTest) (rows : List (List Tri)) (joined : JoinedBits) → rows ≡ expected_rows t → IsJoinedOf (length t.patterns) (length (points_of t)) joined → FitsExpected rows joined
-fits_expected t rows joined is_rows is_joined = rw (is_rows, is_joined.0, is_joined.1) (length-expected_rows t, expected_points t)

@@ -1,4 +1,3 @@
-pub mod Digits
 pub mod Rising
 pub mod Later
 pub mod Loop

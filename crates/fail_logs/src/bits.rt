@@ -10,9 +10,10 @@ ghost use Rattle.fail_logs.specs.Rising.{IsRisingOf, IsBitsOf};
 
 use crate::frame::Frame;
 use crate::line::LogLine;
-use crate::number::{number, number_of};
+use crate::number::number;
 use scan_model::{Bit, Rows};
 use std::alloc::{AllocError, Global};
+use text_parts::number_of;
 
 // The number of a bit in bit order.
 fn bit_number(points: usize, pattern: u32, point: usize) -> u64

@@ -1,4 +1,4 @@
-//! Reads fail logs, and their number words.
+//! Reads fail logs.
 #![tactic(auto)]
 
 mod bits;
@@ -10,5 +10,4 @@ mod reading;
 mod rules;
 mod tables;
 
-pub use number::number_of;
 pub use reading::read_log;

@@ -8,7 +8,8 @@ ghost use Rattle.fail_logs.specs.Frames.{frame_view, headers_view, range_view};
 
 use crate::frame::Frame;
 use crate::line::LogLine;
-use crate::number::{is_number, number, number_of};
+use crate::number::{is_number, number};
+use text_parts::number_of;
 
 /// The header lines that came: whether a `die` and a `design` line, and the range of the first `tested` line.
 #[derive(Clone, Copy)]

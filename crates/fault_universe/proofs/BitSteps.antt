@@ -1,26 +1,13 @@
--- Expected values and bits, row by row, and lists with numbers.
-use Rattle.std.proofs.Common.{◌≡◌, ℕ, ◌+◌, ◌<◌, List, [], ◌∷◌, ◌++◌, length, map, get_or, None, sym, ap, ◌∙◌, append_assoc, arith}
-use Rattle.std.specs.Prelude.{All, flat_map}
+-- Bits, row by row, and lists with numbers.
+use Rattle.std.proofs.Common.{◌≡◌, ℕ, ◌+◌, List, [], ◌∷◌, ◌++◌, length, map, sym, ap, ◌∙◌, append_assoc, arith}
+use Rattle.std.specs.Prelude.{flat_map}
 use Rattle.std.specs.List.{range_with_len, enumerate_from}
-use Rattle.std.proofs.lemmas.List.{map-id, length-map, flat_map_more}
-use Rattle.std.proofs.lemmas.List.FromFn.{length-map-range_with_len, get_or-map-range_with_len, map-range_with_len_more}
-use Rattle.scan_model.specs.declared.values.Tri.{Tri}
+use Rattle.std.proofs.lemmas.List.{map-id, flat_map_more}
+use Rattle.std.proofs.lemmas.List.FromFn.{map-range_with_len_more}
 use Rattle.scan_model.specs.declared.logs.Bit.{Bit}
 use Rattle.scan_model.specs.ScanTest.{ScanTest, points_of}
-use Rattle.scan_model.specs.Response.{response, expected_rows, observed}
 use Rattle.scan_model.specs.Coverage.{bit_of}
 use Rattle.fault_universe.specs.BitRows.{row_bits, bits_upto}
-
--- a row of expected values for each pattern
-pub length-expected_rows : (t : ScanTest) → length (expected_rows t) ≡ length t.patterns
-length-expected_rows t = length-map-range_with_len (response t None) 0 (length t.patterns)
-
-pub expected_row : (t : ScanTest) (w : ℕ) (d : List Tri) → w < length t.patterns → get_or (expected_rows t) w d ≡ response t None w
-expected_row t w d lt = get_or-map-range_with_len (response t None) 0 (length t.patterns) w w d lt (omega arith)
-
--- a value for each point
-pub expected_points : (t : ScanTest) → All (λ row. length row ≡ length (points_of t)) (expected_rows t)
-expected_points t w d lt = ap length (expected_row t w d (omega (arith, length-expected_rows t))) ∙ length-map (points_of t) (observed t None w)
 
 -- one more point
 pub row_bits_more : (bits : List Bit) (w n : ℕ) → bits ++ row_bits w (n + 1) ≡ (bits ++ row_bits w n) ++ bit_of w n ∷ []

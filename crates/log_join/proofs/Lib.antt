@@ -2,3 +2,4 @@ mod WordMasks
 mod Steps
 mod Joins
 pub mod AnyOrder
+pub mod Fitting

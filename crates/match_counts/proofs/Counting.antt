@@ -14,14 +14,12 @@ use Rattle.scan_model.specs.declared.logs.LogFacts.{LogFacts}
 use Rattle.scan_model.specs.declared.logs.Counts.{Counts}
 use Rattle.scan_model.specs.Values.{are_opposite}
 use Rattle.scan_model.specs.ChainShift.{value_at}
-use Rattle.scan_model.specs.ScanTest.{ScanTest, points_of}
-use Rattle.scan_model.specs.Response.{expected_rows}
+use Rattle.scan_model.specs.ScanTest.{ScanTest}
 use Rattle.scan_model.specs.Coverage.{bit_of}
 use Rattle.scan_model.specs.Classes.{class_of, is_failing, is_passing}
 use Rattle.scan_model.specs.MatchCounts.{candidates_among, scored, is_candidate}
 use Rattle.fault_universe.specs.BitRows.{row_bits}
-use Rattle.fault_universe.proofs.BitSteps.{enumerate_push, row_bits_more, length-expected_rows, expected_points}
-use Rattle.log_join.specs.Joining.{JoinedBits, IsJoinedOf, FitsExpected}
+use Rattle.fault_universe.proofs.BitSteps.{enumerate_push, row_bits_more}
 use Rattle.match_counts.specs.Tally.{counts_over, counted, class_in, predicts, AreAtMost}
 
 count_push : (p : Bit → Bool) (bits : List Bit) (b : Bit) → count_by p (bits ++ b ∷ []) ≡ count_by p bits + cond (p b) 1 0
@@ -58,10 +56,6 @@ candidates_more t logs faults k f there =
       map-append (scored t logs) (enumerate_from 0 (take k faults)) ((k, f) ∷ []),
     )
     (filter-append is_candidate (map (scored t logs) (enumerate_from 0 (take k faults))) (scored t logs (k, f) ∷ []))
-
--- expected values fit logs that are joined for the same test
-pub fits_expected : (t : ScanTest) (rows : List (List Tri)) (joined : JoinedBits) → rows ≡ expected_rows t → IsJoinedOf (length t.patterns) (length (points_of t)) joined → FitsExpected rows joined
-fits_expected t rows joined is_rows is_joined = rw (is_rows, is_joined.0, is_joined.1) (length-expected_rows t, expected_points t)
 
 pub AreAtMost-le : (m n : ℕ) (counts : Counts) → m ≤ n → AreAtMost m counts → AreAtMost n counts
 AreAtMost-le m n counts le all = record { tfsf = omega arith; tfsp = omega arith; tpsf = omega arith }

@@ -23,3 +23,4 @@ pub mod FaultSteps
 pub mod PointCount
 pub mod LevelTests
 pub mod CandidatePlaces
+pub mod ExpectedRows

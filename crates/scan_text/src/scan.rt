@@ -6,18 +6,8 @@ ghost use Rattle.text_parts.specs.Gives.{Gives};
 
 use crate::chains::Chains;
 use scan_model::{Chain, Circuit, Net, Rows};
-use std::alloc::{AllocError, Global};
+use std::alloc::Global;
 use text_parts::{Names, ReadFault, TextFault, lines_of};
-
-fn names_of(alloc: Global, nets: &[Net]) -> Result<Names<'_>, AllocError>
-    ensures { IfOk result (λ names. names ≡ net_names nets.now) }
-{
-    let mut names = Names::new(alloc);
-    for net in nets {
-        names.add(net.name.as_slice())?;
-    }
-    Ok(names)
-}
 
 // The chains of a text over these nets.
 fn read_chains(alloc: Global, nets: &[Net], bytes: &[u8]) -> Result<Vec<Chain>, ReadFault>
@@ -25,7 +15,7 @@ fn read_chains(alloc: Global, nets: &[Net], bytes: &[u8]) -> Result<Vec<Chain>, 
     ensures reading { Gives (λ v. v.items) result (scan_reading nets.now bytes.now) }
     ensures fits { (c : Netlist) → c.nets ≡ nets.now → IfOk result (λ v. AreChains c v.items) }
 {
-    let names = names_of(alloc, nets)?;
+    let names = Names::of_nets(alloc, nets)?;
     let lines = lines_of(alloc, bytes)?;
     let mut chains = Chains::new(alloc);
     for (i, line) in lines.iter().enumerate() {

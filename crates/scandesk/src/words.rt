@@ -8,10 +8,9 @@ ghost use Rattle.scandesk.specs.Requests.{TakenFor};
 
 use crate::command::Command;
 use crate::words::assigned::{demo_of, design_files_of, diagnose_of};
-use book::is_tag;
-use fail_logs::number_of;
 use scan_model::NoMemory;
 use std::alloc::Global;
+use text_parts::{is_tag, number_of};
 
 fn is_plain(word: &[u8]) -> bool
     ensures { result ≡ is_plain_word word.now }

@@ -2,6 +2,7 @@ ghost use Rattle.std.specs.Prelude.{◌≡◌, map, IfOk, ◌==◌, not};
 ghost use Rattle.std.specs.List.{slice_split, before_first};
 ghost use Rattle.std.specs.Str.Lines.{strip_carriage_return};
 ghost use Rattle.scan_model.specs.Lines.{text_lines, has_refused_byte, is_accepted, without_comment};
+ghost use Rattle.text_parts.specs.Ended.{is_ended};
 ghost use Rattle.text_parts.specs.Views.{nows};
 
 use std::alloc::{AllocError, Global};
@@ -32,6 +33,16 @@ pub fn without_comment(line: &[u8]) -> &[u8]
     match line.iter().position(|b| *b == b'#') {
         Some(i) => &line[..i],
         None => line,
+    }
+}
+
+/// Whether a text is empty or ends with LF.
+pub fn is_ended(text: &[u8]) -> bool
+    ensures { result ≡ is_ended text.now }
+{
+    match text {
+        [.., last] => *last == b'\n',
+        [] => true,
     }
 }
 

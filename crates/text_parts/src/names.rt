@@ -1,9 +1,10 @@
 ghost use Rattle.std.specs.Prelude.{◌≡◌, ◌≤◌, [], ◌∷◌, ◌++◌, length, position, OnOk, OnErr, IfOk, Ok, true, not};
 ghost use Rattle.std.specs.List.{list_any, position_or_len};
 ghost use Rattle.std.specs.Str.{bytes_eq};
-ghost use Rattle.scan_model.specs.ScanText.{stands_again};
+ghost use Rattle.scan_model.specs.ScanText.{net_names, stands_again};
 ghost use Rattle.text_parts.specs.Views.{nows};
 
+use scan_model::Net;
 use std::alloc::{AllocError, Global};
 use std::collections::BTreeMap;
 use std::marker::Model;
@@ -35,6 +36,17 @@ impl<'a> Names<'a> {
             list: Vec::new(alloc),
             places: BTreeMap::new(alloc),
         }
+    }
+
+    /// The names of nets, in their order.
+    pub fn of_nets(alloc: Global, nets: &'a [Net]) -> Result<Self, AllocError>
+        ensures { IfOk result (λ names. names ≡ net_names nets.now) }
+    {
+        let mut names = Names::new(alloc);
+        for net in nets {
+            names.add(net.name.as_slice())?;
+        }
+        Ok(names)
     }
 
     pub fn len(&self) -> usize

@@ -9,9 +9,9 @@ ghost use Rattle.scandesk.specs.Assigned.{argument, arguments, text_of, texts_of
 
 use crate::command::{Demo, DesignFiles, Diagnose};
 use clap::{Arg, ArgMatches};
-use fail_logs::number_of;
 use scan_model::NoMemory;
 use std::alloc::{AllocError, Global};
+use text_parts::number_of;
 
 // An argument of one word.
 fn argument(alloc: Global, name: &str) -> Arg<'_>

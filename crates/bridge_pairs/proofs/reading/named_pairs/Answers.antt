@@ -3,7 +3,8 @@ use Rattle.std.proofs.lemmas.List.{length-map}
 use Rattle.csv.specs.Records.{fields_of}
 use Rattle.csv.specs.Reading.{default_config, records, strip_bom}
 use Rattle.scan_model.specs.ScanText.{net_names}
-use Rattle.bridge_pairs.specs.PairText.{trimmed, ended, records_in, nets_named, with_pair}
+use Rattle.text_parts.specs.Ended.{ended}
+use Rattle.bridge_pairs.specs.PairText.{trimmed, records_in, nets_named, with_pair}
 use Rattle.bridge_pairs.specs.NamedNets.{AreNamed}
 use Rattle.bridge_pairs.proofs.PairLoop.{none_named, record_is_faulty, no_fault_more, pairs_more, named_more, list_is_whole, rows_trimmed}
 use Rattle.bridge_pairs.proofs.reading.named_pairs.Goals as goal

@@ -2,9 +2,11 @@ use Rattle.std.proofs.Common.{◌≡◌, ℕ, ◌+◌, ◌*◌, ◌<◌, [], ◌
 use Rattle.scan_model.specs.Response.{response}
 use Rattle.scan_model.specs.ScanTest.{points_of}
 use Rattle.fault_universe.specs.BitRows.{row_bits, bits_upto}
-use Rattle.fault_universe.proofs.BitSteps.{expected_row, bits_upto_more}
+use Rattle.scan_model.proofs.ExpectedRows.{expected_row}
+use Rattle.fault_universe.proofs.BitSteps.{bits_upto_more}
+use Rattle.log_join.proofs.Fitting.{fits_expected}
 use Rattle.diag_report.specs.BitTally.{tally_over}
-use Rattle.diag_report.proofs.TallySteps.{fits_expected, IsTallyOf-le}
+use Rattle.diag_report.proofs.TallySteps.{IsTallyOf-le}
 use Rattle.diag_report.proofs.tally.tally_bits.Goals as goal
 
 pub tally_row-requires-clause-expected : goal.tally_row-requires-clause-expected

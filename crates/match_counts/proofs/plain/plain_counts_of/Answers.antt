@@ -1,9 +1,11 @@
 use Rattle.std.proofs.Common.{◌≡◌, ℕ, ◌+◌, ◌*◌, ◌<◌, [], ◌++◌, length, get_or, Some, None, sym, ap, subst, ◌∙◌, arith}
 use Rattle.scan_model.specs.Response.{response}
 use Rattle.fault_universe.specs.BitRows.{row_bits, bits_upto}
-use Rattle.fault_universe.proofs.BitSteps.{expected_row, bits_upto_more}
+use Rattle.scan_model.proofs.ExpectedRows.{expected_row}
+use Rattle.fault_universe.proofs.BitSteps.{bits_upto_more}
+use Rattle.log_join.proofs.Fitting.{fits_expected}
 use Rattle.match_counts.specs.Tally.{counts_over}
-use Rattle.match_counts.proofs.Counting.{fits_expected, AreAtMost-le}
+use Rattle.match_counts.proofs.Counting.{AreAtMost-le}
 use Rattle.match_counts.proofs.plain.plain_counts_of.Goals as goal
 
 pub count_row-counts-requires-clause-expected : goal.count_row-counts-requires-clause-expected

@@ -1,5 +1,4 @@
-use Rattle.std.proofs.Common.{◌≡◌}
-use Rattle.worked_rows.specs.Texts.{AreRead}
+use Rattle.worked_rows.proofs.NoPairs.{no_pairs_fit}
 use Rattle.worked_rows.proofs.parts.parts_of.Goals as goal
 
 pub make-requires : goal.make-requires
@@ -7,12 +6,5 @@ make-requires c = record {
   circuit = c.in_ok-circuit.ensures.fits;
   chains = c.in_ok-chains.ensures.fits;
   patterns = c.in_ok-patterns.ensures.fits;
-  pairs = c.in_ok-pairs.ensures.fits;
+  pairs = rw c.no_pairs-pairs.ensures (no_pairs_fit c.in_ok-circuit.circuit);
 }
-
-pub returns : goal.returns
-returns c = rw c.in_ok-make.ensures (record {
-  circuit = c.in_ok-circuit.ensures.reading;
-  chains = c.in_ok-chains.ensures.reading;
-  patterns = c.in_ok-patterns.ensures.reading;
-})

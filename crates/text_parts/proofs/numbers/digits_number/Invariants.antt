@@ -1,6 +1,6 @@
 use Rattle.std.proofs.Common.{◌≡◌, ◌+◌, ◌-◌, ◌*◌, ◌^◌, ◌<◌, fold, drop}
 use Rattle.scan_model.specs.Words.{digits_number}
-use Rattle.fail_logs.proofs.number.digits_number.Given as goal
+use Rattle.text_parts.proofs.numbers.digits_number.Given as goal
 
 abbrev pub invariant-loop-b : goal.invariant-loop-b
 invariant-loop-b l = record {

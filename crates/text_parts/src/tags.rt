@@ -1,18 +1,14 @@
 //! Tags.
 ghost use Rattle.std.specs.Prelude.{◌≡◌};
 ghost use Rattle.std.specs.List.{list_all};
-ghost use Rattle.scan_model.specs.Words.{is_letter, is_digit, is_tag_byte, is_tag};
+ghost use Rattle.scan_model.specs.Words.{is_letter, is_tag_byte, is_tag};
+
+use crate::numbers::is_digit;
 
 fn is_letter(byte: u8) -> bool
     ensures { result ≡ is_letter byte }
 {
     matches!(byte, b'A'..=b'Z' | b'a'..=b'z')
-}
-
-fn is_digit(byte: u8) -> bool
-    ensures { result ≡ is_digit byte }
-{
-    matches!(byte, b'0'..=b'9')
 }
 
 fn is_tag_byte(byte: u8) -> bool

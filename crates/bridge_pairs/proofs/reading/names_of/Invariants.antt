@@ -1,6 +1,0 @@
-use Rattle.std.proofs.Common.{◌≡◌, take}
-use Rattle.scan_model.specs.ScanText.{net_names}
-use Rattle.bridge_pairs.proofs.reading.names_of.Given as goal
-
-abbrev pub invariant-loop-net : goal.invariant-loop-net
-invariant-loop-net l = l.names ≡ net_names (take l.net-index l.nets)
