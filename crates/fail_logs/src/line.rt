@@ -1,6 +1,6 @@
 //! The form of a log's line.
 
-ghost use Rattle.std.specs.Prelude.{◌≡◌};
+ghost use Rattle.std.specs.Prelude.{◌≡◌, ◌∷◌, []};
 ghost use Rattle.scan_model.specs.LogText.{log_line};
 ghost use Rattle.text_parts.specs.Views.{nows};
 
@@ -26,52 +26,60 @@ pub enum LogLine<'a> {
 impl<'a> LogLine<'a> {
     ghost use Rattle.fail_logs.specs.LogViews.{line_view};
 
+    fn of_one(word: &'a [u8]) -> Self
+        ensures { line_view result ≡ log_line (word.now ∷ []) }
+    {
+        if word == b"end".as_slice() {
+            return LogLine::End;
+        }
+        if word == b"truncated".as_slice() {
+            return LogLine::Truncated;
+        }
+        LogLine::Other
+    }
+
+    fn of_two(word: &'a [u8], name: &'a [u8]) -> Self
+        ensures { line_view result ≡ log_line (word.now ∷ name.now ∷ []) }
+    {
+        if word == b"die".as_slice() {
+            return LogLine::Die(name);
+        }
+        if word == b"design".as_slice() {
+            return LogLine::Design(name);
+        }
+        LogLine::Other
+    }
+
     /// The form of a line, by its words.
     pub fn of_words(words: &[&'a [u8]]) -> Self
         ensures { line_view result ≡ log_line (nows words.now) }
     {
         match words {
-            [w] => {
-                if *w == b"end".as_slice() {
-                    return LogLine::End;
-                }
-                if *w == b"truncated".as_slice() {
-                    return LogLine::Truncated;
-                }
-                LogLine::Other
-            }
-            [w, a] => {
-                if *w == b"die".as_slice() {
-                    return LogLine::Die(*a);
-                }
-                if *w == b"design".as_slice() {
-                    return LogLine::Design(*a);
+            [word] => LogLine::of_one(*word),
+            [word, name] => LogLine::of_two(*word, *name),
+            [word, first, last] => {
+                if *word == b"tested".as_slice() {
+                    return LogLine::Tested(*first, *last);
                 }
                 LogLine::Other
             }
-            [w, a, b] => {
-                if *w == b"tested".as_slice() {
-                    return LogLine::Tested(*a, *b);
-                }
-                LogLine::Other
-            }
-            [w, p, kind, a] => {
-                if *w != b"fail".as_slice() {
+            [word, pattern, kind, name] => {
+                if *word != b"fail".as_slice() {
                     return LogLine::Other;
                 }
                 if *kind != b"out".as_slice() {
                     return LogLine::Other;
                 }
-                LogLine::Out(*p, *a)
+                LogLine::Out(*pattern, *name)
             }
-            [w, p, kind, a, b] => {
-                if *w != b"fail".as_slice() {
+            [word, pattern, kind, chain, position] => {
+                if *word != b"fail".as_slice() {
                     return LogLine::Other;
                 }
                 if *kind != b"cell".as_slice() {
                     return LogLine::Other;
                 }
-                LogLine::Cell(*p, *a, *b)
+                LogLine::Cell(*pattern, *chain, *position)
             }
             _ => LogLine::Other,
         }
