@@ -1,5 +1,6 @@
--- How bytes that were added go on.
-use Rattle.std.proofs.Common.{◌≡◌, ℕ, List, ◌++◌, Option, Some, None, refl, sym, ap, ◌∙◌, append_assoc}
+-- How bytes that were added go on, and how bytes that are left are read.
+use Rattle.std.proofs.lemmas.List.{take-append-drop, drop-drop}
+use Rattle.std.proofs.Common.{◌≡◌, ℕ, ◌+◌, List, ◌++◌, take, drop, Option, Some, None, refl, sym, ap, ◌∙◌, append_assoc}
 use Rattle.std.specs.Io.KnownBytes.{append_known}
 use Rattle.desk_outside.specs.Bytes.{AddsBefore}
 
@@ -15,3 +16,8 @@ goes_on old mid new bytes rest more left so_far cut added = record {
   cut = so_far.cut ∙ ap (λ l. so_far.part ++ l) cut ∙ sym (append_assoc so_far.part more left);
   added = added ∙ ap (λ known. append_known known more) so_far.added ∙ append_known_twice old so_far.part more;
 }
+
+-- the first bytes that are left, and those left after them
+pub cut_left : (bytes taken : List ℕ) (at n : ℕ) → taken ≡ take n (drop at bytes) → drop at bytes ≡ taken ++ drop (at + n) bytes
+cut_left bytes taken at n is =
+    sym (take-append-drop n (drop at bytes)) ∙ ap (λ l. take n (drop at bytes) ++ l) (drop-drop n at bytes) ∙ ap (λ t. t ++ drop (at + n) bytes) (sym is)

@@ -4,3 +4,11 @@ pub mod Bytes
 pub mod Schedule
 pub mod Memory
 pub mod KeeperMemory
+pub mod Reads
+pub mod LinkMemory
+pub mod Doors
+pub mod Streets
+pub mod Cabinets
+pub mod DoorMemory
+pub mod StreetMemory
+pub mod CabinetMemory

@@ -7,6 +7,7 @@ ghost use Rattle.desk_outside.specs.Faults.{Rose};
 ghost use Rattle.desk_outside.specs.Schedule.{fresh_calls, fails_next, after_call};
 ghost use Rattle.desk_outside.specs.KeeperMemory.{sure_rows};
 
+use crate::cabinet::KeeperHome;
 use crate::calls::Calls;
 use crate::deed::Deed;
 use scan_model::{NoMemory, Rows};
@@ -127,6 +128,18 @@ impl MemKeeper {
         ensures { IfOk result (λ rows. rows ≡ keeper_rows self.now) }
     {
         copy_deeds(self.alloc, self.deeds.as_slice())
+    }
+
+    // Its deeds, and its count of faults.
+    pub(crate) fn into_home(self) -> KeeperHome
+        ensures rows { result.rows ≡ keeper_rows self }
+        ensures faults { result.faults ≡ (keeper_calls self).faults }
+    {
+        let MemKeeper { deeds, calls, .. } = self;
+        KeeperHome {
+            rows: deeds,
+            faults: calls.faults,
+        }
     }
 }
 
