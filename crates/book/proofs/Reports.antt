@@ -9,9 +9,9 @@ use Rattle.scan_model.specs.ScanTest.{ScanTest}
 use Rattle.scan_model.specs.Universe.{universe}
 use Rattle.scan_model.specs.MatchCounts.{candidates}
 use Rattle.scan_model.specs.Ranking.{same_place, ranked}
-use Rattle.scan_model.specs.ReportText.{report_layout, report_lines, joined}
+use Rattle.scan_model.specs.ReportText.{report_layout, report_lines}
 use Rattle.scan_model.proofs.CandidatePlaces.{candidates_below, candidates_distinct}
-use Rattle.book.specs.Designs.{DesignFacts, ReadLogFacts, ViewFacts, IsView, facts_of, view_report}
+use Rattle.book.specs.Designs.{DesignFacts, ReadLogFacts, ViewFacts, IsView, facts_of, view_lines}
 use Rattle.book.proofs.Views.{texts_stand}
 
 module _ (t : ScanTest) (logs : List LogFacts) (counted sorted : List Scored) (all : counted ≡ candidates t logs) where
@@ -37,11 +37,11 @@ module _ (t : ScanTest) (logs : List LogFacts) (counted sorted : List Scored) (a
       ∙ ap (λ n. report_layout (universe t) t design n (length logs) logs (ranked (candidates t logs))) is_die
       ∙ ap (λ t. report_lines t design die logs) is_test
 
--- over the logs of a view they are its report
-pub view_report_is : (v : ViewFacts) (d : DesignFacts) (die : List ℕ) (logs : List ReadLogFacts) → IsView v → d ≡ v.design → die ≡ v.die → logs ≡ v.logs
-    → joined (report_lines d.test d.name die (facts_of logs)) ≡ view_report v
-view_report_is v d die logs view is_design is_die are_logs =
-    ap (λ (d : DesignFacts). joined (report_lines d.test d.name die (facts_of logs))) is_design
-    ∙ ap (λ x. joined (report_lines v.design.test v.design.name x (facts_of logs))) is_die
-    ∙ ap (λ ls. joined (report_lines v.design.test v.design.name v.die (facts_of ls))) are_logs
-    ∙ ap (λ facts. joined (report_lines v.design.test v.design.name v.die facts)) (sym (texts_stand v view))
+-- over the logs of a view they are its report's lines
+pub view_lines_are : (v : ViewFacts) (d : DesignFacts) (die : List ℕ) (logs : List ReadLogFacts) → IsView v → d ≡ v.design → die ≡ v.die → logs ≡ v.logs
+    → report_lines d.test d.name die (facts_of logs) ≡ view_lines v
+view_lines_are v d die logs view is_design is_die are_logs =
+    ap (λ (d : DesignFacts). report_lines d.test d.name die (facts_of logs)) is_design
+    ∙ ap (λ x. report_lines v.design.test v.design.name x (facts_of logs)) is_die
+    ∙ ap (λ ls. report_lines v.design.test v.design.name v.die (facts_of ls)) are_logs
+    ∙ ap (λ facts. report_lines v.design.test v.design.name v.die facts) (sym (texts_stand v view))

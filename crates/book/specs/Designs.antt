@@ -9,7 +9,8 @@ use Rattle.scan_model.specs.ScanTest.{ScanTest}
 use Rattle.scan_model.specs.Words.{is_tag}
 use Rattle.scan_model.specs.Response.{expected_rows}
 use Rattle.scan_model.specs.LogText.{log_frame, log_reading}
-use Rattle.scan_model.specs.DieReport.{die_report}
+use Rattle.scan_model.specs.DieReport.{die_report, logs_of_texts}
+use Rattle.scan_model.specs.ReportText.{report_lines}
 use Rattle.book.specs.Bundle.{bundle_reading}
 
 -- a design: its name, its bundle, and the scan test that the bundle stands for
@@ -62,6 +63,10 @@ pub record IsView (v : ViewFacts) : Type 0 where
   pub die : is_tag v.die ≡ true
   pub logs : All (IsLogOf v.design v.die) v.logs
   pub differ : IsDistinct bytes_eq (texts_of v.logs)
+
+-- the lines of the report of its logs
+abbrev pub view_lines : ViewFacts → List (List ℕ)
+view_lines v = report_lines v.design.test v.design.name v.die (logs_of_texts v.design.test v.design.name v.die (texts_of v.logs))
 
 -- the report of its logs
 abbrev pub view_report : ViewFacts → List ℕ

@@ -8,7 +8,7 @@ ghost use Rattle.scan_model.specs.MatchCounts.{candidates};
 ghost use Rattle.scan_model.specs.Ranking.{ranked};
 ghost use Rattle.scan_model.specs.ReportText as text_of;
 ghost use Rattle.log_join.specs.Joining.{StandsFor, IsJoinedOf};
-ghost use Rattle.book.specs.Designs.{StandsOver, view_report, texts_of, facts_of, HaveSameTexts};
+ghost use Rattle.book.specs.Designs.{StandsOver, view_lines, view_report, texts_of, facts_of, HaveSameTexts};
 
 use crate::design::Design;
 use crate::log::ReadLog;
@@ -74,6 +74,7 @@ fn diagnosis_of(
 
 /// The report over the logs of a die, with the candidates that it lists.
 pub fn make_diagnosis<R>(_rt: &R, alloc: Global, view: &DieView) -> Result<Diagnosis, NoMemory>
+    ensures lines { IfOk result (λ d. d.report ≡ view_lines view.now) }
     ensures report { IfOk result (λ d. text_of.joined d.report ≡ view_report view.now) }
     ensures candidates { IfOk result (λ d. d.candidates ≡ ranked (candidates view.now.design.test (facts_of view.now.logs))) }
 {
@@ -82,6 +83,7 @@ pub fn make_diagnosis<R>(_rt: &R, alloc: Global, view: &DieView) -> Result<Diagn
 
 /// The report over the logs of a die. Their order doesn't matter, nor does it that a text is given again.
 pub fn make_report<R>(rt: &R, alloc: Global, view: &DieView) -> Result<Report, NoMemory>
+    ensures lines { IfOk result (λ report. report ≡ view_lines view.now) }
     ensures report { IfOk result (λ report. text_of.joined report ≡ view_report view.now) }
     ensures any_order { (others : List (List ℕ)) → HaveSameTexts (texts_of view.now.logs) others → IfOk result (λ report. text_of.joined report ≡ die_report view.now.design.test view.now.design.name view.now.die others) }
 {

@@ -7,8 +7,8 @@ use Rattle.scan_model.specs.MatchCounts.{candidates}
 use Rattle.scan_model.specs.Ranking.{ranked}
 use Rattle.scan_model.specs.ReportText.{report_lines, joined}
 use Rattle.book.specs.declared.checked.Diagnosis.{Diagnosis}
-use Rattle.book.specs.Designs.{ReadLogFacts, DesignFacts, StandsOver, facts_of, view_report}
-use Rattle.book.proofs.Reports.{view_report_is}
+use Rattle.book.specs.Designs.{ReadLogFacts, DesignFacts, StandsOver, facts_of, view_lines, view_report}
+use Rattle.book.proofs.Reports.{view_lines_are}
 use Rattle.book.proofs.Views.{logs_stand}
 use Rattle.book.proofs.checked.make_diagnosis.Goals as goal
 
@@ -19,14 +19,20 @@ diagnosis_of-requires g c =
     let of_logs = subst (All (StandsOver v.design.test)) (sym c.logs.ensures.logs) (logs_stand v c.logs.ensures.view) in
     record { stand = subst (λ (d : DesignFacts). All (StandsOver d.test) (map (λ log. arc_value log) c.logs.result.now)) design of_logs }
 
-pub returns-clause-report : goal.returns-clause-report
-returns-clause-report g c =
+pub returns-clause-lines : goal.returns-clause-lines
+returns-clause-lines g c =
     let d = c.deref.result.now in
     let logs = map (λ (log : Arc ReadLogFacts Global). arc_value log) c.logs.result.now in
     let lines = report_lines d.test d.name c.die.result.now (facts_of logs) in
-    let is = view_report_is c.args.view.now d c.die.result.now logs c.logs.ensures.view (c.deref.ensures ∙ c.design.ensures) c.die.ensures c.logs.ensures.logs in
-    IfOk-weaker c.diagnosis_of.result (λ (made : Diagnosis). made.report ≡ lines) (λ (made : Diagnosis). joined made.report ≡ view_report c.args.view.now)
-    (λ made e. ap joined e ∙ is) c.diagnosis_of.ensures.report
+    let are = view_lines_are c.args.view.now d c.die.result.now logs c.logs.ensures.view (c.deref.ensures ∙ c.design.ensures) c.die.ensures c.logs.ensures.logs in
+    IfOk-weaker c.diagnosis_of.result (λ (made : Diagnosis). made.report ≡ lines) (λ (made : Diagnosis). made.report ≡ view_lines c.args.view.now)
+    (λ made e. e ∙ are) c.diagnosis_of.ensures.report
+
+pub returns-clause-report : goal.returns-clause-report
+returns-clause-report g c =
+    let lines = returns-clause-lines g c in
+    IfOk-weaker c.diagnosis_of.result (λ (made : Diagnosis). made.report ≡ view_lines c.args.view.now) (λ (made : Diagnosis). joined made.report ≡ view_report c.args.view.now)
+    (λ made e. ap joined e) lines
 
 pub returns-clause-candidates : goal.returns-clause-candidates
 returns-clause-candidates g c =

@@ -1,0 +1,12 @@
+pub mod Heads
+pub mod Items
+pub mod Fields
+pub mod Sees
+pub mod Routes
+pub mod Resources
+pub mod SignBodies
+pub mod Statuses
+pub mod Methods
+pub mod Replies
+pub mod Bodies
+pub mod Incoming
