@@ -12,3 +12,9 @@ pub mod Members
 pub mod IncomingSteps
 pub mod IncomingLaws
 pub mod NextItem
+pub mod ResourceTags
+pub mod Answered
+pub mod Gets
+pub mod Puts
+pub mod PutSigns
+pub mod SignKnown

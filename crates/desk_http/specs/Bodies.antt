@@ -79,6 +79,13 @@ digest_differs_body right = digest_line (codes "rule 86 digest") right
 abbrev pub full_body : ℕ → List ℕ
 full_body limit = number_line (codes "rule 88 limit") limit
 
+-- what is answered where the keeper failed, and where memory ran out
+abbrev pub keeper_fault_body : List ℕ
+keeper_fault_body = codes "keeper fault\n"
+
+abbrev pub no_memory_body : List ℕ
+no_memory_body = codes "memory\n"
+
 abbrev pub kind_word : TextKind → List ℕ
 kind_word kind.Bundle = codes "bundle"
 kind_word kind.Netlist = codes "netlist"

@@ -10,3 +10,7 @@ pub mod Methods
 pub mod Replies
 pub mod Bodies
 pub mod Incoming
+pub mod BodyBytes
+pub mod Answers
+pub mod RouteAnswers
+pub mod Answering

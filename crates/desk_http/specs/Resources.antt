@@ -1,5 +1,5 @@
 -- What the target of a request names, and what may be done there.
-use Rattle.std.specs.Prelude.{ℕ, if◌then◌else◌, List, map, slice_get, Option, Some, None, option_and_then}
+use Rattle.std.specs.Prelude.{◌≡◌, true, ℕ, if◌then◌else◌, List, map, slice_get, Option, Some, None, option_and_then}
 use Rattle.matchit.specs.Router.{RouteOf}
 use Rattle.matchit.specs.Seek.{first}
 use Rattle.matchit.specs.Params.{walk}
@@ -89,3 +89,16 @@ methods_of (resource.Design design) = methods.GetPut
 methods_of (resource.Logs design die) = methods.Post
 methods_of (resource.Signs design die) = methods.Post
 methods_of _ = methods.Get
+
+-- ---- names
+
+-- its names are tags
+abbrev pub HasTags : Resource → Type 0
+HasTags (resource.Design design) = is_tag design ≡ true
+HasTags (resource.Fails design fault) = is_tag design ≡ true
+HasTags (resource.Logs design die) = (is_tag design ≡ true) × (is_tag die ≡ true)
+HasTags (resource.LastReport design die) = (is_tag design ≡ true) × (is_tag die ≡ true)
+HasTags (resource.Report design die revision) = (is_tag design ≡ true) × (is_tag die ≡ true)
+HasTags (resource.Page design die revision line) = (is_tag design ≡ true) × (is_tag die ≡ true)
+HasTags (resource.Signs design die) = (is_tag design ≡ true) × (is_tag die ≡ true)
+HasTags (resource.Sign design die number) = (is_tag design ≡ true) × (is_tag die ≡ true)

@@ -1,6 +1,7 @@
 //! Parts of the desk's HTTP sessions: requests as their bytes come (RFC 9112), their routes, and the bytes of replies.
 #![tactic(auto)]
 
+mod answers;
 mod bodies;
 mod checks;
 mod fields;
@@ -12,12 +13,14 @@ mod method;
 mod methods;
 mod reply;
 mod resource;
+mod response;
 mod routes;
 mod short;
 mod signoff;
 mod status;
 mod values;
 
+pub use answers::answer;
 pub use bodies::{
     Refusal, TextKind, design_body, design_head, digest_differs_body, full_body, log_body,
     name_taken_body, sign_off_body, sign_off_line, text_fault_body, unknown_fault_body,
@@ -30,6 +33,7 @@ pub use method::Method;
 pub use methods::Methods;
 pub use reply::{Reply, interim, keeper_fault, no_memory};
 pub use resource::Resource;
+pub use response::{Body, Response, Unanswered};
 pub use routes::Routes;
 pub use short::Short;
 pub use signoff::{BodyFault, SignBody, sign_body};

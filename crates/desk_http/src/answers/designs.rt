@@ -1,0 +1,87 @@
+//! Requests on designs.
+ghost use Rattle.std.specs.Prelude.{◌≡◌, true, IfOk};
+ghost use Rattle.scan_model.specs.Words.{is_tag};
+ghost use Rattle.desk_http.specs.RouteAnswers.{design_put, design_get, fails_get, predicted};
+ghost use Rattle.desk_http.specs.Answering.{Answered, response_of};
+
+use crate::bodies::{design_body, design_head, unknown_fault_body};
+use crate::response::{Body, Response, Unanswered, kind_of, refused_look, refused_put};
+use crate::status::Status;
+use book::{Book, BundleFault, Put, read_bundle};
+use desk_outside::Keeper;
+use diag_report::{fails_text, summary_text};
+use fault_universe::universe_len;
+use scan_model::{Name, NoMemory};
+use std::alloc::Global;
+use std::sync::Arc;
+
+/// A bundle is put under a name.
+pub(super) fn put_design<K: Keeper>(
+    alloc: Global,
+    book: &mut Book<K>,
+    by: u32,
+    name: &[u8],
+    text: &[u8],
+) -> Result<Response, Unanswered>
+    requires { is_tag name.now ≡ true }
+    ensures { Answered (design_put book.old.limit book.old.deeds name.now text.now) by result book.old book.new }
+{
+    // Each answer keeps what the book says of itself.
+    let _deeds = book.deeds();
+    let design = match read_bundle(alloc, name, text) {
+        Ok(design) => design,
+        Err(BundleFault::Text { section, fault }) => {
+            return Ok(Response::unprocessable(kind_of(section), fault));
+        }
+        Err(BundleFault::NoMemory) => return Err(Unanswered::NoMemory),
+    };
+    let body = design_body(name, design.digest());
+    let design = Arc::new(alloc, design).map_err(|_| Unanswered::NoMemory)?;
+    match book.put_design(by, &design) {
+        Ok(Put::Created { .. }) => Ok(Response::short(Status::Created, body)),
+        Ok(Put::Same { .. }) => Ok(Response::short(Status::Ok, body)),
+        Err(fault) => refused_put(fault),
+    }
+}
+
+/// The digest of a design's bundle, and its summary.
+pub(super) fn get_design<K: Keeper>(
+    alloc: Global,
+    book: &Book<K>,
+    name: &[u8],
+) -> Result<Response, NoMemory>
+    requires { is_tag name.now ≡ true }
+    ensures { IfOk result (λ r. r ≡ response_of (design_get book.now.deeds name.now)) }
+{
+    let design = match book.look_design(name) {
+        Ok(design) => design,
+        Err(fault) => return refused_look(fault),
+    };
+    let mut text = Name::new(alloc);
+    text.append(design_head(name, design.digest()).as_slice())?;
+    text.append(summary_text(alloc, design.parts())?.as_slice())?;
+    Ok(Response::plain(Status::Ok, Body::text(text)))
+}
+
+/// The log that a fault of the design predicts.
+pub(super) fn get_fails<K: Keeper>(
+    alloc: Global,
+    book: &Book<K>,
+    name: &[u8],
+    fault: u32,
+) -> Result<Response, NoMemory>
+    requires { is_tag name.now ≡ true }
+    ensures { IfOk result (λ r. r ≡ response_of (fails_get book.now.deeds predicted name.now fault)) }
+{
+    let design = match book.look_design(name) {
+        Ok(design) => design,
+        Err(fault) => return refused_look(fault),
+    };
+    let faults = universe_len(design.parts());
+    if fault >= faults {
+        let body = unknown_fault_body(u64::from(faults));
+        return Ok(Response::short(Status::NotFound, body));
+    }
+    let text = fails_text(alloc, design.parts(), design.name(), b"predicted", fault)?;
+    Ok(Response::plain(Status::Ok, Body::text(text)))
+}
