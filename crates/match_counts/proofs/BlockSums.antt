@@ -29,13 +29,13 @@ use Rattle.scan_model.specs.MatchCounts.{counts_of}
 use Rattle.scan_model.specs.declared.logs.LogFacts.{LogFacts}
 use Rattle.match_counts.proofs.Hits.{bits_by_block}
 use Rattle.scan_model.specs.Response.{predicts_fail}
-use Rattle.count_laws.specs.Masks.{mask, flip_shows, straight, straight_at, place_nets, place_is_point, operand_is_point, touched_nets, IsLogic}
+use Rattle.scan_model.specs.Masks.{mask, flip_shows, straight, straight_at, place_nets, place_is_point, operand_is_point, touched_nets, IsLogic}
 use Rattle.match_counts.specs.Hits.{hits}
 use Rattle.match_counts.specs.BlockSums.{is_capture, captures, flips_in, pins_in}
-use Rattle.count_laws.proofs.Sites.{one_site}
-use Rattle.count_laws.proofs.Shown.{not_opposite_itself}
+use Rattle.scan_model.proofs.counting.OneSite.{one_site}
+use Rattle.scan_model.proofs.counting.Shown.{not_opposite_itself}
 use Rattle.match_counts.proofs.Sums.{sum_agree, sum_agree_in, sum_zero, sum_plus, sum_exchange}
-use Rattle.count_laws.proofs.Masks.{masks-capture, masks-shift}
+use Rattle.scan_model.proofs.counting.Masks.{masks-capture, masks-shift}
 
 abbrev pub tick : Bool → ℕ
 tick b = cond b 1 0

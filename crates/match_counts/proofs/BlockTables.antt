@@ -30,14 +30,13 @@ set_within truth table q x inside right within p = elim (within p) [
 pub sums_more : (f : ℕ → Total) (before now : List Total) (k : ℕ) (x : Total) → k < length now → x ≡ f k
     → ((p : ℕ) → p < k → total_at now p ≡ f p) → ((p : ℕ) → k ≤ p → total_at now p ≡ total_at before p)
     → ((p : ℕ) → p < k + 1 → total_at (set now k x) p ≡ f p) × ((p : ℕ) → k + 1 ≤ p → total_at (set now k x) p ≡ total_at before p)
-sums_more f before now k x inside is done rest =
-    (
-      λ p lt. elim (cases_eq p k) [
-        | inl same ↦ ap (λ (m : ℕ). get_or (set now k x) m no_total) same ∙ get_or-set_same now k x no_total inside ∙ is ∙ ap f (sym same)
-        | inr other ↦ get_or-set_other now k p x no_total other ∙ done p (omega arith)
-      ],
-      λ p le. get_or-set_other now k p x no_total (λ e. omega arith) ∙ rest p (omega arith),
-    )
+sums_more f before now k x inside is done rest = (
+  λ p lt. elim (cases_eq p k) [
+    | inl same ↦ ap (λ (m : ℕ). get_or (set now k x) m no_total) same ∙ get_or-set_same now k x no_total inside ∙ is ∙ ap f (sym same)
+    | inr other ↦ get_or-set_other now k p x no_total other ∙ done p (omega arith)
+  ],
+  λ p le. get_or-set_other now k p x no_total (λ e. omega arith) ∙ rest p (omega arith),
+)
 
 pub at_most_set : (n : ℕ) (now : List Total) (k : ℕ) (x : Total) → k < length now → IsAtMost n x → AreTotalsAtMost n now → AreTotalsAtMost n (set now k x)
 at_most_set n now k x inside small all p = elim (cases_eq p k) [

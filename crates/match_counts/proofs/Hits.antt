@@ -9,7 +9,7 @@ use Rattle.scan_model.specs.Coverage.{bit_of, bits_of}
 use Rattle.scan_model.specs.Suspect.{observed_net}
 use Rattle.match_counts.specs.Hits.{hits, seen_by}
 use Rattle.match_counts.proofs.Sums.{sum_agree, sum_exchange, sum_of_map, sum_of_flat_map, sum_cut, sum_by_key}
-use Rattle.count_laws.proofs.Shown.{point_at-IsPoint, observed_net-in_range}
+use Rattle.scan_model.proofs.counting.Shown.{point_at-IsPoint, observed_net-in_range}
 
 guarded : (x y : Bool) → cond {A = ℕ} x (cond y 1 0) 0 ≡ cond (x && y) 1 0
 guarded true y = refl

@@ -16,3 +16,6 @@ loop-row-preserved c =
       sum = ap (λ (n : ℕ). n + c.count-sum.result) c.loop-row.invariant.sum ∙ ap (λ (n : ℕ). sum_by f (take i rows) + n) (c.count-sum.ensures ∙ ap f c.row-item.is) ∙ sym (sum_by_more f rows i row c.loop-row-test.true);
       few = omega (arith, c.loop-row.invariant.few, few_lanes (lane row.failing), c.count-sum.ensures);
     }
+
+pub overflow_add-sum : goal.overflow_add-sum
+overflow_add-sum c = record { fits = omega (arith, c.loop-row.invariant.few, c.requires, few_lanes (lane c.row-item.result.failing), c.count-sum.ensures) }

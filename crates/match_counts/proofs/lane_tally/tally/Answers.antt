@@ -15,3 +15,6 @@ loop-row-preserved c =
       sum = ap (λ (n : ℕ). n + c.count_both-sum.result) c.loop-row.invariant.sum ∙ ap (λ (n : ℕ). sum_by f (take i rows) + n) (c.count_both-sum.ensures ∙ ap f c.row-item.is) ∙ sym (sum_by_more f rows i row c.loop-row-test.true);
       few = omega (arith, c.loop-row.invariant.few, few_lanes (λ j. lane row j && lane c.args.mask j), c.count_both-sum.ensures);
     }
+
+pub overflow_add-sum : goal.overflow_add-sum
+overflow_add-sum c = record { fits = omega (arith, c.loop-row.invariant.few, c.requires, few_lanes (λ j. lane c.row-item.result j && lane c.args.mask j), c.count_both-sum.ensures) }

@@ -25,3 +25,12 @@ loop-point-preserved c =
             passing = λ j lt. c.side_row-passing.ensures logs stands j lt ∙ on_side_of t logs _ _ Passing (512 * b + j) k c.requires.expected patterns;
           });
     }
+
+pub side_row-passing-requires-clause-expected : goal.side_row-passing-requires-clause-expected
+side_row-passing-requires-clause-expected c = fits_expected c.args.parts.now c.args.expected.now c.args.joined.now c.requires.expected c.requires.joined
+
+pub returns : goal.returns
+returns c = λ logs stands. record {
+  len = c.loop-point.invariant.len ∙ omega (arith, c.loop-point.auto.point-end, c.loop-point-test.false, ap length c.points.ensures.value);
+  each = λ k lt. c.loop-point.invariant.each logs stands k (omega (arith, lt, c.loop-point.invariant.len));
+}

@@ -19,3 +19,6 @@ loop-share-preserved c =
         | inr other ↦ set_keeps truth table s.place s.count inside (right i no_share c.loop-share-test.true) (get_or c.args.shares.now k no_share).place (inv.put truth right k (omega arith))
       ];
     }
+
+pub returns-clause-put : goal.returns-clause-put
+returns-clause-put c = λ truth right k lt. c.loop-share.invariant.put truth right k (omega arith)
