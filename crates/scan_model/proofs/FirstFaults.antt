@@ -49,31 +49,20 @@ above r (s ∷ more) e rule broken =
     go true e low later broken = let same : s.0 ≡ rule = eqb-true s.0 rule e in omega arith
     go false e low later broken = let far : s.0 < rule = later (rw e at broken) in omega arith
 
+skipped : (b x : Bool) → ((b && false) || x) ≡ x
+skipped true x = refl
+skipped false x = refl
+
 -- the lowest rule of a table that rises is the lowest that it breaks
 pub lowest_is : (table : List (ℕ × Bool)) → rises table ≡ true → IsLowest (breaks table) (lowest table)
 lowest_is [] e = λ rule. refl
-lowest_is (r ∷ more) e = go r.1 refl (lowest_is more (rises-tail r.0 more e))
+lowest_is ((r, false) ∷ more) e =
+    IsLowest-same (breaks ((r, false) ∷ more)) (breaks more) (lowest more) (λ rule. skipped (eqb r rule) (breaks more rule)) (lowest_is more (rises-tail r more e))
+lowest_is ((r, true) ∷ more) e = (rw (eq-eqb r r refl) refl, λ rule broken. at rule (eqb r rule) refl broken)
   where
-    by_more : (rule : ℕ) → r.1 ≡ false → breaks (r ∷ more) rule ≡ breaks more rule
-    by_more rule off = rw off (cases (eqb r.0 rule))
-      where
-        cases : (b : Bool) → ((b && false) || breaks more rule) ≡ breaks more rule
-        cases true = refl
-        cases false = refl
-
-    go : (b : Bool) → r.1 ≡ b → IsLowest (breaks more) (lowest more) → IsLowest (breaks (r ∷ more)) (lowest (r ∷ more))
-    go false off rest =
-        let is : IsLowest (breaks (r ∷ more)) (lowest more) = IsLowest-same (breaks (r ∷ more)) (breaks more) (lowest more) (λ rule. by_more rule off) rest in
-        rw off is
-    go true on rest =
-        let here : breaks (r ∷ more) r.0 ≡ true = rw (eq-eqb r.0 r.0 refl, on) refl in
-        let least : (rule : ℕ) → breaks (r ∷ more) rule ≡ true → r.0 ≤ rule = λ rule broken. at rule (eqb r.0 rule) refl broken in
-        let is : IsLowest (breaks (r ∷ more)) (Some r.0) = (here, least) in
-        rw on is
-      where
-        at : (rule : ℕ) (b : Bool) → eqb r.0 rule ≡ b → breaks (r ∷ more) rule ≡ true → r.0 ≤ rule
-        at rule true same broken = let eq : r.0 ≡ rule = eqb-true r.0 rule same in omega arith
-        at rule false differ broken = let far : r.0 < rule = above r.0 more e rule (rw differ at broken) in omega arith
+    at : (rule : ℕ) (b : Bool) → eqb r rule ≡ b → breaks ((r, true) ∷ more) rule ≡ true → r ≤ rule
+    at rule true same broken = let eq : r ≡ rule = eqb-true r rule same in omega arith
+    at rule false differ broken = let far : r < rule = above r more e rule (rw differ at broken) in omega arith
 
 pub breaks-append : (t u : List (ℕ × Bool)) (rule : ℕ) → breaks t rule ≡ false → breaks u rule ≡ false → breaks (t ++ u) rule ≡ false
 breaks-append t u rule one two = list_any-append (λ r. eqb r.0 rule && r.1) t u ∙ rw one two

@@ -1,12 +1,14 @@
 -- Each rule table of a text rises, so what it finds on a line is the lowest rule that the line breaks.
-use Rattle.std.proofs.Common.{◌≡◌, ℕ, ◌<◌, Bool, true, false, cond, List, [], ◌∷◌, ◌++◌, length, Option, Some, None, refl, ◌∙◌, inl, inr}
+use Rattle.std.proofs.Common.{◌≡◌, ℕ, ◌<◌, Bool, true, false, not, cond, List, [], ◌∷◌, ◌++◌, length, take, eqb, Option, Some, None, refl, ◌∙◌, inl, inr}
 use Rattle.scan_model.specs.declared.circuit.Net.{Net}
+use Rattle.scan_model.specs.Lines.{line_at}
+use Rattle.scan_model.specs.Words.{words, has_words}
 use Rattle.scan_model.specs.TextFaults.{HasNoFault, IsFirstInRounds, broken_among, breaks, or_else, first_fault}
 use Rattle.scan_model.specs.NetlistRules.{first_table, second_table, first_rule, second_rule, early_fault}
 use Rattle.scan_model.specs.NetlistText.{third_table, third_rule, netlist_breaks, netlist_rounds}
 use Rattle.scan_model.specs.ScanText.{scan_table, scan_rule, scan_breaks}
-use Rattle.scan_model.specs.PatternText.{PatternFrame, pattern_table, pattern_rule, pattern_breaks, pattern_rules, pattern_end_rules}
-use Rattle.scan_model.specs.LogText.{LogFrame, Headers, log_table, log_rule, log_breaks, log_rules, log_end_rules}
+use Rattle.scan_model.specs.PatternText.{PatternFrame, pattern_table, pattern_rule, pattern_breaks, pattern_rules, pattern_end_rules, pattern_lines}
+use Rattle.scan_model.specs.LogText.{LogFrame, Headers, log_table, log_rule, log_breaks, log_rules, log_end_rules, later_rules, log_line, later_lines, is_title, is_titled, is_closed, headers_in}
 use Rattle.scan_model.proofs.FirstFaults.{IsLowest, rises_from, rises, breaks-append, lowest_is, lowest_in_round, has_none, is_first}
 
 -- ---- netlists
@@ -68,14 +70,27 @@ rises-if true x y up other = up
 rises-if false x y other up = up
 
 pub pattern_lowest : (frame : PatternFrame) (ls : List (List ℕ)) (i : ℕ) → IsLowest (pattern_breaks frame ls i) (pattern_rule frame ls i)
-pattern_lowest frame ls i = lowest_is (pattern_table frame ls i) (rises-if _ _ _ refl refl)
+pattern_lowest frame ls i =
+    lowest_is (pattern_table frame ls i)
+    (rises-if (eqb i (length ls)) (pattern_end_rules (length (pattern_lines ls))) (pattern_rules frame (length (pattern_lines (take i ls))) (line_at ls i)) refl refl)
 
 rises_from-if : (r : ℕ) (b : Bool) (x y : List (ℕ × Bool)) → rises_from r x ≡ true → rises_from r y ≡ true → rises_from r (cond b x y) ≡ true
 rises_from-if r true x y up other = up
 rises_from-if r false x y other up = up
 
 log_rises : (frame : LogFrame) (titled closed : Bool) (headers : Headers) (line : List ℕ) → rises (log_rules frame titled closed headers line) ≡ true
-log_rises frame titled closed headers line = rises_from-if 51 _ _ _ refl (rises_from-if 51 _ _ _ refl (rises_from-if 51 _ _ _ refl refl))
+log_rises frame titled closed headers line =
+    let later = later_rules frame headers (log_line (words line)) in
+    let title = (52, not (is_title (words line))) ∷ [] in
+    rises_from-if 51 (not (has_words (words line))) [] (cond (not titled) title (cond closed ((62, true) ∷ []) later)) refl
+    (rises_from-if 51 (not titled) title (cond closed ((62, true) ∷ []) later) refl
+    (rises_from-if 51 closed ((62, true) ∷ []) later refl refl))
 
 pub log_lowest : (frame : LogFrame) (ls : List (List ℕ)) (i : ℕ) → IsLowest (log_breaks frame ls i) (log_rule frame ls i)
-log_lowest frame ls i = lowest_is (log_table frame ls i) (rises-if _ _ _ refl (log_rises frame _ _ _ _))
+log_lowest frame ls i =
+    let titled = is_titled (take i ls) in
+    let closed = is_closed (later_lines (take i ls)) in
+    let headers = headers_in (later_lines (take i ls)) in
+    lowest_is (log_table frame ls i)
+    (rises-if (eqb i (length ls)) (log_end_rules (is_titled ls) (is_closed (later_lines ls))) (log_rules frame titled closed headers (line_at ls i))
+    refl (log_rises frame titled closed headers (line_at ls i)))
