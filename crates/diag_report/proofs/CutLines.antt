@@ -157,10 +157,31 @@ module _ (t : ScanTest) (names : HasWordNames t) where
   candidate_piece faults e =
       let f : Fault = get_or faults e.1.place no_fault in
       line_piece (score_words e.0 e.1 ++ fault_words t f)
-      (both_unbroken (score_words e.0 e.1) (fault_words t f)
-      (name_unbroken (codes "candidate") refl, (number_unbroken e.0, (name_unbroken (codes "fault") refl, (number_unbroken e.1.place,
-      (name_unbroken (codes "tfsf") refl, (number_unbroken e.1.counts.tfsf, (name_unbroken (codes "tfsp") refl, (number_unbroken e.1.counts.tfsp,
-      (name_unbroken (codes "tpsf") refl, (number_unbroken e.1.counts.tpsf, tt))))))))))
+      (both_unbroken (score_words e.0 e.1) (fault_words t f) (
+        name_unbroken (codes "candidate") refl,
+        (
+          number_unbroken e.0,
+          (
+            name_unbroken (codes "fault") refl,
+            (
+              number_unbroken e.1.place,
+              (
+                name_unbroken (codes "tfsf") refl,
+                (
+                  number_unbroken e.1.counts.tfsf,
+                  (
+                    name_unbroken (codes "tfsp") refl,
+                    (
+                      number_unbroken e.1.counts.tfsp,
+                      (name_unbroken (codes "tpsf") refl, (number_unbroken e.1.counts.tpsf, tt)),
+                    ),
+                  ),
+                ),
+              ),
+            ),
+          ),
+        ),
+      )
       (fault_unbroken f))
 
   labelled : (word : List ℕ) → is_word_name word ≡ true → (n : ℕ) → IsPiece (line (word ∷ decimal n ∷ []))
@@ -173,13 +194,35 @@ module _ (t : ScanTest) (names : HasWordNames t) where
   pub layout_cut : (faults : List Fault) (design die : List ℕ) (count : ℕ) (classes : Bit → BitClass) (rows : List Scored) → is_word_name design ≡ true → is_word_name die ≡ true
       → pieces (joined (layout_by_class faults t design die count classes rows)) ≡ layout_by_class faults t design die count classes rows
   layout_cut faults design die count classes rows design_name die_name =
-      pieces_of (layout_by_class faults t design die count classes rows)
-      (labelled (codes "REPORT") refl 1, (named (codes "design") refl design design_name, (named (codes "die") refl die die_name, (labelled (codes "logs") refl count,
-      (labelled (codes "failing") refl (length (bits_in t classes is_failing)), (labelled (codes "passing") refl (length (bits_in t classes is_passing)),
-      (labelled (codes "conflicts") refl (length (bits_in t classes is_conflict)), (labelled (codes "masked") refl (length (bits_in t classes is_masked)),
-      (labelled (codes "candidates") refl (length rows),
-      both_pieces (map (bit_line t (codes "conflict")) (bits_in t classes is_conflict) ++ map (bit_line t (codes "masked")) (bits_in t classes is_masked)) (map (candidate_line faults t) (enumerate_from 1 rows))
-      (both_pieces (map (bit_line t (codes "conflict")) (bits_in t classes is_conflict)) (map (bit_line t (codes "masked")) (bits_in t classes is_masked))
-      (each_piece (bit_line t (codes "conflict")) (bit_piece (codes "conflict") (name_unbroken (codes "conflict") refl)) (bits_in t classes is_conflict))
-      (each_piece (bit_line t (codes "masked")) (bit_piece (codes "masked") (name_unbroken (codes "masked") refl)) (bits_in t classes is_masked)))
-      (each_piece (candidate_line faults t) (candidate_piece faults) (enumerate_from 1 rows)))))))))))
+      pieces_of (layout_by_class faults t design die count classes rows) (
+        labelled (codes "REPORT") refl 1,
+        (
+          named (codes "design") refl design design_name,
+          (
+            named (codes "die") refl die die_name,
+            (
+              labelled (codes "logs") refl count,
+              (
+                labelled (codes "failing") refl (length (bits_in t classes is_failing)),
+                (
+                  labelled (codes "passing") refl (length (bits_in t classes is_passing)),
+                  (
+                    labelled (codes "conflicts") refl (length (bits_in t classes is_conflict)),
+                    (
+                      labelled (codes "masked") refl (length (bits_in t classes is_masked)),
+                      (
+                        labelled (codes "candidates") refl (length rows),
+                        both_pieces (map (bit_line t (codes "conflict")) (bits_in t classes is_conflict) ++ map (bit_line t (codes "masked")) (bits_in t classes is_masked)) (map (candidate_line faults t) (enumerate_from 1 rows))
+                            (both_pieces (map (bit_line t (codes "conflict")) (bits_in t classes is_conflict)) (map (bit_line t (codes "masked")) (bits_in t classes is_masked))
+                            (each_piece (bit_line t (codes "conflict")) (bit_piece (codes "conflict") (name_unbroken (codes "conflict") refl)) (bits_in t classes is_conflict))
+                            (each_piece (bit_line t (codes "masked")) (bit_piece (codes "masked") (name_unbroken (codes "masked") refl)) (bits_in t classes is_masked)))
+                            (each_piece (candidate_line faults t) (candidate_piece faults) (enumerate_from 1 rows)),
+                      ),
+                    ),
+                  ),
+                ),
+              ),
+            ),
+          ),
+        ),
+      )
