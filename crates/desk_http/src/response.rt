@@ -3,7 +3,7 @@ ghost use Rattle.std.specs.Prelude.{◌≡◌, Ok, IfErr, OnOk};
 ghost use Rattle.scan_model.specs.ReportText.{joined};
 ghost use Rattle.book.specs.declared.answers.LookFault.TheVariants as look_fault;
 ghost use Rattle.book.specs.declared.answers.PutFault.TheVariants as put_fault;
-ghost use Rattle.book.specs.declared.answers.Put.TheVariants.{Created, Same};
+ghost use Rattle.diagnosis.specs.declared.put.Put.TheVariants.{Created, Same};
 ghost use Rattle.desk_http.specs.declared.response.Unanswered.TheVariants as unanswered;
 ghost use Rattle.desk_http.specs.Answers.{plain, refused, other_method, unprocessable, kind_of};
 ghost use Rattle.desk_http.specs.Answering.{response_of, RefusedLook, RefusedPut};

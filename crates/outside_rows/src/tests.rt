@@ -1,3 +1,4 @@
+mod exchanges;
 mod files;
 mod keepers;
 mod links;

@@ -28,4 +28,5 @@ pub mod CandidatePlaces
 pub mod ExpectedRows
 pub mod Cells
 pub mod Loads
+pub mod MoreDefinite
 pub mod counting

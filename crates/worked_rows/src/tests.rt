@@ -1,5 +1,6 @@
 mod chains;
 mod circuits;
+mod dies;
 mod faults;
 mod logs;
 mod neighbours;

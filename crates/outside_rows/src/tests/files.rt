@@ -1,5 +1,5 @@
 //! Files that are read, and bytes that are written.
-use crate::{only, print};
+use super::exchanges::{only, print};
 use desk_outside::{
     Failed, File, MemShelf, MemSink, ShelfAnswer, SureShelf, SureSink, are_distinct,
 };

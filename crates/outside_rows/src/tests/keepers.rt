@@ -1,5 +1,5 @@
 //! Deeds that are kept in a cabinet.
-use crate::{keep, only};
+use super::exchanges::{keep, only};
 use desk_outside::{Deed, DeedKind, KeepFault, MemCabinet, MemKeeper};
 use scan_model::{Name, NoMemory, Rows};
 use std::alloc::Global;

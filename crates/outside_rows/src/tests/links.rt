@@ -2,7 +2,7 @@
 ghost use Rattle.std.specs.Prelude.{IfOk};
 ghost use Rattle.desk_outside.specs.DoorMemory.{IsUnusedDoor};
 
-use crate::{answer_at, answer_next, only};
+use super::exchanges::{answer_at, answer_next, only};
 use desk_outside::{Failed, Link, LinkRead, MemDoor, MemLink, MemStreet, SureLink, send_all};
 use scan_model::{Name, NoMemory, Rows};
 use std::alloc::Global;

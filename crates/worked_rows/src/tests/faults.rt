@@ -1,25 +1,14 @@
 //! The list of modelled faults.
-use super::circuits::{s27, s27_chain};
-use crate::parts_of;
+use super::circuits::design_of_s27;
+use diagnosis::BundleFault;
 use fault_universe::{fault_at, fault_text, place_of, universe, universe_len};
-use scan_model::Parts;
 use std::alloc::Global;
-use text_parts::ReadFault;
-
-fn s27_parts(alloc: Global) -> Result<Parts, ReadFault> {
-    parts_of(
-        alloc,
-        s27().as_bytes(),
-        s27_chain().as_bytes(),
-        b"CAPTURE 0000 000\n",
-    )
-}
 
 // Whether the list of s27 has 64 faults.
-fn lists_all(alloc: Global) -> Result<bool, ReadFault> {
-    let parts = s27_parts(alloc)?;
-    let faults = universe(alloc, &parts)?;
-    Ok(faults.len() == 64 && universe_len(&parts) == 64)
+fn lists_all(alloc: Global) -> Result<bool, BundleFault> {
+    let design = design_of_s27(alloc, "CAPTURE 0000 000\n")?;
+    let faults = universe(alloc, design.parts())?;
+    Ok(faults.len() == 64 && universe_len(design.parts()) == 64)
 }
 
 #[test]
@@ -28,13 +17,14 @@ fn all_faults_of_s27(rt: HostRuntime) {
 }
 
 // Whether the fault of place 45 of s27 has this text.
-fn has_text(alloc: Global, expected: &[u8]) -> Result<bool, ReadFault> {
-    let parts = s27_parts(alloc)?;
-    let Some(fault) = fault_at(&parts, 45) else {
+fn has_text(alloc: Global, expected: &[u8]) -> Result<bool, BundleFault> {
+    let design = design_of_s27(alloc, "CAPTURE 0000 000\n")?;
+    let parts = design.parts();
+    let Some(fault) = fault_at(parts, 45) else {
         return Ok(false);
     };
-    let text = fault_text(alloc, &parts, &fault)?;
-    Ok(text.as_slice() == expected && place_of(&parts, &fault) == Some(45))
+    let text = fault_text(alloc, parts, &fault)?;
+    Ok(text.as_slice() == expected && place_of(parts, &fault) == Some(45))
 }
 
 #[test]
