@@ -25,13 +25,13 @@ use Rattle.scan_model.specs.declared.logs.Scored.{Scored}
 use Rattle.scan_model.specs.Netlist.{no_net, pin_at}
 use Rattle.scan_model.specs.ScanTest.{ScanTest, name_of, no_chain, chain_at, point_at}
 use Rattle.scan_model.specs.Lines.{pieces}
-use Rattle.scan_model.specs.Words.{is_filled, is_name_byte}
+use Rattle.scan_model.specs.Words.{is_filled, is_name_byte, is_tag}
 use Rattle.scan_model.specs.Classes.{is_conflict, is_masked, is_failing, is_passing}
 use Rattle.scan_model.specs.ReportText.{spaced, line, joined, stuck_word, cell_word, bridge_word, branch_words, fault_words, point_words, bit_line, no_fault, candidate_line, bits_in, layout_by_class}
 use Rattle.diag_report.specs.PredictedLog.{is_word_name, HasWordNames}
 use Rattle.diag_report.specs.Layout.{score_words, title_lines, total_lines}
 use Rattle.diag_report.proofs.Bools.{right_true}
-use Rattle.diag_report.proofs.PlainWords.{not_byte, none_in_name, append_all}
+use Rattle.diag_report.proofs.PlainWords.{not_byte, none_in_name, append_all, tag_is_name}
 
 -- bytes without a line feed
 abbrev Unbroken : List ℕ → Type 0
@@ -91,14 +91,11 @@ glyph d = go (ltb d 10)
 
 digits_unbroken : (k n : ℕ) (acc : List ℕ) → Unbroken acc → Unbroken (digits_onto k 10 false n acc)
 digits_unbroken zero n acc all = all
-digits_unbroken (suc k) n acc all = go (eqb (n / 10) 0)
+digits_unbroken (suc k) n acc all = go (eqb (n / 10) 0) (digits_unbroken k (n / 10) (digit_glyph false (n % 10) ∷ acc) (glyph (n % 10), all))
   where
-    more : List ℕ
-    more = digit_glyph false (n % 10) ∷ acc
-
-    go : (b : Bool) → Unbroken (cond b (digit_glyph false (n % 10) ∷ acc) (digits_onto k 10 false (n / 10) (digit_glyph false (n % 10) ∷ acc)))
-    go true = (glyph (n % 10), all)
-    go false = digits_unbroken k (n / 10) (digit_glyph false (n % 10) ∷ acc) (glyph (n % 10), all)
+    go : (b : Bool) → Unbroken (digits_onto k 10 false (n / 10) (digit_glyph false (n % 10) ∷ acc)) → Unbroken (cond b (digit_glyph false (n % 10) ∷ acc) (digits_onto k 10 false (n / 10) (digit_glyph false (n % 10) ∷ acc)))
+    go true more = (glyph (n % 10), all)
+    go false more = more
 
 number_unbroken : (n : ℕ) → Unbroken (decimal n)
 unfolding digits
@@ -125,13 +122,13 @@ module _ (t : ScanTest) (names : HasWordNames t) where
   net_unbroken : (n : ℕ) → Unbroken (name_of t n)
   net_unbroken n = elim (cases_lt n (length t.netlist.nets)) [
     | inl lt ↦ name_unbroken (name_of t n) (names.nets n no_net lt)
-    | inr past ↦ rw (get_or_past t.netlist.nets n no_net past) tt
+    | inr past ↦ subst Unbroken (sym (ap (λ (m : Net). m.name) (get_or_past t.netlist.nets n no_net past))) tt
   ]
 
   chain_unbroken : (h : ℕ) → Unbroken (chain_at t h).name
   chain_unbroken h = elim (cases_lt h (length t.chains)) [
     | inl lt ↦ name_unbroken (chain_at t h).name (names.chains h no_chain lt)
-    | inr past ↦ rw (get_or_past t.chains h no_chain past) tt
+    | inr past ↦ subst Unbroken (sym (ap (λ (m : Chain). m.name) (get_or_past t.chains h no_chain past))) tt
   ]
 
   branch_unbroken : (p : PinPlace) → AreUnbroken (branch_words t p)
@@ -191,15 +188,15 @@ module _ (t : ScanTest) (names : HasWordNames t) where
   named word plain name e = line_piece (word ∷ name ∷ []) (name_unbroken word plain, (name_unbroken name e, tt))
 
   -- the text of a layout, cut behind each line feed, is its lines
-  pub layout_cut : (faults : List Fault) (design die : List ℕ) (count : ℕ) (classes : Bit → BitClass) (rows : List Scored) → is_word_name design ≡ true → is_word_name die ≡ true
+  pub layout_cut : (faults : List Fault) (design die : List ℕ) (count : ℕ) (classes : Bit → BitClass) (rows : List Scored) → is_tag design ≡ true → is_tag die ≡ true
       → pieces (joined (layout_by_class faults t design die count classes rows)) ≡ layout_by_class faults t design die count classes rows
-  layout_cut faults design die count classes rows design_name die_name =
+  layout_cut faults design die count classes rows design_tag die_tag =
       pieces_of (layout_by_class faults t design die count classes rows) (
         labelled (codes "REPORT") refl 1,
         (
-          named (codes "design") refl design design_name,
+          named (codes "design") refl design (tag_is_name design design_tag),
           (
-            named (codes "die") refl die die_name,
+            named (codes "die") refl die (tag_is_name die die_tag),
             (
               labelled (codes "logs") refl count,
               (

@@ -1,4 +1,4 @@
-use Rattle.std.proofs.Common.{◌≡◌, ℕ, ◌+◌, ◌*◌, ◌<◌, ◌++◌, length, sym, ap, ◌∙◌, arith}
+use Rattle.std.proofs.Common.{◌≡◌, ℕ, ◌+◌, ◌*◌, ◌<◌, ◌++◌, length, sym, ap, subst, ◌∙◌, arith}
 use Rattle.scan_model.specs.ScanTest.{points_of}
 use Rattle.scan_model.specs.Classes.{class_with}
 use Rattle.fault_universe.specs.BitRows.{row_bits, bits_upto}
@@ -19,3 +19,9 @@ loop-pattern-preserved c =
           ∙ ap (tally_over (class_with c.args.expected.now logs)) (ap (λ (n : ℕ). bits_upto t w ++ row_bits w n) points ∙ sym (bits_upto_more t w));
       tally = IsTallyOf-le c.len-points.result (w * 131072 + c.len-points.result) ((w + 1) * 131072) c.tally_row.new.tally (omega (arith, c.points.ensures.few)) (c.in_ok-tally_row.ensures.tally (w * 131072) c.loop-pattern.invariant.tally);
     }
+
+pub returns-clause-classes : goal.returns-clause-classes
+returns-clause-classes c = λ logs stands.
+    let t = c.args.parts.now in
+    let whole : c.loop-pattern.pattern ≡ length t.patterns = omega (arith, ap length c.patterns.ensures.value) in
+    subst (λ (n : ℕ). c.loop-pattern.tally ≡ tally_over (class_with c.args.expected.now logs) (bits_upto t n)) whole (c.loop-pattern.invariant.classes logs stands)
