@@ -140,13 +140,19 @@ impl Checked {
     }
 }
 
+fn digest_of(report: &Report) -> Digest
+    ensures { result ≡ sha256 (text_of.joined report.now) }
+{
+    Digest::from_bytes(<Sha256 as sha2::Digest>::digest(report.bytes()))
+}
+
 /// Makes the report of a die that has a log, for its digest.
 pub fn check_report<R>(rt: &R, alloc: Global, view: &DieView) -> Result<Checked, NoMemory>
     requires { 0 < length view.now.logs }
     ensures { IfOk result (λ checked. checked ≡ view.now) }
 {
     let report = make_report(rt, alloc, view)?;
-    let bytes = <Sha256 as sha2::Digest>::digest(report.bytes());
-    let digest = Digest::from_bytes(bytes);
-    Ok(Checked::by_digest(view.copy(alloc)?, digest))
+    let digest = digest_of(&report);
+    let view = view.copy(alloc)?;
+    Ok(Checked::by_digest(view, digest))
 }
