@@ -7,6 +7,7 @@ mod flips;
 mod force;
 mod good;
 mod groups;
+mod laws;
 mod made;
 mod masks;
 mod overlay;
@@ -16,6 +17,7 @@ mod wiring;
 
 pub use good::PackedGood;
 pub use groups::Groups;
+pub use laws::{fails_of_flips, more_definite};
 pub use overlay::Overlay;
 pub use place_set::PlaceSet;
 pub use scratch::Scratch;

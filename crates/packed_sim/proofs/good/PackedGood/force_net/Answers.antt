@@ -1,9 +1,9 @@
-use Rattle.std.proofs.Common.{◌≤◌, ◌+◌, [], ◌∷◌, subst, arith}
+use Rattle.std.proofs.Common.{List, ◌≤◌, ◌+◌, [], ◌∷◌, subst, arith}
 use Rattle.std.specs.Prelude.{count_by}
 use Rattle.scan_model.specs.Netlist.{Netlist}
-use Rattle.packed_sim.specs.Spread.{is_behind}
+use Rattle.packed_sim.specs.Spread.{IsForced, is_behind}
 use Rattle.scan_model.specs.Force.{force}
-use Rattle.lane_rows.specs.Planes.{held}
+use Rattle.lane_rows.specs.Planes.{Planes, held}
 use Rattle.packed_sim.proofs.Belonging.{fits_of, inside_of, forced_at, few_steps}
 use Rattle.packed_sim.proofs.good.PackedGood.force_net.Goals as goal
 
@@ -27,8 +27,12 @@ returns-clause-scratch g c = inside_of c.args.parts.now c.circuit.ensures.fits c
     (rw (c.circuit.ensures.value, c.values-good.ensures) at c.force.ensures.fits) c.force.ensures.empty c.force.ensures.room
 
 pub returns-clause-values : goal.returns-clause-values
-returns-clause-values g c = forced_at c.args.parts.now c.circuit.ensures.fits c.args.self.now c.requires.good c.args.block c.force.new.self (λ j. force c.args.net (held c.args.row j)) c.requires.block
-    (rw (c.circuit.ensures.value, c.values-good.ensures) at c.force.ensures.values)
+returns-clause-values g c =
+    let order = c.args.self.now.wiring.order.items in
+    let sinks = c.args.self.now.wiring.sinks in
+    let of_circuit = subst (λ (n : Netlist). IsForced n order sinks c.values-good.result.now (λ j. force c.args.net (held c.args.row j)) c.force.new.self) c.circuit.ensures.value c.force.ensures.values in
+    let of_block = subst (λ (v : List Planes). IsForced c.args.parts.now.netlist order sinks v (λ j. force c.args.net (held c.args.row j)) c.force.new.self) c.values-good.ensures of_circuit in
+    forced_at c.args.parts.now c.circuit.ensures.fits c.args.self.now c.requires.good c.args.block c.force.new.self (λ j. force c.args.net (held c.args.row j)) c.requires.block of_block
 
 pub returns-clause-steps : goal.returns-clause-steps
 returns-clause-steps g c =
