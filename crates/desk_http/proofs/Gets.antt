@@ -19,7 +19,7 @@ use Rattle.book.specs.declared.answers.PutFault.TheVariants as put_fault
 use Rattle.book.specs.declared.answers.LookFault.{LookFault}
 use Rattle.book.specs.declared.answers.LookFault.TheVariants as look_fault
 use Rattle.book.specs.declared.sign.Sign.{Sign as SignOff}
-use Rattle.book.specs.Designs.{ViewFacts, IsDesign, texts_of, view_lines, view_report}
+use Rattle.diagnosis.specs.Designs.{ViewFacts, IsDesign, texts_of, view_lines, view_report}
 use Rattle.book.specs.Deeds.{design_text, test_of_text, test_of_reading, die_signs, sign_in}
 use Rattle.book.specs.Answers.{known_design, design_look, die_look, sign_look, sign_numbered}
 use Rattle.book.specs.Changes.{BookFacts, IsBook, IsViewIn, Looked}

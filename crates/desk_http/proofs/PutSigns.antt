@@ -7,12 +7,12 @@ use Rattle.scan_model.specs.ScanTest.{ScanTest}
 use Rattle.scan_model.specs.DieReport.{die_report}
 use Rattle.desk_outside.specs.declared.deed.Deed.{Deed}
 use Rattle.desk_outside.specs.declared.deed.DeedKind.TheVariants as deed
-use Rattle.book.specs.declared.answers.Put.{Put}
+use Rattle.diagnosis.specs.declared.put.Put.{Put}
 use Rattle.book.specs.declared.answers.PutFault.{PutFault}
 use Rattle.book.specs.declared.answers.PutFault.TheVariants as put_fault
 use Rattle.book.specs.declared.answers.LookFault.{LookFault}
 use Rattle.book.specs.declared.answers.LookFault.TheVariants as look_fault
-use Rattle.book.specs.Designs.{IsDesign, ReadLogFacts, ViewFacts, IsView, texts_of, view_report}
+use Rattle.diagnosis.specs.Designs.{IsDesign, ReadLogFacts, ViewFacts, IsView, texts_of, view_report}
 use Rattle.book.specs.Deeds.{die_logs}
 use Rattle.book.specs.Answers.{sign_answer, design_look, die_look, known_design, up_to}
 use Rattle.book.specs.Changes.{BookFacts, Changed, IsViewIn}

@@ -13,13 +13,13 @@ use Rattle.desk_outside.specs.Faults.{Rose}
 use Rattle.desk_outside.specs.declared.deed.Deed.{Deed}
 use Rattle.desk_outside.specs.declared.deed.DeedKind.{DeedKind}
 use Rattle.desk_outside.specs.declared.deed.DeedKind.TheVariants as deed
-use Rattle.book.specs.declared.answers.Put.{Put}
-use Rattle.book.specs.declared.answers.Put.TheVariants.{Created, Same}
+use Rattle.diagnosis.specs.declared.put.Put.{Put}
+use Rattle.diagnosis.specs.declared.put.Put.TheVariants.{Created, Same}
 use Rattle.book.specs.declared.answers.PutFault.{PutFault}
 use Rattle.book.specs.declared.answers.PutFault.TheVariants as put_fault
-use Rattle.book.specs.declared.section.Section.{Section}
-use Rattle.book.specs.Bundle.{bundle_reading}
-use Rattle.book.specs.Designs.{DesignFacts, IsDesign, ReadLogFacts}
+use Rattle.diagnosis.specs.declared.section.Section.{Section}
+use Rattle.diagnosis.specs.Bundle.{bundle_reading}
+use Rattle.diagnosis.specs.Designs.{DesignFacts, IsDesign, ReadLogFacts}
 use Rattle.book.specs.Deeds.{test_of_text, test_of_reading}
 use Rattle.book.specs.Answers.{design_answer, log_answer, design_look}
 use Rattle.book.specs.Changes as book

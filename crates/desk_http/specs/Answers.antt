@@ -1,10 +1,10 @@
 -- What may be answered to a request.
 use Rattle.std.specs.Prelude.{ℕ, List, Option, Some, None, Result, Ok, Err}
 use Rattle.desk_outside.specs.declared.deed.DeedKind.{DeedKind}
-use Rattle.book.specs.declared.section.Section.{Section}
-use Rattle.book.specs.declared.section.Section.TheVariants as section
-use Rattle.book.specs.declared.answers.Put.{Put}
-use Rattle.book.specs.declared.answers.Put.TheVariants.{Created, Same}
+use Rattle.diagnosis.specs.declared.section.Section.{Section}
+use Rattle.diagnosis.specs.declared.section.Section.TheVariants as section
+use Rattle.diagnosis.specs.declared.put.Put.{Put}
+use Rattle.diagnosis.specs.declared.put.Put.TheVariants.{Created, Same}
 use Rattle.book.specs.declared.answers.PutFault.{PutFault}
 use Rattle.book.specs.declared.answers.PutFault.TheVariants as put_fault
 use Rattle.book.specs.declared.answers.LookFault.{LookFault}

@@ -11,8 +11,8 @@ use Rattle.desk_outside.specs.declared.deed.Deed.{Deed}
 use Rattle.desk_outside.specs.declared.deed.DeedKind.TheVariants as deed
 use Rattle.diag_report.specs.Summary.{summary_text}
 use Rattle.diag_report.specs.PredictedLog.{predicted_log, fault_of}
-use Rattle.book.specs.declared.section.Section.{Section}
-use Rattle.book.specs.Bundle.{bundle_reading}
+use Rattle.diagnosis.specs.declared.section.Section.{Section}
+use Rattle.diagnosis.specs.Bundle.{bundle_reading}
 use Rattle.book.specs.Deeds.{test_of_text}
 use Rattle.book.specs.Answers.{design_answer, log_answer, sign_answer, design_look, die_look, sign_look}
 use Rattle.desk_http.specs.declared.status.Status.TheVariants as status

@@ -3,7 +3,7 @@ ghost use Rattle.std.specs.Prelude.{◌≡◌, Ok, IfErr, OnOk};
 ghost use Rattle.scan_model.specs.ReportText.{joined};
 ghost use Rattle.book.specs.declared.answers.LookFault.TheVariants as look_fault;
 ghost use Rattle.book.specs.declared.answers.PutFault.TheVariants as put_fault;
-ghost use Rattle.book.specs.declared.answers.Put.TheVariants.{Created, Same};
+ghost use Rattle.diagnosis.specs.declared.put.Put.TheVariants.{Created, Same};
 ghost use Rattle.desk_http.specs.declared.response.Unanswered.TheVariants as unanswered;
 ghost use Rattle.desk_http.specs.Answers.{plain, refused, other_method, unprocessable, kind_of};
 ghost use Rattle.desk_http.specs.Answering.{response_of, RefusedLook, RefusedPut};
@@ -171,7 +171,7 @@ pub(crate) fn kind_of(section: Section) -> TextKind
     }
 }
 
-// What a look is answered that found nothing.
+// The answer to a look that found nothing.
 pub(crate) fn refused_look(fault: LookFault) -> Result<Response, NoMemory>
     ensures answer { RefusedLook fault result }
     ensures memory { OnOk result (¬ (fault ≡ look_fault.NoMemory)) }
@@ -189,7 +189,7 @@ pub(crate) fn refused_look(fault: LookFault) -> Result<Response, NoMemory>
     })
 }
 
-// What a change is answered that was refused.
+// The answer to a change that was refused.
 pub(crate) fn refused_put(fault: PutFault) -> Result<Response, Unanswered>
     ensures answer { RefusedPut fault result }
     ensures keeper { OnOk result (¬ (fault ≡ put_fault.Failed)) }

@@ -20,6 +20,8 @@ pub mod PinCounts
 pub mod BitTables
 pub mod Definite
 pub mod FaultSteps
+pub mod FirstFaults
+pub mod TextRules
 pub mod PointCount
 pub mod LevelTests
 pub mod CandidatePlaces

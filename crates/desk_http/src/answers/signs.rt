@@ -60,7 +60,7 @@ fn put_sign<R, K: Keeper>(
     };
     // The report's digest is the die's by what the view says of itself.
     let _revision = view.revision();
-    let checked = check_report(rt, alloc, view)?;
+    let checked = check_report(rt, alloc, &view)?;
     match book.sign(by, &checked, &sign.signer, &sign.digest) {
         Ok(Put::Created { number }) => Ok(Response::short(Status::Created, sign_off_line(number))),
         Ok(Put::Same { number }) => Ok(Response::short(Status::Ok, sign_off_line(number))),

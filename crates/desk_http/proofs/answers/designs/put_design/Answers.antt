@@ -1,6 +1,6 @@
 use Rattle.std.proofs.Common.{◌≡◌, Ok, rules}
 use Rattle.std.specs.Arc.{arc_value}
-use Rattle.book.specs.Bundle.{bundle_reading}
+use Rattle.diagnosis.specs.Bundle.{bundle_reading}
 use Rattle.desk_http.proofs.Puts.{design_refused}
 use Rattle.desk_http.proofs.answers.designs.put_design.Goals as goal
 

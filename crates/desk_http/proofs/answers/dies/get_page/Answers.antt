@@ -1,5 +1,5 @@
 use Rattle.std.proofs.Common.{◌≡◌, ◌∙◌, ◌≤◌, ℕ, List, Some, length, refl, sym, ap, subst, true≢false}
-use Rattle.book.specs.Designs.{ViewFacts, IsDesign, texts_of, view_lines}
+use Rattle.diagnosis.specs.Designs.{ViewFacts, IsDesign, texts_of, view_lines}
 use Rattle.book.specs.Answers.{die_look}
 use Rattle.scan_model.specs.ReportText.{page_of}
 use Rattle.desk_http.specs.declared.status.Status.TheVariants as status

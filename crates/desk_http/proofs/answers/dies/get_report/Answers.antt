@@ -1,5 +1,5 @@
 use Rattle.std.proofs.Common.{◌∙◌, ℕ, List, sym, ap, subst}
-use Rattle.book.specs.Designs.{ViewFacts, IsDesign, texts_of}
+use Rattle.diagnosis.specs.Designs.{ViewFacts, IsDesign, texts_of}
 use Rattle.book.specs.Answers.{die_look}
 use Rattle.desk_http.specs.declared.status.Status.TheVariants as status
 use Rattle.desk_http.specs.Answers.{plain}

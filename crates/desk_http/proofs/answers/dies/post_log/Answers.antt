@@ -1,7 +1,7 @@
 use Rattle.std.proofs.Common.{ap, ◌∙◌, rules}
 use Rattle.std.specs.Arc.{arc_value}
 use Rattle.text_parts.specs.declared.fault.TextFault.{TextFault}
-use Rattle.book.specs.declared.answers.Put.TheVariants.{Created, Same}
+use Rattle.diagnosis.specs.declared.put.Put.TheVariants.{Created, Same}
 use Rattle.book.proofs.CallerLemmas.{log_stands_in_book}
 use Rattle.desk_http.specs.declared.bodies.TextKind.TheVariants as kind
 use Rattle.desk_http.specs.Answers.{unprocessable}

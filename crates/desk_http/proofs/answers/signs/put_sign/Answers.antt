@@ -1,5 +1,5 @@
 use Rattle.std.proofs.Common.{rules}
-use Rattle.book.specs.declared.answers.Put.TheVariants.{Created, Same}
+use Rattle.diagnosis.specs.declared.put.Put.TheVariants.{Created, Same}
 use Rattle.desk_http.proofs.PutSigns.{view_length, is_found_die, sign_put, sign_refused}
 use Rattle.desk_http.proofs.answers.signs.put_sign.Goals as goal
 
