@@ -1,6 +1,6 @@
 -- What is known of a scratch and of rows that belong to a test.
-use Rattle.std.proofs.Common.{◌≡◌, ℕ, zero, suc, ◌+◌, ◌*◌, ◌<◌, ◌≤◌, Bool, true, false, cond, eqb, ltb, ◌&&◌, ◌||◌, List, [], ◌∷◌, length, map, get_or, take, None, Some, refl, sym, ap, subst, ◌∙◌, inl, inr, arith}
-use Rattle.std.specs.Prelude.{Contains, filter, count_by}
+use Rattle.std.proofs.Common.{◌≡◌, ℕ, zero, suc, ◌+◌, ◌*◌, ◌<◌, ◌≤◌, Bool, true, false, cond, eqb, ltb, ◌&&◌, ◌||◌, List, [], ◌∷◌, length, map, get_or, Option, None, Some, unwrap_or, ◌≢◌, refl, sym, ap, subst, ◌∙◌, inl, inr, arith}
+use Rattle.std.specs.Prelude.{filter, count_by, is_some}
 use Rattle.std.specs.List.{list_any, range_with_len}
 use Rattle.std.proofs.lemmas.Bool.{cases_Bool, both_ways, and_parts, and_from, ltb-true}
 use Rattle.std.proofs.lemmas.List.{length-map, get_or-map}
@@ -29,8 +29,9 @@ use Rattle.lane_rows.specs.GoodRows.{AreBlockRows, pattern_of, same_kind}
 use Rattle.packed_sim.specs.declared.good.PackedGood.{PackedGood}
 use Rattle.packed_sim.specs.declared.scratch.Scratch.{Scratch}
 use Rattle.packed_sim.specs.Places.{has_place, room}
+use Rattle.packed_sim.specs.Rows.{no_row}
 use Rattle.packed_sim.specs.Spread.{FitsScratch, IsForced, AreGood, is_behind}
-use Rattle.packed_sim.specs.Belongs.{BelongsTo, IsScratchIn, IsScratchOf, block_at, good_at, now_at, observed_at, captures, gates_behind}
+use Rattle.packed_sim.specs.Belongs.{BelongsTo, IsScratchIn, IsScratchOf, block_at, good_at, now_at, observed_at, captures, has_own_row, gates_behind}
 use Rattle.packed_sim.proofs.Once.{counted_once}
 
 pub order_short : (c : Netlist) (order : List ℕ) → IsEvaluationOrder c order → length order ≤ length c.nets
@@ -113,3 +114,19 @@ module _ (t : ScanTest) (sound : IsScanTest t) (g : PackedGood) (belongs : Belon
       ∙ ap (are_opposite (good_value t w o)) (y_is ∙ ap (λ (v : Tri). values_of t.netlist (source_of t None w) (force net v) o) (is ∙ good))
       ∙ force_shows t sound order belongs.wired.wired.ordered w net (good_value t w net) o (observed_in_range k in_points)
       ∙ ap (λ (b' : Bool). b' && are_opposite (good_value t w o) (flipped t w net o)) (not_opposite_itself (good_value t w net))
+
+pub own_row : (o : Option Planes) → o ≢ None → is_some o ≡ true
+own_row None has = absurd (has refl)
+own_row (Some p) has = refl
+
+pub row_of_own : (o : Option Planes) → is_some o ≡ true → o ≢ None
+row_of_own None owned = absurd cc
+row_of_own (Some p) owned = λ e. cc
+
+-- where a net has no row of its own its value is the fault-free one
+pub own_no_row : (g : PackedGood) (s : Scratch) (b j n : ℕ) → has_own_row s n ≡ false → now_at g s b j n ≡ good_at g b j n
+own_no_row g s b j n none = ap (λ (o : Option Planes). held (unwrap_or o (get_or (block_at g b).values n no_row)) j) (is_none (get_or s.overlay n None) none)
+  where
+    is_none : (o : Option Planes) → is_some o ≡ false → o ≡ None
+    is_none None e = refl
+    is_none (Some p) e = absurd cc

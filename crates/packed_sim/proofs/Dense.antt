@@ -9,6 +9,7 @@ use Rattle.std.proofs.lemmas.Map.Keys.{IsDistinct-from_apart}
 use Rattle.std.proofs.lemmas.Map.Steps.{length-le_from_distinct_below}
 use Rattle.scan_model.proofs.FanSweeps.{any_found, any_among}
 use Rattle.lane_rows.specs.Planes.{Planes}
+use Rattle.packed_sim.proofs.Once.{distinct_from}
 use Rattle.packed_sim.specs.Rows.{no_row, row_at, rows_at, IsClean, forgotten, IsDense}
 
 -- ---- the row of a slot
@@ -246,3 +247,10 @@ has_row_listed slots nets rows a b dense n some = elim (cases_lt n (length slots
         (get_or slots n 0 - 1, i_in, get_or_default nets (get_or slots n 0 - 1) n 0 i_in ∙ at.1)
   ]
 ]
+
+-- each net is listed once
+pub listed_differ : (slots nets : List ℕ) (rows : List Planes) (nets_room rows_room : ℕ) → IsDense slots nets rows nets_room rows_room → IsDistinct eqb nets
+listed_differ slots nets rows nets_room rows_room dense = distinct_from nets (λ i j lt inside same.
+    let a = dense.slot_of i (omega arith) in
+    let b = dense.slot_of j inside in
+    omega (arith, a.1, b.1, ap (λ (n : ℕ). get_or slots n 0) same))

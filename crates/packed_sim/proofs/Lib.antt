@@ -13,3 +13,6 @@ pub mod FaultBits
 pub mod Renamed
 pub mod PinMasks
 pub mod Observed
+pub mod CellPlaces
+pub mod Loading
+pub mod ChainBits

@@ -88,7 +88,7 @@ apart_from : (x : ℕ) (xs : List ℕ) → ((j : ℕ) → j < length xs → x �
 apart_from x [] differ = tt
 apart_from x (y ∷ xs) differ = (ne_eqb x y (differ 0 (omega arith)), apart_from x xs (λ j lt. differ (suc j) (omega arith)))
 
-distinct_from : (xs : List ℕ) → ((i j : ℕ) → i < j → j < length xs → get_or xs i 0 ≢ get_or xs j 0) → IsDistinct eqb xs
+pub distinct_from : (xs : List ℕ) → ((i j : ℕ) → i < j → j < length xs → get_or xs i 0 ≢ get_or xs j 0) → IsDistinct eqb xs
 unfolding IsDistinct
 distinct_from [] differ = tt
 distinct_from (x ∷ xs) differ = (apart_from x xs (λ j lt. differ 0 (suc j) (omega arith) (omega arith)), distinct_from xs (λ i j lt inside. differ (suc i) (suc j) (omega arith) (omega arith)))

@@ -5,3 +5,4 @@ pub mod Spread
 pub mod Wired
 pub mod Belongs
 pub mod Ways
+pub mod Loaded

@@ -8,7 +8,7 @@ ghost use Rattle.scan_model.specs.Netlist.{pin_at, is_gate};
 ghost use Rattle.scan_model.specs.NetValue.{good_value};
 ghost use Rattle.scan_model.specs.ScanTest.{IsPoint, points_of, point_at};
 ghost use Rattle.scan_model.specs.Universe.{universe};
-ghost use Rattle.scan_model.specs.Masks.{IsLogic, place_is_point};
+ghost use Rattle.scan_model.specs.Masks.{place_is_point};
 ghost use Rattle.scan_model.specs.Suspect.{is_cell, is_output};
 ghost use Rattle.packed_sim.specs.Ways.{IsGateOfPin};
 ghost use Rattle.packed_sim.specs.Belongs.{BelongsTo, IsScratchIn, IsScratchOf, good_at, now_at, observed_at, captures, cone_gates, AreFails};
@@ -103,7 +103,13 @@ impl PackedGood {
     }
 
     /// The patterns of a word that capture and in which a net differs.
-    fn difference_word(&self, parts: &Parts, scratch: &Scratch, word: u32, net: u32) -> u64
+    pub(crate) fn difference_word(
+        &self,
+        parts: &Parts,
+        scratch: &Scratch,
+        word: u32,
+        net: u32,
+    ) -> u64
         requires good { BelongsTo parts.now self.now }
         requires scratch { IsScratchIn self.now scratch.now }
         requires word { 64 * word < length parts.now.patterns }
@@ -271,7 +277,6 @@ impl PackedGood {
         requires good { BelongsTo parts.now self.now }
         requires scratch { IsScratchOf self.now scratch.old }
         requires fault { Contains (universe parts.now) fault.now }
-        requires logic { IsLogic fault.now }
         requires word { 64 * word < length parts.now.patterns }
         requires out { length out.old ≡ length (points_of parts.now) }
         ensures fails { AreFails parts.now fault.now word out.new }
@@ -303,13 +308,20 @@ impl PackedGood {
                 out,
                 steps,
             ),
-            Fault::Cell { .. } => unreachable!(),
+            Fault::Cell { chain, pos, kind } => self.cell_fails(
+                parts,
+                scratch,
+                (chain, pos, kind),
+                word,
+                out,
+                steps,
+            ),
         }
     }
 
-    /// The fails that a logic fault predicts in the 64 patterns of a word: bit i of the word of point k is set where
+    /// The fails that a fault predicts in the 64 patterns of a word: bit i of the word of point k is set where
     /// pattern 64 * word + i is there and the fault predicts a fail in it at the point. A step is one evaluation of a gate.
-    pub fn logic_fails_of<L: Ledger>(
+    pub fn fails_of<L: Ledger>(
         &self,
         parts: &Parts,
         scratch: &mut Scratch,
@@ -321,7 +333,6 @@ impl PackedGood {
         requires good { BelongsTo parts.now self.now }
         requires scratch { IsScratchOf self.now scratch.old }
         requires fault { Contains (universe parts.now) fault.now }
-        requires logic { IsLogic fault.now }
         requires word { 64 * word < length parts.now.patterns }
         requires out { length out.old ≡ length (points_of parts.now) }
         ensures fails { AreFails parts.now fault.now word out.new }

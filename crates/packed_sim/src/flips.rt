@@ -1,4 +1,5 @@
-ghost use Rattle.std.specs.Prelude.{◌≡◌, ℕ, ◌+◌, ◌<◌, ◌≤◌, [], ◌∷◌, ◌&&◌, true, length, slice_index_or};
+ghost use Rattle.std.specs.Prelude.{◌≡◌, ℕ, ◌+◌, ◌<◌, ◌≤◌, [], ◌∷◌, ◌&&◌, ◌↔◌, true, Contains, IsTrue, nat_eq, length, slice_index_or};
+ghost use Rattle.std.specs.List.{IsDistinct};
 ghost use Rattle.scan_model.specs.Values.{are_opposite};
 ghost use Rattle.scan_model.specs.ScanTest.{points_of};
 ghost use Rattle.scan_model.specs.NetValue.{values_of, source_of};
@@ -10,7 +11,7 @@ ghost use Rattle.lane_rows.specs.Planes.{held};
 ghost use Rattle.lane_rows.specs.GoodRows.{pattern_of};
 ghost use Rattle.packed_sim.specs.Rows.{no_row};
 ghost use Rattle.packed_sim.specs.Spread.{AreApart, lane_now};
-ghost use Rattle.packed_sim.specs.Belongs.{BelongsTo, IsScratchIn, IsScratchOf, block_at, good_at, now_at, observed_at, captures, gates_behind};
+ghost use Rattle.packed_sim.specs.Belongs.{BelongsTo, IsScratchIn, IsScratchOf, block_at, good_at, now_at, observed_at, captures, has_own_row, gates_behind};
 
 use crate::good::PackedGood;
 use crate::scratch::Scratch;
@@ -19,6 +20,14 @@ use scan_model::{Parts, Steps};
 use std::sync::ledger::Ledger;
 
 impl Scratch {
+    /// The nets that have rows of their own, each once.
+    pub fn nets(&self) -> &[u32]
+        ensures all { (n : ℕ) → Contains result.now n ↔ IsTrue (has_own_row self.now n) }
+        ensures differ { IsDistinct nat_eq result.now }
+    {
+        self.overlay.nets()
+    }
+
     /// The lanes in which a net has the opposite of its row in the block.
     fn opposite(&self, good: &[Packed], net: u32) -> Row
         requires good { length good.now ≡ length self.now.overlay }

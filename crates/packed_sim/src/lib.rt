@@ -1,6 +1,8 @@
 //! Spreading a change through a circuit, 512 patterns at a time, and the fails that each fault predicts.
 #![tactic(auto)]
 
+mod cell_fails;
+mod chains;
 mod changed;
 mod fails;
 mod flips;

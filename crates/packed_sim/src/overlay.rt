@@ -1,4 +1,5 @@
-ghost use Rattle.std.specs.Prelude.{◌≡◌, ◌≢◌, ◌↔◌, ℕ, ◌<◌, ◌^◌, Some, None, Contains, length, All, IfOk, slice_set, slice_index_or};
+ghost use Rattle.std.specs.Prelude.{◌≡◌, ◌≢◌, ◌↔◌, ℕ, ◌<◌, ◌^◌, Some, None, Contains, length, nat_eq, All, IfOk, slice_set, slice_index_or};
+ghost use Rattle.std.specs.List.{IsDistinct};
 ghost use Rattle.packed_sim.specs.Rows.{IsClean, row_now, forgotten};
 
 use lane_rows::Packed;
@@ -68,7 +69,8 @@ impl Overlay {
 
     /// The nets that have a row of their own.
     pub fn nets(&self) -> &[u32]
-        ensures { (n : ℕ) → Contains result.now n ↔ (slice_index_or self.now n None ≢ None) }
+        ensures all { (n : ℕ) → Contains result.now n ↔ (slice_index_or self.now n None ≢ None) }
+        ensures differ { IsDistinct nat_eq result.now }
     {
         &self.nets
     }

@@ -11,3 +11,6 @@ returns-in-Branch-clause-fails g c = subst (λ (f : Fault). AreFails c.args.part
 
 pub returns-in-Bridge-clause-fails : goal.returns-in-Bridge-clause-fails
 returns-in-Bridge-clause-fails g c = subst (λ (f : Fault). AreFails c.args.parts.now f c.args.word c.bridge_fails.new.out) (sym c.in-Bridge.is) c.bridge_fails.ensures.fails
+
+pub returns-in-Cell-clause-fails : goal.returns-in-Cell-clause-fails
+returns-in-Cell-clause-fails g c = subst (λ (f : Fault). AreFails c.args.parts.now f c.args.word c.cell_fails.new.out) (sym c.in-Cell.is) c.cell_fails.ensures.fails
