@@ -1,0 +1,3 @@
+mod designs;
+mod fails;
+mod plain;
