@@ -1,0 +1,6 @@
+use Rattle.back_trace.specs.Traces.{observes}
+use Rattle.back_trace.specs.Keys.{AreKeys}
+use Rattle.back_trace.proofs.keys.observed_keys.Given as goal
+
+abbrev pub invariant-loop-k : goal.invariant-loop-k
+invariant-loop-k l = AreKeys l.parts (observes l.parts) l.k l.keys.items

@@ -1,0 +1,49 @@
+-- The failing bits of a block of 512 patterns, as a row of lanes for each point, and what can explain them.
+use Rattle.std.specs.Prelude.{◌≡◌, ℕ, ◌+◌, ◌*◌, ◌<◌, List, [], length, Bool, true, ◌&&◌, nat_lt, slice_index_or}
+use Rattle.std.specs.List.{range_with_len, list_any}
+use Rattle.scan_model.specs.declared.values.Tri.{Tri}
+use Rattle.scan_model.specs.declared.parts.Point.{Point}
+use Rattle.scan_model.specs.declared.fault.Fault.{Fault}
+use Rattle.scan_model.specs.declared.logs.LogFacts.{LogFacts}
+use Rattle.scan_model.specs.ChainShift.{value_at}
+use Rattle.scan_model.specs.ScanTest.{ScanTest, pattern_at, points_of, point_at}
+use Rattle.scan_model.specs.Coverage.{bit_of}
+use Rattle.scan_model.specs.Classes.{class, class_of, is_failing}
+use Rattle.scan_model.specs.Suspect.{can_explain}
+use Rattle.lane_rows.specs.Lanes.{lane}
+use Rattle.lane_rows.specs.GoodRows.{pattern_of}
+
+-- the bit of pattern w at a point is there and fails, where these are the expected values of so many patterns
+abbrev pub fails_among : ℕ → List LogFacts → List (List Tri) → ℕ → ℕ → Bool
+fails_among patterns logs expected w k = nat_lt w patterns && is_failing (class_of logs (value_at (slice_index_or expected w []) k) (bit_of w k))
+
+-- the same of a test
+abbrev pub fails_in : ScanTest → List LogFacts → ℕ → ℕ → Bool
+fails_in t logs w k = nat_lt w (length t.patterns) && is_failing (class t logs (bit_of w k))
+
+-- lane j of the row of point k
+abbrev pub fails_at : List (List ℕ) → ℕ → ℕ → Bool
+fails_at rows j k = lane (slice_index_or rows k []) j
+
+-- the rows have the failing bits of block b
+pub record AreFailRows (t : ScanTest) (logs : List LogFacts) (b : ℕ) (rows : List (List ℕ)) : Type 0 where
+  pub len : length rows ≡ length (points_of t)
+  pub fails : (j k : ℕ) → j < 512 → k < length (points_of t) → fails_at rows j k ≡ fails_in t logs (pattern_of b j) k
+
+-- no lane past the last pattern fails
+pub record IsWithin (t : ScanTest) (b : ℕ) (rows : List (List ℕ)) : Type 0 where
+  pub len : length rows ≡ length (points_of t)
+  pub pattern : (j k : ℕ) → j < 512 → k < length (points_of t) → fails_at rows j k ≡ true → pattern_of b j < length t.patterns
+
+-- in lane j a bit fails at a point that passes a test
+abbrev pub any_fail : ScanTest → List (List ℕ) → ℕ → (Point → Bool) → Bool
+any_fail t rows j passes = list_any (λ k. fails_at rows j k && passes (point_at t k)) (range_with_len 0 (length (points_of t)))
+
+-- in lane j of block b the fault can explain a failing bit
+abbrev pub explains_in : ScanTest → Fault → ℕ → List (List ℕ) → ℕ → Bool
+explains_in t f b rows j = any_fail t rows j (can_explain t f (pattern_at t (pattern_of b j)).kind (pattern_of b j))
+
+-- the answer tells whether a lane passes
+pub record Tells (answer : Bool) (passes : ℕ → Bool) : Type 0 where
+  pub found : answer ≡ true → (j : ℕ) × (j < 512) × (passes j ≡ true)
+  pub all : (j : ℕ) → j < 512 → passes j ≡ true → answer ≡ true

@@ -1,0 +1,71 @@
+ghost use Rattle.std.specs.Prelude.{◌≡◌, ℕ, ◌<◌, length, IfOk};
+ghost use Rattle.scan_model.specs.declared.parts.Point.TheVariants as variant;
+ghost use Rattle.scan_model.specs.Netlist.{driver_of};
+ghost use Rattle.scan_model.specs.ScanTest.{IsPoint, IsFlop, points_of};
+ghost use Rattle.scan_model.specs.Loads.{cell};
+ghost use Rattle.scan_model.specs.Suspect as reach;
+ghost use Rattle.back_trace.specs.Keys.{is_key, IsKeyBelow, AreKeys};
+ghost use Rattle.back_trace.specs.Traces.{observes};
+
+use scan_model::{NoMemory, Parts, Point};
+use std::alloc::Global;
+
+/// The net that a point observes.
+fn observed_net(parts: &Parts, point: Point) -> u32
+    requires { IsPoint parts.now point }
+    ensures net { result ≡ reach.observed_net parts.now point }
+    ensures below { result < length parts.now.netlist.nets }
+{
+    match point {
+        Point::Output { place } => parts.circuit().outputs().as_slice()[place as usize],
+        Point::Cell { chain, pos } => {
+            let cell = cell_net(parts, chain, pos);
+            parts.circuit().read_at(cell, 0)
+        }
+    }
+}
+
+/// The net of a cell.
+fn cell_net(parts: &Parts, chain: u32, pos: u32) -> u32
+    requires { IsPoint parts.now (variant.Cell chain pos) }
+    ensures net { result ≡ cell parts.now chain pos }
+    ensures flop { (result < length parts.now.netlist.nets) × IsFlop (driver_of parts.now.netlist result) }
+{
+    parts.chains().as_slice()[chain as usize].cells.as_slice()[pos as usize]
+}
+
+/// The net of the cell that a point is, if it is one.
+fn own_net(parts: &Parts, point: Point) -> Option<u32>
+    requires { IsPoint parts.now point }
+    ensures key { (n : ℕ) → is_key result n ≡ reach.is_cell parts.now n point }
+    ensures below { IsKeyBelow (length parts.now.netlist.nets) result }
+{
+    match point {
+        Point::Output { .. } => None,
+        Point::Cell { chain, pos } => Some(cell_net(parts, chain, pos)),
+    }
+}
+
+/// The net that each point observes.
+pub(crate) fn observed_keys(alloc: Global, parts: &Parts) -> Result<Vec<Option<u32>>, NoMemory>
+    ensures { IfOk result (λ keys. AreKeys parts.now (observes parts.now) (length (points_of parts.now)) keys.items) }
+{
+    let points = parts.points().as_slice();
+    let mut keys = Vec::new(alloc);
+    for k in 0..points.len() {
+        keys.push(Some(observed_net(parts, points[k])))?;
+    }
+    Ok(keys)
+}
+
+/// The net of each point that is a cell.
+pub(crate) fn cell_keys(alloc: Global, parts: &Parts) -> Result<Vec<Option<u32>>, NoMemory>
+    ensures { IfOk result (λ keys. AreKeys parts.now (reach.is_cell parts.now) (length (points_of parts.now)) keys.items) }
+{
+    let points = parts.points().as_slice();
+    let mut keys = Vec::new(alloc);
+    for k in 0..points.len() {
+        keys.push(own_net(parts, points[k]))?;
+    }
+    Ok(keys)
+}

@@ -1,0 +1,12 @@
+//! Which faults can explain a failing bit, traced back from the failing bits over the fault-free values.
+#![tactic(auto)]
+
+mod chains;
+mod explain;
+mod fails;
+mod keys;
+mod reach;
+mod trace;
+mod tracing;
+
+pub use tracing::{suspects, suspects_over};

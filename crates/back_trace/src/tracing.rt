@@ -1,0 +1,170 @@
+ghost use Rattle.std.specs.Prelude.{◌≡◌, ℕ, ◌<◌, List, length, filter, Some, slice_get, Contains, All, IfOk, OnOk};
+ghost use Rattle.std.specs.List.{range_with_len};
+ghost use Rattle.scan_model.specs.declared.fault.Fault.{Fault};
+ghost use Rattle.scan_model.specs.declared.logs.LogFacts.{LogFacts};
+ghost use Rattle.scan_model.specs.Marks.{is_marked};
+ghost use Rattle.scan_model.specs.ScanTest.{points_of, HasSite};
+ghost use Rattle.scan_model.specs.Response.{expected_rows};
+ghost use Rattle.scan_model.specs.Universe as listed;
+ghost use Rattle.scan_model.specs.MatchCounts.{counts_of};
+ghost use Rattle.scan_model.specs.Suspect as definition;
+ghost use Rattle.log_join.specs.Joining.{StandsFor, IsJoinedOf};
+ghost use Rattle.lane_rows.specs.GoodRows.{AreBlockRows, AreGoodRows};
+ghost use Rattle.back_trace.specs.Fails.{IsWithin};
+ghost use Rattle.back_trace.specs.Keys.{AreKeys};
+ghost use Rattle.back_trace.specs.Traces.{observes, IsTraceOf, AreMarked};
+
+use crate::chains::{firsts, lasts};
+use crate::explain::is_explained;
+use crate::fails::fail_rows;
+use crate::keys::{cell_keys, observed_keys};
+use crate::reach::{gathered, spread_back};
+use crate::trace::Trace;
+use fault_universe::{universe, universe_len};
+use lane_rows::{Block, GoodRows, Row};
+use log_join::Joined;
+use scan_model::{Expected, Fault, NoMemory, Parts, Rows};
+use std::alloc::Global;
+
+/// Traces the failing bits of a block back.
+fn trace_back(
+    alloc: Global,
+    parts: &Parts,
+    block: &Block,
+    fails: Rows<Row>,
+    observed: &[Option<u32>],
+    own: &[Option<u32>],
+) -> Result<Trace, NoMemory>
+    requires fails { length fails ≡ length (points_of parts.now) }
+    requires observed { AreKeys parts.now (observes parts.now) (length (points_of parts.now)) observed.now }
+    requires own { AreKeys parts.now (definition.is_cell parts.now) (length (points_of parts.now)) own.now }
+    ensures trace { IfOk result (IsTraceOf parts.now block.now.capture block.now.shift) }
+    ensures fails { IfOk result (λ trace. trace.fails ≡ fails) }
+{
+    let nets = parts.circuit().nets().len();
+    let points = fails.as_slice();
+    let mut reach = gathered(alloc, nets, points, observed, block.capture)?;
+    spread_back(parts.circuit(), &mut reach);
+    let cells = gathered(alloc, nets, points, own, block.capture)?;
+    let firsts = firsts(alloc, parts, points, block.shift)?;
+    let lasts = lasts(alloc, parts, &reach)?;
+    Ok(Trace {
+        fails,
+        reach: Rows::from_vec(reach),
+        cells: Rows::from_vec(cells),
+        firsts,
+        lasts,
+    })
+}
+
+/// Marks the faults that explain a failing bit of the block.
+fn mark_explained(marks: &mut [bool], faults: &[Fault], parts: &Parts, block: &Block, trace: &Trace)
+    requires trace { IsTraceOf parts.now block.now.capture block.now.shift trace.now }
+    requires fails { length trace.now.fails ≡ length (points_of parts.now) }
+    requires values { length block.now.values ≡ length parts.now.netlist.nets }
+    requires sites { All (HasSite parts.now) faults.now }
+    requires marks { length marks.old ≡ length faults.now }
+    ensures { (b : ℕ) → AreBlockRows parts.now b block.now → IsWithin parts.now b trace.now.fails → AreMarked parts.now b trace.now.fails faults.now (length faults.now) marks.old marks.new }
+{
+    for i in 0..faults.len() {
+        if !marks[i] {
+            marks[i] = is_explained(parts, block, trace, faults[i]);
+        }
+    }
+}
+
+/// Traces the failing bits of a block back, and marks the faults that explain one of them.
+fn mark_block(
+    alloc: Global,
+    parts: &Parts,
+    block: &Block,
+    fails: Rows<Row>,
+    observed: &[Option<u32>],
+    own: &[Option<u32>],
+    faults: &[Fault],
+    marks: &mut [bool],
+) -> Result<(), NoMemory>
+    requires fails { length fails ≡ length (points_of parts.now) }
+    requires observed { AreKeys parts.now (observes parts.now) (length (points_of parts.now)) observed.now }
+    requires own { AreKeys parts.now (definition.is_cell parts.now) (length (points_of parts.now)) own.now }
+    requires values { length block.now.values ≡ length parts.now.netlist.nets }
+    requires sites { All (HasSite parts.now) faults.now }
+    requires marks { length marks.old ≡ length faults.now }
+    ensures { OnOk result ((b : ℕ) → AreBlockRows parts.now b block.now → IsWithin parts.now b fails → AreMarked parts.now b fails faults.now (length faults.now) marks.old marks.new) }
+{
+    let trace = trace_back(alloc, parts, block, fails, observed, own)?;
+    mark_explained(marks, faults, parts, block, &trace);
+    Ok(())
+}
+
+/// The numbers of the marks that are set.
+fn marked_places(alloc: Global, marks: &[bool]) -> Result<Rows<u32>, NoMemory>
+    requires { length marks.now < 4294967296 }
+    ensures { IfOk result (λ places. places ≡ filter (is_marked marks.now) (range_with_len 0 (length marks.now))) }
+{
+    let mut places = Rows::new(alloc);
+    for place in 0..marks.len() {
+        if marks[place] {
+            places.push(place as u32)?;
+        }
+    }
+    Ok(places)
+}
+
+/// The places of the faults that can explain a failing bit, in rising order, judged over fault-free rows that were made
+/// before. The time is in proportion to the design, for each 512 patterns.
+pub fn suspects_over(
+    alloc: Global,
+    parts: &Parts,
+    good: &GoodRows,
+    expected: &Expected,
+    joined: &Joined,
+) -> Result<Rows<u32>, NoMemory>
+    requires good { AreGoodRows parts.now good.now }
+    requires expected { expected.now ≡ expected_rows parts.now }
+    requires joined { IsJoinedOf (length parts.now.patterns) (length (points_of parts.now)) joined.now }
+    ensures suspects { (logs : List LogFacts) → StandsFor logs joined.now → IfOk result (λ places. places ≡ definition.suspects parts.now logs) }
+    ensures outside { (logs : List LogFacts) → StandsFor logs joined.now
+        → IfOk result (λ places. (k : ℕ) (f : Fault) → slice_get (listed.universe parts.now) k ≡ Some f → ¬ (Contains places k) → (counts_of parts.now logs f).tfsf ≡ 0) }
+{
+    let _order = parts.circuit().order();
+    let faults = universe(alloc, parts)?;
+    let observed = observed_keys(alloc, parts)?;
+    let own = cell_keys(alloc, parts)?;
+    let patterns = parts.patterns().len() as u32;
+    let points = parts.points().len() as u32;
+    let mut marks = vec![in alloc; false; universe_len(parts) as usize]?;
+    let blocks = good.blocks();
+    for b in 0..blocks.len() {
+        let fails = fail_rows(alloc, expected, joined, patterns, b as u32, points)?;
+        mark_block(
+            alloc,
+            parts,
+            &blocks[b],
+            fails,
+            &observed,
+            &own,
+            faults.as_slice(),
+            &mut marks,
+        )?;
+    }
+    marked_places(alloc, &marks)
+}
+
+/// The places of the faults that can explain a failing bit, in rising order: of the logic, where a flipped site reaches one
+/// in a pattern that captures; of a chain, by where its bits fail and what its cells reach. The only error is want of memory.
+pub fn suspects(
+    alloc: Global,
+    parts: &Parts,
+    expected: &Expected,
+    joined: &Joined,
+) -> Result<Rows<u32>, NoMemory>
+    requires expected { expected.now ≡ expected_rows parts.now }
+    requires joined { IsJoinedOf (length parts.now.patterns) (length (points_of parts.now)) joined.now }
+    ensures suspects { (logs : List LogFacts) → StandsFor logs joined.now → IfOk result (λ places. places ≡ definition.suspects parts.now logs) }
+    ensures outside { (logs : List LogFacts) → StandsFor logs joined.now
+        → IfOk result (λ places. (k : ℕ) (f : Fault) → slice_get (listed.universe parts.now) k ≡ Some f → ¬ (Contains places k) → (counts_of parts.now logs f).tfsf ≡ 0) }
+{
+    let good = GoodRows::make(alloc, parts)?;
+    suspects_over(alloc, parts, &good, expected, joined)
+}
