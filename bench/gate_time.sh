@@ -1,7 +1,7 @@
 #!/bin/sh
 # Runs `rt ci --anew` at the top of the repository, with the words of this script after it, and prints where its processor
-# time went: for each crate the seconds of its proof, of its tests and of its must-fail edits, with their number, and the
-# whole in minutes. The provers are looked at once a second in the process table, so each counts up to a second too little;
+# time went: for each crate the seconds of its proof, of its tests and of its must-fail edits, with the number of checks that
+# the edits took (one more where the crate is checked once for all of them), and the whole in minutes. The provers are looked at once a second in the process table, so each counts up to a second too little;
 # what no prover took (compilers, programs, tests that run) stands as the rest. The status is that of the gate.
 top=$(CDPATH='' cd -- "$(dirname -- "$0")/.." && pwd) || exit 1
 cd "$top" || exit 1
@@ -23,14 +23,15 @@ def words_of(pid):
         return words.read().decode(errors='replace').split('\0')
 
 
-def kind_of(pid, words):
-    """The crate that a prover works on, and what for."""
+def work_of(pid, words):
+    """The crate that a prover works on, what for, and in which folder."""
     if os.path.basename(words[0]) != 'rattle' or '--crate-name' not in words:
         return None
     crate = words[words.index('--crate-name') + 1]
-    if '/rt-edit' in os.readlink(f'/proc/{pid}/cwd'):
-        return crate, 'edits'
-    return crate, 'tests' if '--test' in words else 'proof'
+    folder = os.readlink(f'/proc/{pid}/cwd')
+    if '/rt-edit' in folder:
+        return crate, 'edits', folder
+    return crate, 'tests' if '--test' in words else 'proof', folder
 
 
 def look(root, taken):
@@ -50,19 +51,20 @@ def look(root, taken):
     for pid in below:
         _, start, seconds = processes[pid]
         try:
-            kind = taken[pid, start][0] if (pid, start) in taken else kind_of(pid, words_of(pid))
+            work = taken[pid, start][0] if (pid, start) in taken else work_of(pid, words_of(pid))
         except (OSError, ValueError, IndexError):
             continue
-        if kind:
-            taken[pid, start] = kind, seconds
+        if work:
+            taken[pid, start] = work, seconds
 
 
 def tell(taken, whole, passed):
-    sums, edits = collections.Counter(), collections.Counter()
-    for kind, seconds in taken.values():
-        sums[kind] += seconds
-        edits[kind[0]] += kind[1] == 'edits'
-    print(f'{"crate":16} {"proof":>8} {"tests":>8} {"edits":>8} {"number":>8} {"all":>8}')
+    sums = collections.Counter()
+    for (crate, kind, _), seconds in taken.values():
+        sums[crate, kind] += seconds
+    folders = {work for work, _ in taken.values() if work[1] == 'edits'}
+    edits = collections.Counter(crate for crate, _, _ in folders)
+    print(f'{"crate":16} {"proof":>8} {"tests":>8} {"edits":>8} {"checks":>8} {"all":>8}')
     crates = sorted({crate for crate, _ in sums}, key=lambda crate: -sum(sums[crate, kind] for kind in ('proof', 'tests', 'edits')))
     for crate in crates:
         row = [sums[crate, kind] for kind in ('proof', 'tests', 'edits')]

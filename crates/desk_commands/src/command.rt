@@ -1,7 +1,7 @@
 //! The commands that right words name.
 
 /// The names of the four files of a design.
-#[derive(Clone, Copy, Debug)]
+#[derive(Clone, Copy)]
 pub struct DesignFiles<'a> {
     pub netlist: &'a str,
     pub scan: &'a str,
@@ -19,7 +19,7 @@ pub struct Diagnose<'a> {
 }
 
 /// A design that is made.
-#[derive(Clone, Copy, Debug)]
+#[derive(Clone, Copy)]
 pub struct Demo {
     pub seed: u32,
     /// From 1 to 200.

@@ -15,7 +15,7 @@ use text_parts::{ReadFault, TextFault};
 pub const FILE_LIMIT: u64 = 16_777_216;
 
 /// Why a file doesn't serve.
-#[derive(Clone, Copy, Debug, PartialEq, Eq)]
+#[derive(Clone, Copy, PartialEq, Eq)]
 pub enum Refusal {
     /// No file has the name.
     Absent,
@@ -26,7 +26,7 @@ pub enum Refusal {
 }
 
 /// Why a command stops before its work is done.
-#[derive(Debug, Drop)]
+#[derive(Drop)]
 pub enum Stop<'a> {
     /// The file of that name doesn't serve.
     Refused { name: &'a str, refusal: Refusal },

@@ -20,7 +20,7 @@ use scan_model::{Name, NoMemory};
 use std::alloc::Global;
 
 /// A design that is made: its texts, and the draws that come after them.
-#[derive(Debug, Drop)]
+#[derive(Drop)]
 pub struct Made {
     pub netlist: Name,
     pub scan: Name,

@@ -10,7 +10,7 @@ use std::alloc::Global;
 use text_parts::TextFault;
 
 /// A status, and the bytes that are written before the program ends with it.
-#[derive(Debug, Drop)]
+#[derive(Drop)]
 pub struct Page {
     pub status: u8,
     pub text: Rows<u8>,

@@ -3,7 +3,7 @@ ghost use Rattle.std.specs.Prelude.{◌≡◌, ◌<◌, ◌%◌};
 ghost use Rattle.desk_commands.specs.Draws.{next_state, upper};
 
 /// The state from which numbers are drawn: a linear congruential generator over 64 bits, of which the upper 32 are used.
-#[derive(Debug, Drop)]
+#[derive(Drop)]
 pub struct Draws {
     pub state: u64,
 }

@@ -16,7 +16,7 @@ use text_parts::ReadFault;
 const TRIES: u64 = 256;
 
 /// The place of a fault that predicts a fail, with the log that it predicts.
-#[derive(Debug, Drop)]
+#[derive(Drop)]
 pub struct Injected {
     pub place: u32,
     pub log: ReadLog,
