@@ -1,11 +1,11 @@
 -- What a door has handed out, and what came home.
 use Rattle.std.specs.Prelude.{ℕ, ◌+◌, ◌-◌, List, [], ◌∷◌, ◌++◌, not, ◌==◌}
-use Rattle.desk_outside.specs.declared.door.Served.{Served}
+use Rattle.desk_outside.specs.declared.door.LinkHome.{LinkHome}
 
 -- the bytes that each connection had left when it was handed out, in that order; the connections that are home, in the order of coming home; and how many are out
 pub record DoorTold : Type 0 where
   pub given : List (List ℕ)
-  pub done : List Served
+  pub done : List LinkHome
   pub out : ℕ
 
 -- nothing was handed out

@@ -9,7 +9,7 @@ use scan_model::Name;
 
 /// A connection that is home: the bytes that were sent, and whether it has failed.
 #[derive(Debug, Drop)]
-pub struct Served {
+pub struct LinkHome {
     pub sent: Name,
     pub failed: bool,
 }

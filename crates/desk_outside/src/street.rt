@@ -5,7 +5,7 @@ ghost use Rattle.desk_outside.specs.Doors.{DoorTold, fresh_door};
 ghost use Rattle.desk_outside.specs.Streets.{StreetTold, door_handed, door_home};
 
 use crate::calls::Failed;
-use crate::door::{Door, Served};
+use crate::door::{Door, LinkHome};
 use scan_model::{Name, Rows};
 
 /// A door that is home: the bytes that each of its links had left when it was handed out, the links that came home to
@@ -13,7 +13,7 @@ use scan_model::{Name, Rows};
 #[derive(Debug, Drop)]
 pub struct DoorHome {
     pub given: Rows<Name>,
-    pub done: Rows<Served>,
+    pub done: Rows<LinkHome>,
     pub failed: bool,
 }
 

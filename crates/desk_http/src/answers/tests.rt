@@ -1,6 +1,9 @@
 use super::*;
+use crate::reports::Anew;
+use crate::seat::Alone;
 use crate::status::Status;
-use desk_outside::SureKeeper;
+use book::Book;
+use desk_outside::{OpenGate, SureKeeper};
 use scan_model::Rows;
 use std::test::Fail;
 
@@ -33,8 +36,10 @@ impl Desk {
             &(),
             self.alloc,
             &self.routes,
+            &Alone { by: 3 },
             &mut self.book,
-            3,
+            &mut Anew,
+            &mut OpenGate,
             target,
             method,
             body,

@@ -7,7 +7,7 @@ ghost use Rattle.desk_outside.specs.Schedule.{fresh_calls, fails_next, after_cal
 
 use super::link::MemLink;
 use crate::calls::{Calls, Failed};
-use crate::door::{Door, Served};
+use crate::door::{Door, LinkHome};
 use crate::street::DoorHome;
 use scan_model::{Name, NoMemory, Rows};
 use std::alloc::Global;
@@ -19,7 +19,7 @@ pub struct MemDoor {
     alloc: Global,
     links: Vec<MemLink>,
     given: Vec<Name>,
-    done: Vec<Served>,
+    done: Vec<LinkHome>,
     out: usize,
     calls: Calls,
     ghost room: { vec_len done + out ≤ vec_capacity done },
@@ -31,7 +31,7 @@ fn hand_out(
     alloc: Global,
     links: &mut Vec<MemLink>,
     given: &mut Vec<Name>,
-    done: &mut Vec<Served>,
+    done: &mut Vec<LinkHome>,
     out: usize,
 ) -> Result<MemLink, NoMemory>
     requires unused { All IsUnusedLink links.old.items }
@@ -108,7 +108,7 @@ impl MemDoor {
     }
 
     /// The links that are home, in the order of coming home.
-    pub fn done(&self) -> &[Served]
+    pub fn done(&self) -> &[LinkHome]
         ensures { result.now ≡ (door_told self.now).done }
     {
         &self.done
@@ -213,7 +213,7 @@ impl Door for MemDoor {
         ensures kept { door_links self.new ≡ door_links self.old }
         ensures calls { door_calls self.new ≡ door_calls self.old }
     {
-        let served = link.into_served();
+        let served = link.into_home();
         // The room was taken when a link was handed out.
         let _ = self.done.push(served);
         self.out -= 1;

@@ -9,7 +9,7 @@ ghost use Rattle.desk_outside.specs.Schedule.{fresh_calls, fails_next, after_cal
 
 use super::unread::Unread;
 use crate::calls::{Calls, Failed};
-use crate::door::Served;
+use crate::door::LinkHome;
 use crate::link::{Link, LinkRead};
 use scan_model::{NoMemory, Rows};
 use std::alloc::Global;
@@ -88,12 +88,12 @@ impl MemLink {
     }
 
     // The bytes that were sent, and whether the link has failed.
-    pub(crate) fn into_served(self) -> Served
+    pub(crate) fn into_home(self) -> LinkHome
         ensures sent { result.sent ≡ link_sent self }
         ensures failed { result.failed ≡ not ((link_calls self).faults == 0) }
     {
         let MemLink { sent, calls, .. } = self;
-        Served {
+        LinkHome {
             sent,
             failed: calls.faults != 0,
         }
