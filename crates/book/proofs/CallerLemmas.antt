@@ -3,7 +3,7 @@ use Rattle.std.proofs.Common.{◌≡◌, ◌∙◌, sym, ap, subst, List, ℕ, S
 use Rattle.scan_model.specs.ScanTest.{ScanTest}
 use Rattle.scan_model.specs.LogText.{log_frame, log_reading}
 use Rattle.desk_outside.specs.declared.deed.Deed.{Deed}
-use Rattle.book.specs.Designs.{DesignFacts, IsDesign, ReadLogFacts, StandsOver}
+use Rattle.diagnosis.specs.Designs.{DesignFacts, IsDesign, ReadLogFacts, StandsOver}
 use Rattle.book.specs.Deeds.{design_test, test_of_text, test_of_reading}
 use Rattle.book.specs.Answers.{design_look}
 use Rattle.book.specs.Changes.{StandsIn}

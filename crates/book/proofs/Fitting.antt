@@ -6,13 +6,13 @@ use Rattle.std.proofs.lemmas.Grind.{common_steps}
 use Rattle.desk_outside.specs.declared.deed.Deed.{Deed}
 use Rattle.scan_model.specs.ScanTest.{ScanTest}
 use Rattle.scan_model.specs.Words.{is_tag}
-use Rattle.book.specs.declared.answers.Put.{Put}
-use Rattle.book.specs.declared.answers.Put.TheVariants.{Created, Same}
+use Rattle.diagnosis.specs.declared.put.Put.{Put}
+use Rattle.diagnosis.specs.declared.put.Put.TheVariants.{Created, Same}
 use Rattle.std.proofs.lemmas.List.{length-take, length-map}
 use Rattle.sha2.specs.Sha256.{sha256}
 use Rattle.desk_outside.specs.declared.deed.DeedKind.TheVariants.{Sign}
 use Rattle.scan_model.specs.DieReport.{die_report}
-use Rattle.book.specs.Designs.{DesignFacts, ReadLogFacts, ViewFacts, IsDesign, StandsOver, texts_of, view_report}
+use Rattle.diagnosis.specs.Designs.{DesignFacts, ReadLogFacts, ViewFacts, IsDesign, StandsOver, texts_of, view_report}
 use Rattle.book.specs.Deeds.{design_text, design_test, test_of_text, test_of_reading, die_logs, die_signs, is_signed_by, report_over, report_at}
 use Rattle.book.specs.Legal.{fits, each_fits, is_log_over}
 use Rattle.book.specs.Changes.{StandsIn, IsViewIn}

@@ -8,7 +8,7 @@ use Rattle.std.specs.Cmp.Lexicographic.{bytes_decides}
 use Rattle.std.proofs.lemmas.Bool.Decides.{nat_tests}
 use Rattle.std.proofs.lemmas.Option.{slice_get-map, slice_get_past}
 use Rattle.desk_outside.specs.declared.deed.Deed.{Deed}
-use Rattle.book.specs.Designs.{DesignFacts}
+use Rattle.diagnosis.specs.Designs.{DesignFacts}
 use Rattle.book.specs.Deeds.{Named, designs, design_text, text_if_named}
 use Rattle.book.specs.Kinds.{named}
 use Rattle.book.specs.Finding.{IsFound}

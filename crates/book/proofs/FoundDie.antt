@@ -8,7 +8,7 @@ use Rattle.std.proofs.lemmas.List.Folds.{find_at}
 use Rattle.std.proofs.lemmas.Option.{slice_get_past, slice_get-get_or}
 use Rattle.desk_outside.specs.declared.deed.Deed.{Deed}
 use Rattle.book.specs.declared.sign.Sign.{Sign as SignOff}
-use Rattle.book.specs.Designs.{ReadLogFacts, texts_of}
+use Rattle.diagnosis.specs.Designs.{ReadLogFacts, texts_of}
 use Rattle.book.specs.Deeds.{die_logs, die_signs}
 use Rattle.book.specs.Finding.{IsDieIn}
 use Rattle.book.specs.Dies.{DieFacts, bare_die, is_die, kept_logs, kept_signs, logs_in, signs_in}

@@ -11,8 +11,8 @@ use Rattle.desk_outside.specs.declared.deed.Deed.{Deed}
 use Rattle.desk_outside.specs.declared.keeper.KeepFault.{KeepFault}
 use Rattle.scan_model.specs.Words.{is_tag}
 use Rattle.book.specs.declared.sign.Sign.{Sign as SignOff}
-use Rattle.book.specs.Bundle.{bundle_reading}
-use Rattle.book.specs.Designs.{DesignFacts, ReadLogFacts}
+use Rattle.diagnosis.specs.Bundle.{bundle_reading}
+use Rattle.diagnosis.specs.Designs.{DesignFacts, ReadLogFacts}
 use Rattle.book.specs.Deeds.{design_text}
 use Rattle.book.specs.Legal.{fits}
 use Rattle.book.specs.Kinds.{named, appended, design_deed, log_deed, sign_deed}

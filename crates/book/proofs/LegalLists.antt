@@ -7,7 +7,7 @@ use Rattle.desk_outside.specs.declared.deed.Deed.{Deed}
 use Rattle.desk_outside.specs.declared.deed.DeedKind.{DeedKind}
 use Rattle.desk_outside.specs.declared.deed.DeedKind.TheVariants.{Design, Log, Sign}
 use Rattle.scan_model.specs.ScanTest.{ScanTest}
-use Rattle.book.specs.Bundle.{bundle_reading}
+use Rattle.diagnosis.specs.Bundle.{bundle_reading}
 use Rattle.book.specs.Deeds.{design_text, design_test, test_of_text, test_of_reading}
 use Rattle.book.specs.Legal.{fits, each_fits}
 use Rattle.book.proofs.Longer.{or_else, text-append}

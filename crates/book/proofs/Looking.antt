@@ -14,7 +14,7 @@ use Rattle.desk_outside.specs.declared.deed.Deed.{Deed}
 use Rattle.book.specs.declared.answers.LookFault.{LookFault}
 use Rattle.book.specs.declared.answers.LookFault.TheVariants as look_fault
 use Rattle.book.specs.declared.sign.Sign.{Sign as SignOff}
-use Rattle.book.specs.Designs.{DesignFacts, ReadLogFacts, texts_of}
+use Rattle.diagnosis.specs.Designs.{DesignFacts, ReadLogFacts, texts_of}
 use Rattle.book.specs.Deeds.{design_text, die_logs, die_signs, report_at}
 use Rattle.book.specs.Answers.{known_design, design_look, and_look, up_to, known_die, die_look, sign_numbered, sign_look}
 use Rattle.book.specs.Changes.{Looked, IsViewIn}

@@ -7,8 +7,8 @@ use Rattle.std.specs.Str.{bytes_eq}
 use Rattle.std.proofs.lemmas.Option.{slice_get-get_or}
 use Rattle.desk_outside.specs.declared.deed.Deed.{Deed}
 use Rattle.scan_model.specs.Words.{is_tag}
-use Rattle.book.specs.Bundle.{bundle_reading}
-use Rattle.book.specs.Designs.{DesignFacts}
+use Rattle.diagnosis.specs.Bundle.{bundle_reading}
+use Rattle.diagnosis.specs.Designs.{DesignFacts}
 use Rattle.book.specs.Deeds.{designs, design_text}
 use Rattle.book.specs.Legal.{fits}
 use Rattle.book.specs.Kinds.{named, design_deed}

@@ -12,7 +12,7 @@ use Rattle.desk_outside.specs.declared.deed.Deed.{Deed}
 use Rattle.scan_model.specs.ScanTest.{ScanTest}
 use Rattle.scan_model.specs.Words.{is_tag, has_word}
 use Rattle.book.specs.declared.sign.Sign.{Sign as SignOff}
-use Rattle.book.specs.Designs.{DesignFacts, ReadLogFacts, texts_of}
+use Rattle.diagnosis.specs.Designs.{DesignFacts, ReadLogFacts, texts_of}
 use Rattle.book.specs.Deeds.{design_text, design_test, test_of_text, die_logs, die_signs, report_at, is_signed_by}
 use Rattle.book.specs.Legal.{fits, is_log_over}
 use Rattle.book.specs.Kinds.{named, design_deed, log_deed, sign_deed}

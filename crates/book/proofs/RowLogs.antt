@@ -5,7 +5,7 @@ use Rattle.desk_outside.specs.declared.deed.Deed.{Deed}
 use Rattle.scan_model.specs.ScanTest.{ScanTest}
 use Rattle.scan_model.specs.LogText.{log_frame, log_reading}
 use Rattle.scan_model.specs.Words.{is_tag, has_word}
-use Rattle.book.specs.Designs.{DesignFacts, ReadLogFacts, IsDesign}
+use Rattle.diagnosis.specs.Designs.{DesignFacts, ReadLogFacts, IsDesign}
 use Rattle.book.specs.Deeds.{design_test, test_of_text, test_of_reading, die_logs}
 use Rattle.book.specs.Legal.{is_log_over}
 use Rattle.book.specs.Changes.{StandsIn}

@@ -8,7 +8,7 @@ use Rattle.std.proofs.lemmas.List.Elements.{All-weaker}
 use Rattle.sha2.specs.Sha256.{sha256}
 use Rattle.desk_outside.specs.declared.deed.Deed.{Deed}
 use Rattle.book.specs.declared.sign.Sign.{Sign as SignOff}
-use Rattle.book.specs.Designs.{DesignFacts, ReadLogFacts, ViewFacts, view_report}
+use Rattle.diagnosis.specs.Designs.{DesignFacts, ReadLogFacts, ViewFacts, view_report}
 use Rattle.book.specs.Deeds.{design_text, die_logs, die_signs, report_at}
 use Rattle.book.specs.Legal.{each_fits}
 use Rattle.book.specs.Finding.{IsDieIn}

@@ -12,11 +12,11 @@ use Rattle.std.proofs.lemmas.Map.Keys.{apart_from_distinct, IsDistinct-from_apar
 use Rattle.std.proofs.lemmas.Slice.Eq.{bytes_eq-Decides}
 use Rattle.desk_outside.specs.declared.deed.Deed.{Deed}
 use Rattle.scan_model.specs.Words.{is_tag, has_word}
-use Rattle.book.specs.declared.answers.Put.{Put}
-use Rattle.book.specs.declared.answers.Put.TheVariants.{Created, Same}
+use Rattle.diagnosis.specs.declared.put.Put.{Put}
+use Rattle.diagnosis.specs.declared.put.Put.TheVariants.{Created, Same}
 use Rattle.book.specs.declared.sign.Sign.{Sign as SignOff}
-use Rattle.book.specs.Adding.{Added, with_log}
-use Rattle.book.specs.Designs.{DesignFacts, ReadLogFacts, ViewFacts, IsDesign, IsLogOf, texts_of}
+use Rattle.diagnosis.specs.Adding.{Added, with_log}
+use Rattle.diagnosis.specs.Designs.{DesignFacts, ReadLogFacts, ViewFacts, IsDesign, IsLogOf, texts_of}
 use Rattle.book.specs.Deeds.{design_text, design_test, test_of_text, test_of_reading, die_logs}
 use Rattle.book.specs.Legal.{each_fits}
 use Rattle.book.specs.Finding.{IsLogIn, IsDieIn}

@@ -2,13 +2,13 @@
 use Rattle.std.specs.Prelude.{◌≡◌, ◌≤◌, ℕ, true, List, [], ◌∷◌, ◌++◌, length, take, Option, Some, option_map, Result, Ok, Err, ⊤}
 use Rattle.desk_outside.specs.declared.deed.Deed.{Deed}
 use Rattle.desk_outside.specs.Faults.{Rose}
-use Rattle.book.specs.declared.answers.Put.{Put}
-use Rattle.book.specs.declared.answers.Put.TheVariants.{Created, Same}
+use Rattle.diagnosis.specs.declared.put.Put.{Put}
+use Rattle.diagnosis.specs.declared.put.Put.TheVariants.{Created, Same}
 use Rattle.book.specs.declared.answers.PutFault.{PutFault}
 use Rattle.book.specs.declared.answers.PutFault.TheVariants.{NameTaken, UnknownDesign, DigestDiffers, Full, Failed, NoMemory}
 use Rattle.book.specs.declared.answers.LookFault.{LookFault}
 use Rattle.book.specs.declared.answers.LookFault.TheVariants as look_fault
-use Rattle.book.specs.Designs.{ViewFacts, ReadLogFacts, StandsOver, texts_of}
+use Rattle.diagnosis.specs.Designs.{ViewFacts, ReadLogFacts, StandsOver, texts_of}
 use Rattle.book.specs.Deeds.{design_text, design_test, die_logs}
 use Rattle.book.specs.Legal.{is_legal}
 

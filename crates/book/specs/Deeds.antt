@@ -7,7 +7,7 @@ use Rattle.desk_outside.specs.declared.deed.DeedKind.TheVariants.{Design, Log, S
 use Rattle.scan_model.specs.ScanTest.{ScanTest}
 use Rattle.scan_model.specs.DieReport.{die_report}
 use Rattle.book.specs.declared.sign.Sign.{Sign as SignOff}
-use Rattle.book.specs.Bundle.{bundle_reading}
+use Rattle.diagnosis.specs.Bundle.{bundle_reading}
 
 -- a name with a text
 pub record Named : Type 0 where

@@ -7,7 +7,7 @@ use Rattle.std.specs.declared.alloc.Global.{Global}
 use Rattle.desk_outside.specs.declared.keeper.KeepFault.{KeepFault}
 use Rattle.scan_model.specs.Words.{is_tag}
 use Rattle.book.specs.declared.sign.Sign.{Sign as SignOff}
-use Rattle.book.specs.Designs.{ReadLogFacts}
+use Rattle.diagnosis.specs.Designs.{ReadLogFacts}
 use Rattle.book.specs.Kinds.{appended}
 use Rattle.book.specs.Places.{place_of}
 

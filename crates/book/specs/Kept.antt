@@ -3,7 +3,7 @@ use Rattle.std.specs.Prelude.{◌≡◌, ℕ, true, List, [], map, All, None, So
 use Rattle.desk_outside.specs.declared.deed.Deed.{Deed}
 use Rattle.scan_model.specs.Words.{is_tag}
 use Rattle.book.specs.declared.sign.Sign.{Sign as SignOff}
-use Rattle.book.specs.Designs.{DesignFacts, ReadLogFacts, texts_of}
+use Rattle.diagnosis.specs.Designs.{DesignFacts, ReadLogFacts, texts_of}
 use Rattle.book.specs.Deeds.{designs, design_text, die_logs, die_signs}
 use Rattle.book.specs.Legal.{each_fits}
 use Rattle.book.specs.Kinds.{named}

@@ -7,7 +7,7 @@ use Rattle.desk_outside.specs.declared.deed.Deed.{Deed}
 use Rattle.desk_outside.specs.declared.deed.DeedKind.TheVariants.{Design, Log, Sign}
 use Rattle.desk_outside.specs.declared.keeper.KeepFault.{KeepFault}
 use Rattle.book.specs.declared.sign.Sign.{Sign as SignOff}
-use Rattle.book.specs.Designs.{DesignFacts, ReadLogFacts}
+use Rattle.diagnosis.specs.Designs.{DesignFacts, ReadLogFacts}
 use Rattle.book.specs.Deeds.{Named}
 
 abbrev pub design_deed : ℕ → DesignFacts → Deed

@@ -10,7 +10,7 @@ use Rattle.desk_outside.specs.declared.deed.DeedKind.TheVariants.{Design, Log, S
 use Rattle.scan_model.specs.ScanTest.{ScanTest}
 use Rattle.scan_model.specs.Words.{is_tag, has_word}
 use Rattle.scan_model.specs.LogText.{log_frame, log_reading}
-use Rattle.book.specs.Bundle.{bundle_reading}
+use Rattle.diagnosis.specs.Bundle.{bundle_reading}
 use Rattle.book.specs.Deeds.{design_text, design_test, die_logs, die_signs, report_at, is_signed_by}
 
 -- the text stands for a log of the design and the die, where the design is there

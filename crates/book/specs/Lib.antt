@@ -1,9 +1,3 @@
-pub mod Bundle
-pub mod BundleRest
-pub mod Sections
-pub mod Reading
-pub mod Designs
-pub mod Adding
 pub mod Deeds
 pub mod Legal
 pub mod Answers

@@ -4,7 +4,7 @@ use Rattle.std.specs.Ordering.{nat_cmp}
 use Rattle.std.specs.Cmp.Lexicographic.{slice_cmp}
 use Rattle.std.specs.BTreeMap.{get_by, BTreeMap}
 use Rattle.std.specs.declared.alloc.Global.{Global}
-use Rattle.book.specs.Designs.{DesignFacts}
+use Rattle.diagnosis.specs.Designs.{DesignFacts}
 
 -- the place that is noted for a name
 abbrev pub place_of : BTreeMap (Vec ℕ Global) ℕ → List ℕ → Option ℕ

@@ -5,8 +5,8 @@ use Rattle.std.specs.Str.{bytes_eq}
 use Rattle.sha2.specs.Sha256.{sha256}
 use Rattle.desk_outside.specs.declared.keeper.KeepFault.{KeepFault}
 use Rattle.desk_outside.specs.declared.keeper.KeepFault.TheVariants as keep_fault
-use Rattle.book.specs.declared.answers.Put.{Put}
-use Rattle.book.specs.declared.answers.Put.TheVariants.{Created, Same}
+use Rattle.diagnosis.specs.declared.put.Put.{Put}
+use Rattle.diagnosis.specs.declared.put.Put.TheVariants.{Created, Same}
 use Rattle.book.specs.declared.answers.PutFault.{PutFault}
 use Rattle.book.specs.declared.answers.PutFault.TheVariants as put_fault
 

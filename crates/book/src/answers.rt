@@ -8,16 +8,6 @@ use desk_outside::KeepFault;
 use scan_model::Digest;
 use thiserror::Error;
 
-/// An entry that is in the book now, by its number from 1 among its kind: of designs in the book, of logs or sign-offs of
-/// its die.
-#[derive(Clone, Copy, Debug, PartialEq, Eq)]
-pub enum Put {
-    /// It was created.
-    Created { number: u64 },
-    /// It was there already.
-    Same { number: u64 },
-}
-
 /// Why a change was refused. The book is as before.
 #[derive(Debug, Drop, Error)]
 pub enum PutFault {

@@ -4,16 +4,14 @@ ghost use Rattle.std.specs.List.{IsDistinct};
 ghost use Rattle.std.specs.Str.{bytes_eq};
 ghost use Rattle.std.specs.Arc.{arc_value};
 ghost use Rattle.scan_model.specs.Words.{is_tag};
-ghost use Rattle.book.specs.Designs.{IsLogOf, texts_of};
+ghost use Rattle.diagnosis.specs.Designs.{IsLogOf, texts_of};
 ghost use Rattle.book.specs.Answers.{sign_numbered, up_to};
 ghost use Rattle.book.specs.Changes.{Looked};
 ghost use Rattle.book.specs.Kinds.{arc_values};
 
 use crate::answers::LookFault;
-use crate::design::Design;
-use crate::log::ReadLog;
 use crate::sign::Sign;
-use crate::view::DieView;
+use diagnosis::{Design, DieView, ReadLog};
 use scan_model::{Name, NoMemory};
 use std::alloc::Global;
 use std::sync::Arc;

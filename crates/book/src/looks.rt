@@ -3,7 +3,7 @@ ghost use Rattle.std.specs.Prelude.{◌≡◌, ◌++◌, ℕ, List, Some, Ok, If
 ghost use Rattle.std.specs.Arc.{arc_value};
 ghost use Rattle.sha2.specs.Sha256.{sha256};
 ghost use Rattle.desk_outside.specs.declared.deed.Deed.{Deed};
-ghost use Rattle.book.specs.Designs.{texts_of};
+ghost use Rattle.diagnosis.specs.Designs.{texts_of};
 ghost use Rattle.book.specs.Deeds.{report_at};
 ghost use Rattle.book.specs.Answers.{design_look, die_look, sign_look};
 ghost use Rattle.book.specs.Changes.{Looked, IsViewIn};
@@ -11,11 +11,10 @@ ghost use Rattle.book.specs.Kinds.{text_behind};
 
 use crate::answers::LookFault;
 use crate::book::Book;
-use crate::design::Design;
 use crate::dies::{logs_up_to, sign_of, view_of};
 use crate::sign::Sign;
-use crate::view::DieView;
 use desk_outside::Keeper;
+use diagnosis::{Design, DieView};
 use std::sync::Arc;
 
 impl<K: Keeper> Book<K> {

@@ -12,16 +12,12 @@ ghost use Rattle.book.specs.Changes.{StandsIn};
 ghost use Rattle.book.specs.Kinds.{sign_deed};
 ghost use Rattle.book.specs.Rows.{added_if};
 
-use crate::answers::Put;
 use crate::book::{is_same_digest, put_sign, put_text};
-use crate::checked::check_report;
-use crate::design::{Design, read_bundle};
 use crate::dies::view_of;
 use crate::kept::Kept;
-use crate::log::{ReadLog, log_of};
-use crate::section::BundleFault;
 use crate::sign::Sign;
 use desk_outside::{Deed, DeedKind, KeepFault, Keeper};
+use diagnosis::{BundleFault, Design, Put, ReadLog, check_report, log_of, read_bundle};
 use scan_model::{Digest, NoMemory};
 use std::alloc::Global;
 use std::sync::Arc;
@@ -150,7 +146,7 @@ fn right_digest<R>(
         return Ok(Some(digest));
     }
     let view = view_of(alloc, found.design, die, &logs[..revision as usize])?;
-    Ok(Some(*check_report(rt, alloc, view)?.digest()))
+    Ok(Some(*check_report(rt, alloc, &view)?.digest()))
 }
 
 fn is_signed(

@@ -6,7 +6,7 @@ use Rattle.std.proofs.lemmas.Bool.{ne_eqb}
 use Rattle.desk_outside.specs.Faults.{Rose}
 use Rattle.desk_outside.specs.Doors.{DoorTold, handed, came_home}
 use Rattle.desk_outside.specs.declared.door.LinkHome.{LinkHome}
-use Rattle.desk_http.specs.declared.requests.SessionEnd.{SessionEnd}
+use Rattle.desk_http.specs.declared.sessions.requests.SessionEnd.{SessionEnd}
 use Rattle.desk_http.specs.Seats.{SeatFacts}
 use Rattle.desk_http.specs.Sessions.{text, IsSession}
 use Rattle.desk_http.specs.Serving.{is_unserved, IsServed, AreServed, with_served, Serves}

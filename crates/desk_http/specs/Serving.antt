@@ -2,10 +2,15 @@
 use Rattle.std.specs.Prelude.{◌≡◌, ◌+◌, ℕ, Bool, true, false, if◌then◌else◌, List, [], ◌∷◌, ◌++◌, length, Option, Some}
 use Rattle.desk_outside.specs.declared.door.LinkHome.{LinkHome}
 use Rattle.desk_outside.specs.Doors.{DoorTold}
-use Rattle.desk_http.specs.declared.requests.SessionEnd.{SessionEnd}
-use Rattle.desk_http.specs.declared.requests.SessionEnd.TheVariants.{Closed, Ended, Cut, LinkFault, NoMemory}
-use Rattle.desk_http.specs.Seats.{SeatFacts}
+use Rattle.desk_http.specs.declared.sessions.requests.SessionEnd.{SessionEnd}
+use Rattle.desk_http.specs.declared.sessions.requests.SessionEnd.TheVariants.{Closed, Ended, Cut, LinkFault, NoMemory}
+use Rattle.desk_outside.specs.declared.deed.Deed.{Deed}
+use Rattle.desk_http.specs.Seats.{SeatFacts, Did}
 use Rattle.desk_http.specs.Sessions.{IsSession}
+
+-- what a seat did, whatever it was
+abbrev pub DidSome : SeatFacts → SeatFacts → Type 0
+DidSome old new = (own : List Deed) × (failed : ℕ) × Did own failed old new
 
 abbrev pub is_unserved : SessionEnd → Bool
 is_unserved NoMemory = true

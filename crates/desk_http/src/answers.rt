@@ -1,7 +1,10 @@
 //! What a request is answered over a seat.
+
+pub(crate) mod signoff;
 ghost use Rattle.std.specs.Prelude.{List};
 ghost use Rattle.std.specs.Str.{IsAscii};
 ghost use Rattle.desk_outside.specs.declared.deed.Deed.{Deed};
+ghost use Rattle.report_cache.specs.Truth.{IsTrueFor};
 ghost use Rattle.desk_http.specs.Seats.{IsPrefix};
 ghost use Rattle.desk_http.specs.Resources.{HasTags};
 ghost use Rattle.desk_http.specs.Answering.{IsAnswer, IsAnswerAt, Answered};
@@ -13,28 +16,27 @@ use self::signs::{get_sign, post_sign};
 mod designs;
 mod dies;
 mod signs;
-#[cfg(test)]
-mod tests;
 
-use crate::bodies::Refusal;
-use crate::method::Method;
-use crate::reports::Reports;
-use crate::resource::Resource;
-use crate::response::{Response, Unanswered};
+use crate::reply::bodies::Refusal;
+use crate::head::method::Method;
+use crate::routes::resource::Resource;
+use crate::reply::response::{Response, Unanswered};
 use crate::routes::Routes;
-use crate::seat::SeatAt;
+use crate::sessions::seat::SeatAt;
 use desk_outside::Gate;
+use report_cache::ReportCache;
 use std::alloc::Global;
+use std::thread::Threads;
 
 /// What a request is answered over a seat, at some deeds that begin with those that it had seen. What is done carries its
 /// number. The response takes no memory once it was done.
-pub fn answer<R, D, S: SeatAt<R, D>, C: Reports, G: Gate>(
+pub fn answer<R: Threads + Sync, D, S: SeatAt<R, D>, G: Gate>(
     rt: &R,
     alloc: Global,
     routes: &Routes,
     desk: &D,
     seat: &mut S,
-    cache: &mut C,
+    cache: &mut ReportCache,
     gate: &mut G,
     target: &str,
     method: Method,
@@ -42,9 +44,9 @@ pub fn answer<R, D, S: SeatAt<R, D>, C: Reports, G: Gate>(
 ) -> Result<Response, Unanswered>
     requires ascii { IsAscii target.now }
     requires belongs { S.belongs seat.old desk.now }
-    requires cache { C.is_true cache.old (S.facts seat.old desk.now).seen }
+    requires cache { IsTrueFor cache.old (S.facts seat.old desk.now).seen }
     ensures stays { S.belongs seat.new desk.now }
-    ensures cache { (later : List Deed) → IsPrefix (S.facts seat.new desk.now).seen later → C.is_true cache.old later → C.is_true cache.new later }
+    ensures cache { (later : List Deed) → IsPrefix (S.facts seat.new desk.now).seen later → IsTrueFor cache.old later → IsTrueFor cache.new later }
     ensures answered { let s = S.facts seat.old desk.now in
         Answered (λ deeds answer. IsAnswer s.limit deeds target.now method body.now answer) result s (S.facts seat.new desk.now) }
 {
@@ -58,12 +60,12 @@ pub fn answer<R, D, S: SeatAt<R, D>, C: Reports, G: Gate>(
 }
 
 // What it is answered at a resource that has the method.
-fn answer_at<R, D, S: SeatAt<R, D>, C: Reports, G: Gate>(
+fn answer_at<R: Threads + Sync, D, S: SeatAt<R, D>, G: Gate>(
     rt: &R,
     alloc: Global,
     desk: &D,
     seat: &mut S,
-    cache: &mut C,
+    cache: &mut ReportCache,
     gate: &mut G,
     resource: &Resource,
     method: Method,
@@ -71,9 +73,9 @@ fn answer_at<R, D, S: SeatAt<R, D>, C: Reports, G: Gate>(
 ) -> Result<Response, Unanswered>
     requires tags { HasTags resource.now }
     requires belongs { S.belongs seat.old desk.now }
-    requires cache { C.is_true cache.old (S.facts seat.old desk.now).seen }
+    requires cache { IsTrueFor cache.old (S.facts seat.old desk.now).seen }
     ensures stays { S.belongs seat.new desk.now }
-    ensures cache { (later : List Deed) → IsPrefix (S.facts seat.new desk.now).seen later → C.is_true cache.old later → C.is_true cache.new later }
+    ensures cache { (later : List Deed) → IsPrefix (S.facts seat.new desk.now).seen later → IsTrueFor cache.old later → IsTrueFor cache.new later }
     ensures answered { let s = S.facts seat.old desk.now in
         Answered (λ deeds answer. IsAnswerAt s.limit deeds resource.now method body.now answer) result s (S.facts seat.new desk.now) }
 {
@@ -114,7 +116,7 @@ fn answer_at<R, D, S: SeatAt<R, D>, C: Reports, G: Gate>(
         }
         Resource::Signs { design, die } => {
             let (design, die) = (design.as_slice(), die.as_slice());
-            post_sign(rt, alloc, desk, seat, gate, design, die, body)
+            post_sign(rt, alloc, desk, seat, cache, gate, design, die, body)
         }
         Resource::Sign {
             design,

@@ -1,11 +1,16 @@
 //! Replies.
+
+pub(crate) mod bodies;
+pub(crate) mod response;
+pub(crate) mod short;
+pub(crate) mod status;
 ghost use Rattle.std.specs.Prelude.{◌≡◌, ◌+◌, ◌≤◌, ◌++◌, true, length, codes};
-ghost use Rattle.desk_http.specs.declared.status.Status.TheVariants as status;
+ghost use Rattle.desk_http.specs.declared.reply.status.Status.TheVariants as status;
 ghost use Rattle.desk_http.specs.Replies.{status_line, length_line, allow_line, connection_line, reply_head, reply_text, interim_text};
 
-use crate::methods::Methods;
-use crate::short::Short;
-use crate::status::Status;
+use crate::routes::methods::Methods;
+use crate::reply::short::Short;
+use crate::reply::status::Status;
 
 /// A final reply (RFC 9112, section 4), but for the bytes of its body.
 #[derive(Clone, Copy, Debug)]

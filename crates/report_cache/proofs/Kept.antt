@@ -13,7 +13,7 @@ use Rattle.desk_outside.specs.declared.deed.Deed.{Deed}
 use Rattle.scan_model.specs.ScanTest.{ScanTest}
 use Rattle.scan_model.specs.DieReport.{logs_of_texts}
 use Rattle.scan_model.specs.ReportText.{report_lines}
-use Rattle.book.specs.Designs.{ViewFacts, ReadLogFacts, IsView, view_lines}
+use Rattle.diagnosis.specs.Designs.{ViewFacts, ReadLogFacts, IsView, view_lines}
 use Rattle.book.specs.Deeds.{design_test, test_of_text, test_of_reading, die_logs}
 use Rattle.book.specs.Changes.{IsViewIn}
 use Rattle.report_cache.specs.declared.key.ReportKey.{ReportKey}

@@ -7,7 +7,7 @@ use Rattle.scan_model.specs.ScanTest.{ScanTest}
 use Rattle.scan_model.specs.DieReport.{logs_of_texts}
 use Rattle.scan_model.specs.ReportText.{report_lines}
 use Rattle.desk_outside.specs.declared.deed.Deed.{Deed}
-use Rattle.book.specs.Designs.{ViewFacts}
+use Rattle.diagnosis.specs.Designs.{ViewFacts}
 use Rattle.book.specs.Deeds.{design_test, die_logs}
 use Rattle.report_cache.specs.declared.key.ReportKey.{ReportKey}
 

@@ -2,13 +2,13 @@
 ghost use Rattle.std.specs.Prelude.{◌≡◌, ◌≤◌, ◌++◌, [], List, IfOk, IfSome};
 ghost use Rattle.std.specs.Arc.{arc_value};
 ghost use Rattle.desk_outside.specs.declared.deed.Deed.{Deed};
-ghost use Rattle.book.specs.Designs.{view_lines};
+ghost use Rattle.diagnosis.specs.Designs.{view_lines};
 ghost use Rattle.book.specs.Changes.{IsViewIn};
 ghost use Rattle.report_cache.specs.Truth.{IsTrueFor, IsReportIn, report_for};
 
 use crate::key::ReportKey;
 use crate::whole::WholeReport;
-use book::{DieView, make_report};
+use diagnosis::{DieView, make_report};
 use lru::LruCache;
 use scan_model::NoMemory;
 use std::alloc::Global;

@@ -2,7 +2,7 @@
 ghost use Rattle.std.specs.Prelude.{IfOk};
 ghost use Rattle.report_cache.specs.Truth.{IsKeyOf};
 
-use book::DieView;
+use diagnosis::DieView;
 use scan_model::{Name, NoMemory};
 use std::alloc::Global;
 

@@ -4,7 +4,7 @@ use Rattle.scan_model.specs.declared.logs.LogFacts.{LogFacts}
 use Rattle.scan_model.specs.ScanTest.{ScanTest}
 use Rattle.scan_model.specs.LogText.{log_frame, log_reading}
 use Rattle.diag_report.specs.PredictedLog.{HasWordNames, fault_of, predicted_log, predicted_facts}
-use Rattle.book.specs.Designs.{DesignFacts, ReadLogFacts}
+use Rattle.diagnosis.specs.Designs.{DesignFacts, ReadLogFacts}
 use Rattle.scandesk.specs.Demo.{demo_name}
 use Rattle.scandesk.specs.Injected.{IsOwnLog}
 

@@ -3,11 +3,11 @@ use Rattle.std.proofs.Common.{◌≡◌, ℕ, Result, Ok, Err, sym, ap, ◌∙�
 use Rattle.std.specs.Prelude.{IfOk}
 use Rattle.std.proofs.lemmas.Result.{IfOk-weaker}
 use Rattle.scan_model.specs.ScanTest.{ScanTest}
-use Rattle.book.specs.declared.section.Section.{Section}
-use Rattle.book.specs.declared.section.BundleFault.{BundleFault}
-use Rattle.book.specs.declared.section.BundleFault.TheVariants.{Text, NoMemory}
-use Rattle.book.specs.Bundle.{FourTexts, texts_reading}
-use Rattle.book.specs.Reading.{RefusedBy}
+use Rattle.diagnosis.specs.declared.section.Section.{Section}
+use Rattle.diagnosis.specs.declared.section.BundleFault.{BundleFault}
+use Rattle.diagnosis.specs.declared.section.BundleFault.TheVariants.{Text, NoMemory}
+use Rattle.diagnosis.specs.Bundle.{FourTexts, texts_reading}
+use Rattle.diagnosis.specs.Reading.{RefusedBy}
 use Rattle.scandesk.specs.declared.page.Page.{Page}
 use Rattle.scandesk.specs.Work.{Output}
 use Rattle.scandesk.specs.Made.{made_texts}

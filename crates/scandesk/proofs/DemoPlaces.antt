@@ -5,7 +5,7 @@ use Rattle.std.proofs.lemmas.Bool.{ne_eqb}
 use Rattle.std.proofs.lemmas.Bool.Decides.{nat_tests}
 use Rattle.scan_model.specs.ScanTest.{ScanTest}
 use Rattle.scan_model.specs.Universe.{universe}
-use Rattle.book.specs.Designs.{ReadLogFacts}
+use Rattle.diagnosis.specs.Designs.{ReadLogFacts}
 use Rattle.scandesk.specs.Draws.{next_state, state_after, upper, draw}
 use Rattle.scandesk.specs.Made.{text_draws}
 use Rattle.scandesk.specs.Demo.{tried_places, predicts_some, injected_from, drawn_place}

@@ -4,7 +4,7 @@ use Rattle.scan_model.specs.MatchCounts.{candidates}
 use Rattle.scan_model.specs.Ranking.{ranked}
 use Rattle.scan_model.specs.DieReport.{die_report}
 use Rattle.diag_report.specs.PredictedLog.{fault_of}
-use Rattle.book.specs.Designs.{DesignFacts, ReadLogFacts, ViewFacts, IsLogOf, facts_of, view_report}
+use Rattle.diagnosis.specs.Designs.{DesignFacts, ReadLogFacts, ViewFacts, IsLogOf, facts_of, view_report}
 use Rattle.scandesk.specs.Demo.{demo_name, own_candidates, own_report}
 use Rattle.scandesk.specs.Injected.{IsOwnLog}
 

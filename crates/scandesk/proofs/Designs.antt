@@ -5,8 +5,8 @@ use Rattle.scan_model.specs.declared.parts.Chain.{Chain}
 use Rattle.scan_model.specs.declared.parts.Pattern.{Pattern}
 use Rattle.scan_model.specs.declared.parts.Pairs.{Pairs}
 use Rattle.scan_model.specs.Netlist.{Netlist}
-use Rattle.book.specs.Bundle.{bundle_text}
-use Rattle.book.specs.Reading.{four}
+use Rattle.diagnosis.specs.Bundle.{bundle_text}
+use Rattle.diagnosis.specs.Reading.{four}
 use Rattle.scandesk.specs.declared.files.Stop.{Stop}
 use Rattle.scandesk.specs.Words.{DesignNames}
 use Rattle.scandesk.specs.Reading.{value}

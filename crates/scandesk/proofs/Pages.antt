@@ -3,8 +3,8 @@ use Rattle.std.proofs.Common.{◌≡◌, ◌≢◌, ◌∙◌, inl, inr, List, �
 use Rattle.std.specs.Prelude.{IfOk}
 use Rattle.scan_model.specs.declared.rows.NoMemory.{NoMemory}
 use Rattle.scan_model.specs.ScanTest.{ScanTest}
-use Rattle.book.specs.declared.section.Section.{Section}
-use Rattle.book.specs.Bundle.{texts_reading}
+use Rattle.diagnosis.specs.declared.section.Section.{Section}
+use Rattle.diagnosis.specs.Bundle.{texts_reading}
 use Rattle.scandesk.specs.declared.files.Stop.{Stop}
 use Rattle.scandesk.specs.declared.files.Stop.TheVariants.{Refused, Fault, NoMemory as LacksMemory}
 use Rattle.scandesk.specs.declared.page.Page.{Page}

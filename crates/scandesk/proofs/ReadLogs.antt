@@ -9,10 +9,10 @@ use Rattle.scan_model.specs.ScanTest.{ScanTest}
 use Rattle.scan_model.specs.Words.{has_word}
 use Rattle.scan_model.specs.LogText.{LogFrame, log_frame}
 use Rattle.scan_model.specs.DieReport.{die_report}
-use Rattle.book.specs.declared.answers.Put.{Put}
-use Rattle.book.specs.declared.answers.Put.TheVariants.{Created, Same}
-use Rattle.book.specs.Adding.{Added}
-use Rattle.book.specs.Designs.{DesignFacts, ReadLogFacts, ViewFacts, HaveSameTexts, texts_of}
+use Rattle.diagnosis.specs.declared.put.Put.{Put}
+use Rattle.diagnosis.specs.declared.put.Put.TheVariants.{Created, Same}
+use Rattle.diagnosis.specs.Adding.{Added}
+use Rattle.diagnosis.specs.Designs.{DesignFacts, ReadLogFacts, ViewFacts, HaveSameTexts, texts_of}
 use Rattle.scandesk.specs.declared.files.Stop.{Stop}
 use Rattle.scandesk.specs.Words.{Request}
 use Rattle.scandesk.specs.Reading.{Reading, value}

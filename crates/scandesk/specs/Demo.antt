@@ -13,9 +13,9 @@ use Rattle.scan_model.specs.ReportText.{line, joined, fault_words}
 use Rattle.scan_model.specs.DieReport.{die_report}
 use Rattle.diag_report.specs.PredictedLog.{fault_of, predicted_bits, predicted_log, predicted_facts}
 use Rattle.diag_report.specs.Summary.{count_line}
-use Rattle.book.specs.declared.section.Section.{Section}
-use Rattle.book.specs.declared.section.Section.TheVariants.{Bundle, Netlist, Scan, Patterns, Neighbours, Log}
-use Rattle.book.specs.Bundle.{texts_reading}
+use Rattle.diagnosis.specs.declared.section.Section.{Section}
+use Rattle.diagnosis.specs.declared.section.Section.TheVariants.{Bundle, Netlist, Scan, Patterns, Neighbours, Log}
+use Rattle.diagnosis.specs.Bundle.{texts_reading}
 use Rattle.scandesk.specs.declared.files.Refusal.TheVariants.{Rule}
 use Rattle.scandesk.specs.Draws.{draw}
 use Rattle.scandesk.specs.Made.{made_texts, text_draws}

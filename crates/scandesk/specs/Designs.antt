@@ -1,6 +1,6 @@
 -- Designs as the program reads them.
 use Rattle.std.specs.Prelude.{ℕ, List}
-use Rattle.book.specs.Reading.{four}
+use Rattle.diagnosis.specs.Reading.{four}
 use Rattle.scandesk.specs.declared.design.FileText.{FileText}
 use Rattle.scandesk.specs.declared.design.ReadDesign.{ReadDesign}
 use Rattle.scandesk.specs.Work.{ReadDesign as DesignOfFiles}

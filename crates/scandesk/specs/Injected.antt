@@ -6,11 +6,11 @@ use Rattle.scan_model.specs.Universe.{universe}
 use Rattle.scan_model.specs.ReportText.{line, joined}
 use Rattle.diag_report.specs.PredictedLog.{fault_of, predicted_log, predicted_facts}
 use Rattle.diag_report.specs.Summary.{count_line}
-use Rattle.book.specs.Bundle.{FourTexts}
-use Rattle.book.specs.Reading.{four}
-use Rattle.book.specs.Designs.{ReadLogFacts, StandsOver}
-use Rattle.book.specs.declared.section.BundleFault.{BundleFault}
-use Rattle.book.specs.declared.section.BundleFault.TheVariants.{Text, NoMemory}
+use Rattle.diagnosis.specs.Bundle.{FourTexts}
+use Rattle.diagnosis.specs.Reading.{four}
+use Rattle.diagnosis.specs.Designs.{ReadLogFacts, StandsOver}
+use Rattle.diagnosis.specs.declared.section.BundleFault.{BundleFault}
+use Rattle.diagnosis.specs.declared.section.BundleFault.TheVariants.{Text, NoMemory}
 use Rattle.scandesk.specs.declared.generator.Made.{Made}
 use Rattle.scandesk.specs.declared.files.Refusal.TheVariants.{Rule}
 use Rattle.scandesk.specs.Work.{refusal_line}

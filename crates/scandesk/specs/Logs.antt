@@ -2,7 +2,7 @@
 use Rattle.std.specs.Prelude.{◌≡◌, ℕ, List, Result, Ok, Err}
 use Rattle.desk_outside.specs.declared.shelf.File.{File}
 use Rattle.scan_model.specs.LogText.{LogFrame}
-use Rattle.book.specs.Designs.{ReadLogFacts, ViewFacts, HaveSameTexts, texts_of}
+use Rattle.diagnosis.specs.Designs.{ReadLogFacts, ViewFacts, HaveSameTexts, texts_of}
 use Rattle.scandesk.specs.declared.files.Stop.{Stop}
 use Rattle.scandesk.specs.Reading.{Reading}
 use Rattle.scandesk.specs.Stops.{Follows}

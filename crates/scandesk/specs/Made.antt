@@ -1,6 +1,6 @@
 -- The texts of the design that the generator makes, and the draw that comes after them.
 use Rattle.std.specs.Prelude.{ℕ}
-use Rattle.book.specs.Bundle.{FourTexts}
+use Rattle.diagnosis.specs.Bundle.{FourTexts}
 use Rattle.scandesk.specs.MadeNetlist.{made_netlist}
 use Rattle.scandesk.specs.MadeScan.{made_scan}
 use Rattle.scandesk.specs.MadePatterns.{made_patterns, first_draw}

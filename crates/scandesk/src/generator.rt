@@ -9,7 +9,7 @@ mod scan;
 ghost use Rattle.std.specs.Prelude.{◌≡◌, ◌≤◌, IfOk};
 ghost use Rattle.scandesk.specs.Draws.{state_after};
 ghost use Rattle.scandesk.specs.Made.{made_texts, text_draws};
-ghost use Rattle.book.specs.Reading.{four};
+ghost use Rattle.diagnosis.specs.Reading.{four};
 
 use crate::generator::draws::Draws;
 use crate::generator::netlist::made_netlist;

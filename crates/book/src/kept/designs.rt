@@ -10,8 +10,8 @@ ghost use Rattle.book.specs.Places.{place_of};
 
 use super::deeds::Deeds;
 use super::places::note;
-use crate::design::Design;
 use desk_outside::{Deed, KeepFault, Keeper};
+use diagnosis::Design;
 use scan_model::NoMemory;
 use std::alloc::Global;
 use std::collections::BTreeMap;
@@ -29,7 +29,7 @@ pub(super) struct Designs {
 
 impl Model for Designs {
     ghost use Rattle.std.specs.Prelude.{List};
-    ghost use Rattle.book.specs.Designs.{DesignFacts};
+    ghost use Rattle.diagnosis.specs.Designs.{DesignFacts};
     ghost use Rattle.book.specs.Kinds.{arc_values};
     ghost use Rattle.book.specs.Places.{AreNoted};
 

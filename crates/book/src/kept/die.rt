@@ -8,9 +8,9 @@ ghost use Rattle.book.specs.Kinds.{appended, arc_values};
 ghost use Rattle.book.specs.Dies.{bare_die, is_die, with_log, with_sign};
 
 use super::deeds::Deeds;
-use crate::log::ReadLog;
 use crate::sign::Sign;
 use desk_outside::{Deed, KeepFault, Keeper};
+use diagnosis::ReadLog;
 use scan_model::{Name, NoMemory};
 use std::alloc::Global;
 use std::marker::Model;

@@ -11,9 +11,9 @@ ghost use Rattle.book.specs.Dies.{DieFacts, bare_die, die_key, is_die, kept_logs
 use super::deeds::Deeds;
 use super::die::Die;
 use super::places::note;
-use crate::log::ReadLog;
 use crate::sign::Sign;
 use desk_outside::{Deed, KeepFault, Keeper};
+use diagnosis::ReadLog;
 use scan_model::NoMemory;
 use std::alloc::Global;
 use std::collections::BTreeMap;

@@ -2,10 +2,9 @@
 ghost use Rattle.std.specs.Prelude.{◌≡◌, IfOk};
 ghost use Rattle.book.specs.Kinds.{design_deed, log_deed, sign_deed};
 
-use crate::design::Design;
-use crate::log::ReadLog;
 use crate::sign::Sign;
 use desk_outside::{Deed, DeedKind};
+use diagnosis::{Design, ReadLog};
 use scan_model::{Name, NoMemory};
 use std::alloc::Global;
 

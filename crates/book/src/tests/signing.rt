@@ -24,7 +24,7 @@ fn sign<R>(
     if view.revision() == 0 {
         return Err(PutFault::UnknownDesign);
     }
-    let Ok(checked) = check_report(rt, alloc, view) else {
+    let Ok(checked) = check_report(rt, alloc, &view) else {
         return Err(PutFault::NoMemory);
     };
     let Ok(signer) = Name::copy_of(alloc, b"ann") else {

@@ -5,10 +5,10 @@ ghost use Rattle.desk_http.specs.RouteAnswers.{design_put, design_get, fails_get
 ghost use Rattle.desk_http.specs.Seats.{Did};
 ghost use Rattle.desk_http.specs.Answering.{AnsweredBy, response_of};
 
-use crate::bodies::{design_body, design_head, unknown_fault_body};
-use crate::response::{Body, Response, Unanswered, kind_of, refused_look, refused_put};
-use crate::seat::SeatAt;
-use crate::status::Status;
+use crate::reply::bodies::{design_body, design_head, unknown_fault_body};
+use crate::reply::response::{Body, Response, Unanswered, kind_of, refused_look, refused_put};
+use crate::sessions::seat::SeatAt;
+use crate::reply::status::Status;
 use book::{BundleFault, Put, read_bundle};
 use desk_outside::Gate;
 use diag_report::{fails_text, summary_text};

@@ -1,21 +1,23 @@
 //! Requests on the logs and reports of dies.
 ghost use Rattle.std.specs.Prelude.{◌≡◌, [], List, true, IfOk};
 ghost use Rattle.scan_model.specs.Words.{is_tag};
+ghost use Rattle.report_cache.specs.Truth.{IsTrueFor};
 ghost use Rattle.desk_http.specs.RouteAnswers.{log_post, report_get, page_get};
 ghost use Rattle.desk_outside.specs.declared.deed.Deed.{Deed};
 ghost use Rattle.desk_http.specs.Seats.{IsPrefix, Did};
 ghost use Rattle.desk_http.specs.Answering.{AnsweredBy, response_of};
 
-use crate::bodies::{TextKind, log_body, unknown_line_body};
-use crate::reports::Reports;
-use crate::response::{Body, Response, Unanswered, refused_look, refused_put};
-use crate::seat::SeatAt;
-use crate::status::Status;
+use crate::reply::bodies::{TextKind, log_body, unknown_line_body};
+use crate::reply::response::{Body, Response, Unanswered, refused_look, refused_put};
+use crate::sessions::seat::SeatAt;
+use crate::reply::status::Status;
 use book::{Put, log_of};
 use desk_outside::Gate;
+use report_cache::ReportCache;
 use scan_model::{Name, NoMemory};
 use std::alloc::Global;
 use std::sync::Arc;
+use std::thread::Threads;
 use text_parts::ReadFault;
 
 /// A log of a die is posted.
@@ -58,20 +60,20 @@ pub(super) fn post_log<R, D, S: SeatAt<R, D>, G: Gate>(
 }
 
 /// The report of a die at a revision, or at its last.
-pub(super) fn get_report<R, D, S: SeatAt<R, D>, C: Reports>(
+pub(super) fn get_report<R: Threads + Sync, D, S: SeatAt<R, D>>(
     rt: &R,
     alloc: Global,
     desk: &D,
     seat: &mut S,
-    cache: &mut C,
+    cache: &mut ReportCache,
     design: &[u8],
     die: &[u8],
     revision: Option<u64>,
 ) -> Result<Response, NoMemory>
     requires belongs { S.belongs seat.old desk.now }
-    requires cache { C.is_true cache.old (S.facts seat.old desk.now).seen }
+    requires cache { IsTrueFor cache.old (S.facts seat.old desk.now).seen }
     ensures stays { S.belongs seat.new desk.now }
-    ensures cache { (later : List Deed) → IsPrefix (S.facts seat.new desk.now).seen later → C.is_true cache.old later → C.is_true cache.new later }
+    ensures cache { (later : List Deed) → IsPrefix (S.facts seat.new desk.now).seen later → IsTrueFor cache.old later → IsTrueFor cache.new later }
     ensures did { Did [] 0 (S.facts seat.old desk.now) (S.facts seat.new desk.now) }
     ensures made { IfOk result (λ r. r ≡ response_of (report_get (S.facts seat.new desk.now).seen design.now die.now revision)) }
 {
@@ -84,21 +86,21 @@ pub(super) fn get_report<R, D, S: SeatAt<R, D>, C: Reports>(
 }
 
 /// A page of such a report, from a line on.
-pub(super) fn get_page<R, D, S: SeatAt<R, D>, C: Reports>(
+pub(super) fn get_page<R: Threads + Sync, D, S: SeatAt<R, D>>(
     rt: &R,
     alloc: Global,
     desk: &D,
     seat: &mut S,
-    cache: &mut C,
+    cache: &mut ReportCache,
     design: &[u8],
     die: &[u8],
     revision: u64,
     line: u64,
 ) -> Result<Response, NoMemory>
     requires belongs { S.belongs seat.old desk.now }
-    requires cache { C.is_true cache.old (S.facts seat.old desk.now).seen }
+    requires cache { IsTrueFor cache.old (S.facts seat.old desk.now).seen }
     ensures stays { S.belongs seat.new desk.now }
-    ensures cache { (later : List Deed) → IsPrefix (S.facts seat.new desk.now).seen later → C.is_true cache.old later → C.is_true cache.new later }
+    ensures cache { (later : List Deed) → IsPrefix (S.facts seat.new desk.now).seen later → IsTrueFor cache.old later → IsTrueFor cache.new later }
     ensures did { Did [] 0 (S.facts seat.old desk.now) (S.facts seat.new desk.now) }
     ensures made { IfOk result (λ r. r ≡ response_of (page_get (S.facts seat.new desk.now).seen design.now die.now revision line)) }
 {
@@ -107,7 +109,7 @@ pub(super) fn get_page<R, D, S: SeatAt<R, D>, C: Reports>(
         Err(fault) => return refused_look(fault),
     };
     let report = cache.report(rt, alloc, &view)?;
-    match report.page(line) {
+    match report.report().page(line) {
         Ok(page) => {
             let text = Name::copy_of(alloc, page)?;
             Ok(Response::plain(Status::Ok, Body::text(text)))

@@ -1,40 +1,47 @@
 //! Requests on sign-offs.
-ghost use Rattle.std.specs.Prelude.{◌≡◌, [], true, IfOk, Option, Some};
+ghost use Rattle.std.specs.Prelude.{◌≡◌, [], true, List, IfOk, Option, Some};
+ghost use Rattle.desk_outside.specs.declared.deed.Deed.{Deed};
+ghost use Rattle.report_cache.specs.Truth.{IsTrueFor};
 ghost use Rattle.scan_model.specs.Words.{is_tag};
-ghost use Rattle.desk_http.specs.declared.signoff.SignBody.{SignBody};
+ghost use Rattle.desk_http.specs.declared.answers.signoff.SignBody.{SignBody};
 ghost use Rattle.desk_http.specs.RouteAnswers.{sign_post, sign_get};
-ghost use Rattle.desk_http.specs.Seats.{Did};
+ghost use Rattle.desk_http.specs.Seats.{IsPrefix, Did};
 ghost use Rattle.desk_http.specs.Answering.{Answered, AnsweredBy, ReadsSign, response_of};
 
-use crate::bodies::{TextKind, sign_off_body, sign_off_line};
-use crate::response::{Response, Unanswered, refused_look, refused_put};
-use crate::seat::SeatAt;
-use crate::signoff::{BodyFault, SignBody, sign_body};
-use crate::status::Status;
-use book::{Put, check_report};
+use crate::reply::bodies::{TextKind, sign_off_body, sign_off_line};
+use crate::reply::response::{Response, Unanswered, refused_look, refused_put};
+use crate::sessions::seat::SeatAt;
+use crate::answers::signoff::{BodyFault, SignBody, sign_body};
+use crate::reply::status::Status;
+use book::{Checked, Put};
 use desk_outside::Gate;
+use report_cache::ReportCache;
 use scan_model::NoMemory;
 use std::alloc::Global;
+use std::thread::Threads;
 use text_parts::TextFault;
 
 /// The report of a die is signed.
-pub(super) fn post_sign<R, D, S: SeatAt<R, D>, G: Gate>(
+pub(super) fn post_sign<R: Threads + Sync, D, S: SeatAt<R, D>, G: Gate>(
     rt: &R,
     alloc: Global,
     desk: &D,
     seat: &mut S,
+    cache: &mut ReportCache,
     gate: &mut G,
     design: &[u8],
     die: &[u8],
     body: &[u8],
 ) -> Result<Response, Unanswered>
-    requires { S.belongs seat.old desk.now }
+    requires belongs { S.belongs seat.old desk.now }
+    requires cache { IsTrueFor cache.old (S.facts seat.old desk.now).seen }
     ensures stays { S.belongs seat.new desk.now }
+    ensures cache { (later : List Deed) → IsPrefix (S.facts seat.new desk.now).seen later → IsTrueFor cache.old later → IsTrueFor cache.new later }
     ensures answered { let s = S.facts seat.old desk.now in
         Answered (λ deeds answer. (sign : Option SignBody) × ReadsSign body.now sign × (answer ≡ sign_post s.limit deeds design.now die.now sign)) result s (S.facts seat.new desk.now) }
 {
     match sign_body(alloc, body) {
-        Ok(sign) => put_sign(rt, alloc, desk, seat, gate, design, die, &sign),
+        Ok(sign) => put_sign(rt, alloc, desk, seat, cache, gate, design, die, &sign),
         Err(BodyFault::NotASign) => {
             let fault = TextFault { line: 1, rule: 91 };
             Ok(Response::unprocessable(TextKind::SignOff, fault))
@@ -44,11 +51,12 @@ pub(super) fn post_sign<R, D, S: SeatAt<R, D>, G: Gate>(
 }
 
 // The same with a body that was read.
-fn put_sign<R, D, S: SeatAt<R, D>, G: Gate>(
+fn put_sign<R: Threads + Sync, D, S: SeatAt<R, D>, G: Gate>(
     rt: &R,
     alloc: Global,
     desk: &D,
     seat: &mut S,
+    cache: &mut ReportCache,
     gate: &mut G,
     design: &[u8],
     die: &[u8],
@@ -56,7 +64,9 @@ fn put_sign<R, D, S: SeatAt<R, D>, G: Gate>(
 ) -> Result<Response, Unanswered>
     requires tag { is_tag sign.now.signer ≡ true }
     requires belongs { S.belongs seat.old desk.now }
+    requires cache { IsTrueFor cache.old (S.facts seat.old desk.now).seen }
     ensures stays { S.belongs seat.new desk.now }
+    ensures cache { (later : List Deed) → IsPrefix (S.facts seat.new desk.now).seen later → IsTrueFor cache.old later → IsTrueFor cache.new later }
     ensures answered { let s = S.facts seat.old desk.now in
         AnsweredBy (λ deeds. sign_post s.limit deeds design.now die.now (Some sign.now)) result s (S.facts seat.new desk.now) }
 {
@@ -66,7 +76,8 @@ fn put_sign<R, D, S: SeatAt<R, D>, G: Gate>(
     };
     // The report's digest is the die's by what the view says of itself.
     let _revision = view.revision();
-    let checked = check_report(rt, alloc, view)?;
+    let report = cache.report(rt, alloc, &view)?;
+    let checked = Checked::by_digest(view, *report.digest());
     gate.pass();
     match seat.sign(rt, desk, &checked, &sign.signer, &sign.digest) {
         Ok(Put::Created { number }) => Ok(Response::short(Status::Created, sign_off_line(number))),

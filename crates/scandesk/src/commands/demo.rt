@@ -1,23 +1,23 @@
 //! `demo`: a design that is made, a fault that is put into it, and its diagnosis.
-mod diagnosis;
+mod diagnosed;
 mod injected;
 mod lines;
 
 ghost use Rattle.std.specs.Prelude.{◌≡◌, ◌≤◌, ◌++◌, Some, Ok, IfOk, IfErr, OnOk, IfSome};
 ghost use Rattle.scan_model.specs.ReportText as text_of;
-ghost use Rattle.book.specs.Bundle.{texts_reading};
-ghost use Rattle.book.specs.Reading.{RefusedBy};
+ghost use Rattle.diagnosis.specs.Bundle.{texts_reading};
+ghost use Rattle.diagnosis.specs.Reading.{RefusedBy};
 ghost use Rattle.scandesk.specs.Demo.{demo_name, demo_output, injected_lines, section_word};
 ghost use Rattle.scandesk.specs.Injected.{IsFound, IsAfterTexts, IsText, IsRefusal, place_of, texts_of};
 
 use crate::command::Demo;
-use crate::commands::demo::diagnosis::diagnosis_of;
+use crate::commands::demo::diagnosed::diagnosis_of;
 use crate::commands::demo::injected::{Injected, inject};
 use crate::commands::demo::lines::{add_count, add_digest, add_head, add_injected, add_rank};
 use crate::generator::draws::Draws;
 use crate::generator::{Made, made_design};
 use crate::page::{Page, line_page, rule_line};
-use book::{BundleFault, Design, Section, design_of};
+use diagnosis::{BundleFault, Design, Section, design_of};
 use scan_model::{Name, NoMemory, Rows};
 use std::alloc::Global;
 

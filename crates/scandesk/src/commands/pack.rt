@@ -9,7 +9,7 @@ ghost use Rattle.scandesk.specs.Stops.{Follows, ends_by_fault};
 use crate::command::DesignFiles;
 use crate::design::read_design;
 use crate::files::Stop;
-use book::{Sections, bundle_text};
+use diagnosis::{Sections, bundle_text};
 use desk_outside::Shelf;
 use scan_model::Name;
 use std::alloc::Global;

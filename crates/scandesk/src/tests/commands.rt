@@ -1,6 +1,6 @@
 //! Summaries and bundles. A demonstration takes too long for a test: `examples/run.sh` runs it.
 use super::runs::ran_after;
-use book::read_bundle;
+use diagnosis::read_bundle;
 use diag_report::summary_text;
 use std::test::Fail;
 

@@ -4,7 +4,7 @@ use Rattle.std.specs.Arc.{arc_value}
 use Rattle.std.specs.declared.sync.Arc.{Arc}
 use Rattle.std.proofs.lemmas.Iterator.{YieldsList-from_slice}
 use Rattle.std.proofs.lemmas.Iterator.Search.{position_from_yields_List}
-use Rattle.book.specs.Designs.{ReadLogFacts}
+use Rattle.diagnosis.specs.Designs.{ReadLogFacts}
 use Rattle.book.specs.Kinds.{arc_values}
 use Rattle.book.proofs.FirstThat.{put_is_where, where-map}
 use Rattle.book.proofs.book.put_text.Goals as goal

@@ -1,6 +1,6 @@
 use Rattle.std.proofs.Common.{sym, subst, rules}
 use Rattle.std.specs.Arc.{arc_value}
-use Rattle.book.specs.Designs.{ViewFacts, IsLogOf}
+use Rattle.diagnosis.specs.Designs.{ViewFacts, IsLogOf}
 use Rattle.book.proofs.Showing.{is_log_at, view_more}
 use Rattle.book.proofs.dies.view_of.Goals as goal
 

@@ -1,6 +1,6 @@
 use Rattle.std.proofs.Common.{◌≤◌, length, take, refl, sym, ap, ◌∙◌, subst, rules}
 use Rattle.std.specs.Arc.{arc_value}
-use Rattle.book.specs.Designs.{DesignFacts}
+use Rattle.diagnosis.specs.Designs.{DesignFacts}
 use Rattle.book.specs.Finding.{IsDieIn}
 use Rattle.book.specs.Kinds.{arc_values}
 use Rattle.book.proofs.Showing.{IsShown, is_shown, some_is, die_tagged, part_stands, part_differs}

@@ -1,5 +1,5 @@
 use Rattle.std.proofs.Common.{◌≡◌, ℕ, List}
-use Rattle.book.specs.Reading.{four}
+use Rattle.diagnosis.specs.Reading.{four}
 use Rattle.scandesk.specs.MadeNetlist.{made_netlist}
 use Rattle.scandesk.specs.MadeScan.{made_scan}
 use Rattle.scandesk.specs.MadePatterns.{made_patterns}

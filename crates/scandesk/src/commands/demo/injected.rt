@@ -5,7 +5,7 @@ ghost use Rattle.scandesk.specs.Demo.{demo_name};
 ghost use Rattle.scandesk.specs.Injected.{IsOwnLog, IsFound, IsFirst, IsAfterTexts, IsDrawn, place_of};
 
 use crate::generator::draws::Draws;
-use book::{Design, ReadLog, log_of};
+use diagnosis::{Design, ReadLog, log_of};
 use diag_report::fails_text;
 use fault_universe::universe_len;
 use scan_model::NoMemory;

@@ -5,14 +5,14 @@ ghost use Rattle.desk_outside.specs.declared.shelf.File.{File};
 ghost use Rattle.desk_outside.specs.Faults.{Rose};
 ghost use Rattle.scan_model.specs.Words.{is_tag};
 ghost use Rattle.scan_model.specs.LogText.{log_frame};
-ghost use Rattle.book.specs.Adding.{Added};
-ghost use Rattle.book.specs.Designs.{IsLogOf};
+ghost use Rattle.diagnosis.specs.Adding.{Added};
+ghost use Rattle.diagnosis.specs.Designs.{IsLogOf};
 ghost use Rattle.scandesk.specs.Logs.{ViewFollows};
 ghost use Rattle.scandesk.specs.Stops.{Follows, shown, ends_by_fault};
 ghost use Rattle.scandesk.specs.Work.{log_file, logs_reading};
 
 use crate::files::{Stop, named, read_text};
-use book::{Design, DieView, Put, ReadLog, log_of};
+use diagnosis::{Design, DieView, Put, ReadLog, log_of};
 use desk_outside::Shelf;
 use scan_model::{Name, NoMemory};
 use std::alloc::Global;

@@ -1,6 +1,6 @@
 use Rattle.std.proofs.Common.{◌≡◌, ℕ, List, Ok, refl, sym, ap, ◌∙◌, subst}
 use Rattle.std.specs.Arc.{arc_value}
-use Rattle.book.specs.Designs.{ViewFacts, texts_of}
+use Rattle.diagnosis.specs.Designs.{ViewFacts, texts_of}
 use Rattle.book.specs.Answers.{die_look, up_to}
 use Rattle.book.specs.Changes.{BookFacts, IsBook, IsViewIn}
 use Rattle.book.specs.Finding.{IsDieIn}

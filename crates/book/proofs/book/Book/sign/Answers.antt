@@ -1,7 +1,7 @@
 use Rattle.std.proofs.Common.{◌≡◌, ◌<◌, ℕ, List, true, length, refl, sym, ap, ◌∙◌, subst, rules}
 use Rattle.sha2.specs.Sha256.{sha256}
 use Rattle.std.specs.Str.{bytes_eq}
-use Rattle.book.specs.Designs.{ViewFacts, view_report, IsDesign}
+use Rattle.diagnosis.specs.Designs.{ViewFacts, view_report, IsDesign}
 use Rattle.desk_outside.specs.declared.deed.DeedKind.TheVariants.{Sign}
 use Rattle.book.specs.Legal.{fits}
 use Rattle.book.specs.Changes.{BookFacts, IsBook}

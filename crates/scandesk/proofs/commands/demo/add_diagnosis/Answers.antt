@@ -6,7 +6,7 @@ use Rattle.scan_model.specs.declared.logs.Scored.{Scored}
 use Rattle.scan_model.specs.ScanTest.{ScanTest}
 use Rattle.scan_model.specs.ReportText.{line, fault_words}
 use Rattle.diag_report.specs.PredictedLog.{fault_of, predicted_bits}
-use Rattle.book.specs.Designs.{ReadLogFacts}
+use Rattle.diagnosis.specs.Designs.{ReadLogFacts}
 use Rattle.scandesk.specs.Demo.{own_candidates, own_report}
 use Rattle.scandesk.proofs.DemoLines.{diagnosis_added}
 use Rattle.scandesk.proofs.commands.demo.add_diagnosis.Goals as goal

@@ -1,6 +1,6 @@
 use Rattle.std.proofs.Common.{◌∙◌, ap}
 use Rattle.std.proofs.lemmas.Result.{err_from_is_err_and}
-use Rattle.book.specs.Bundle.{bundle_text}
+use Rattle.diagnosis.specs.Bundle.{bundle_text}
 use Rattle.scandesk.specs.Designs.{shown_design}
 use Rattle.scandesk.specs.Requests.{named_files}
 use Rattle.scandesk.proofs.Designs.{same_four, packs}

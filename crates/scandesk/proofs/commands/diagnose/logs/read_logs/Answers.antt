@@ -2,7 +2,7 @@ use Rattle.std.proofs.Common.{◌≡◌, ◌≤◌, ◌+◌, ◌∙◌, ℕ, Lis
 use Rattle.std.specs.Arc.{arc_value}
 use Rattle.std.proofs.lemmas.List.{drop_all, length-map}
 use Rattle.scan_model.specs.LogText.{log_frame}
-use Rattle.book.specs.Designs.{ViewFacts}
+use Rattle.diagnosis.specs.Designs.{ViewFacts}
 use Rattle.scandesk.proofs.ReadLogs.{AreReadBefore, next_name, none_before, one_more, one_stops, none_left, keeps_design, keeps_die}
 use Rattle.scandesk.proofs.commands.diagnose.logs.read_logs.Goals as goal
 

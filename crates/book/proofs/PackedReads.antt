@@ -1,9 +1,0 @@
--- The bundle of four texts that stand for a scan test stands for the same.
-use Rattle.std.proofs.Common.{◌≡◌, Ok}
-use Rattle.scan_model.specs.ScanTest.{ScanTest}
-use Rattle.book.specs.Bundle.{FourTexts, bundle_text, texts_reading, bundle_reading}
-use Rattle.book.proofs.Unmarked.{unmarked}
-use Rattle.book.proofs.Packed.{unmarked_reads}
-
-pub packed_reads : (texts : FourTexts) (t : ScanTest) → texts_reading texts ≡ Ok t → bundle_reading (bundle_text texts) ≡ Ok t
-packed_reads texts t e = unmarked_reads texts (unmarked texts t e) t e

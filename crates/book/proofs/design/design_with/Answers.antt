@@ -1,8 +1,0 @@
-use Rattle.book.specs.Reading.{four}
-use Rattle.book.proofs.PackedReads.{packed_reads}
-use Rattle.book.proofs.design.design_with.Goals as goal
-
--- The bundle stands for what the texts stand for.
-pub whole-requires-clause-stands : goal.whole-requires-clause-stands
-whole-requires-clause-stands c =
-    rw c.in_ok-text.ensures (packed_reads (four c.args.netlist.now c.args.scan.now c.args.patterns.now c.args.neighbours.now) c.args.parts c.requires.stands)

@@ -1,0 +1,10 @@
+-- Texts of which no line begins with `%`.
+use Rattle.std.specs.Prelude.{◌≡◌, false, All}
+use Rattle.text_parts.specs.Ended.{ended}
+use Rattle.diagnosis.specs.Bundle.{FourTexts, is_mark, pieces}
+
+pub record AreUnmarked (texts : FourTexts) : Type 0 where
+  pub netlist : All (λ piece. is_mark piece ≡ false) (pieces (ended texts.netlist))
+  pub scan : All (λ piece. is_mark piece ≡ false) (pieces (ended texts.scan))
+  pub patterns : All (λ piece. is_mark piece ≡ false) (pieces (ended texts.patterns))
+  pub neighbours : All (λ piece. is_mark piece ≡ false) (pieces (ended texts.neighbours))

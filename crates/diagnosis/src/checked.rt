@@ -1,0 +1,148 @@
+//! The report of a die, and its digest.
+ghost use Rattle.std.specs.Prelude.{◌≡◌, ◌<◌, ℕ, List, All, length, map, IfOk};
+ghost use Rattle.std.specs.Arc.{arc_value};
+ghost use Rattle.sha2.specs.Sha256.{sha256};
+ghost use Rattle.scan_model.specs.ScanTest.{points_of};
+ghost use Rattle.scan_model.specs.DieReport.{die_report};
+ghost use Rattle.scan_model.specs.MatchCounts.{candidates};
+ghost use Rattle.scan_model.specs.Ranking.{ranked};
+ghost use Rattle.scan_model.specs.ReportText as text_of;
+ghost use Rattle.log_join.specs.Joining.{StandsFor, IsJoinedOf};
+ghost use Rattle.diagnosis.specs.Designs.{StandsOver, view_lines, view_report, texts_of, facts_of, HaveSameTexts};
+
+use crate::design::Design;
+use crate::log::ReadLog;
+use crate::view::DieView;
+use diag_report::{Head, Report, make_text, rank};
+use log_join::Joined;
+use match_counts::plain_counts;
+use scan_model::{Digest, Name, NoMemory, Parts, Rows, Scored};
+use sha2::Sha256;
+use std::alloc::Global;
+use std::marker::Model;
+use std::sync::Arc;
+
+// The logs, joined.
+fn joined_of(alloc: Global, parts: &Parts, logs: &[Arc<ReadLog>]) -> Result<Joined, NoMemory>
+    requires stand { All (StandsOver parts.now) (map (λ log. arc_value log) logs.now) }
+    ensures size { IfOk result (IsJoinedOf (length parts.now.patterns) (length (points_of parts.now))) }
+    ensures stands { IfOk result (StandsFor (facts_of (map (λ log. arc_value log) logs.now))) }
+{
+    let patterns = parts.patterns().len() as u32;
+    let points = parts.points().len() as u32;
+    let mut joined = Joined::make(alloc, patterns, points)?;
+    for log in logs {
+        joined.add(log.facts());
+    }
+    Ok(joined)
+}
+
+/// The report of a die, and the candidates that it lists, best first.
+#[derive(Drop)]
+pub struct Diagnosis {
+    pub report: Report,
+    pub candidates: Rows<Scored>,
+}
+
+// The diagnosis of different logs of the die.
+fn diagnosis_of(
+    alloc: Global,
+    design: &Design,
+    die: &[u8],
+    logs: &[Arc<ReadLog>],
+) -> Result<Diagnosis, NoMemory>
+    requires stand { All (StandsOver design.now.test) (map (λ log. arc_value log) logs.now) }
+    ensures report { IfOk result (λ d. d.report ≡ text_of.report_lines design.now.test design.now.name die.now (facts_of (map (λ log. arc_value log) logs.now))) }
+    ensures candidates { IfOk result (λ d. d.candidates ≡ ranked (candidates design.now.test (facts_of (map (λ log. arc_value log) logs.now)))) }
+{
+    let parts = design.parts();
+    let expected = design.expected();
+    let joined = joined_of(alloc, parts, logs)?;
+    let mut rows = plain_counts(alloc, parts, expected, &joined)?;
+    rank(&mut rows);
+    let head = Head {
+        design: Name::copy_of(alloc, design.name())?,
+        die: Name::copy_of(alloc, die)?,
+        logs: logs.len() as u64,
+    };
+    let report = make_text(alloc, parts, &head, expected, &joined, &rows)?;
+    Ok(Diagnosis {
+        report,
+        candidates: rows,
+    })
+}
+
+/// The report over the logs of a die, with the candidates that it lists.
+pub fn make_diagnosis<R>(_rt: &R, alloc: Global, view: &DieView) -> Result<Diagnosis, NoMemory>
+    ensures lines { IfOk result (λ d. d.report ≡ view_lines view.now) }
+    ensures report { IfOk result (λ d. text_of.joined d.report ≡ view_report view.now) }
+    ensures candidates { IfOk result (λ d. d.candidates ≡ ranked (candidates view.now.design.test (facts_of view.now.logs))) }
+{
+    diagnosis_of(alloc, view.design(), view.die(), view.logs())
+}
+
+/// The report over the logs of a die. Their order doesn't matter, nor does it that a text is given again.
+pub fn make_report<R>(rt: &R, alloc: Global, view: &DieView) -> Result<Report, NoMemory>
+    ensures lines { IfOk result (λ report. report ≡ view_lines view.now) }
+    ensures report { IfOk result (λ report. text_of.joined report ≡ view_report view.now) }
+    ensures any_order { (others : List (List ℕ)) → HaveSameTexts (texts_of view.now.logs) others → IfOk result (λ report. text_of.joined report ≡ die_report view.now.design.test view.now.design.name view.now.die others) }
+{
+    let diagnosis = make_diagnosis(rt, alloc, view)?;
+    Ok(diagnosis.report)
+}
+
+/// A die with the SHA-256 digest (FIPS 180-4) of its report's bytes, at the revision that is its number of logs.
+#[derive(Drop)]
+pub struct Checked {
+    view: DieView,
+    digest: Digest,
+}
+
+impl Model for Checked {
+    ghost use Rattle.std.specs.Prelude.{◌≡◌, ◌<◌, length};
+    ghost use Rattle.sha2.specs.Sha256.{sha256};
+    ghost use Rattle.diagnosis.specs.Designs.{ViewFacts, view_report};
+
+    ghost Value = { ViewFacts };
+
+    ghost view = { λ c. c.view };
+
+    ghost invariant = { λ c. (c.digest ≡ sha256 (view_report c.view)) × (0 < length c.view.logs) };
+}
+
+impl Checked {
+    /// A die with the digest of its report, which was made before.
+    pub fn by_digest(view: DieView, digest: Digest) -> Checked
+        requires some { 0 < length view.logs }
+        requires digest { digest ≡ sha256 (view_report view) }
+        ensures { result ≡ view }
+    {
+        Checked { view, digest }
+    }
+
+    /// The digest of the report.
+    pub fn digest(&self) -> &Digest
+        ensures value { result.now ≡ sha256 (view_report self.now) }
+        ensures some { 0 < length self.now.logs }
+    {
+        &self.digest
+    }
+
+    /// The die with the logs that were checked.
+    pub fn view(&self) -> &DieView
+        ensures { result.now ≡ self.now }
+    {
+        &self.view
+    }
+}
+
+/// Makes the report of a die that has a log, for its digest.
+pub fn check_report<R>(rt: &R, alloc: Global, view: &DieView) -> Result<Checked, NoMemory>
+    requires { 0 < length view.now.logs }
+    ensures { IfOk result (λ checked. checked ≡ view.now) }
+{
+    let report = make_report(rt, alloc, view)?;
+    let bytes = <Sha256 as sha2::Digest>::digest(report.bytes());
+    let digest = Digest::from_bytes(bytes);
+    Ok(Checked::by_digest(view.copy(alloc)?, digest))
+}

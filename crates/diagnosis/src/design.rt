@@ -1,0 +1,175 @@
+//! Designs: a bundle that was read.
+ghost use Rattle.std.specs.Prelude.{◌≡◌, ◌^◌, ◌<◌, length, true, Ok, Err, IfOk, IfErr};
+ghost use Rattle.sha2.specs.Sha256.{sha256};
+ghost use Rattle.scan_model.specs.Words.{is_tag};
+ghost use Rattle.scan_model.specs.Response.{expected_rows};
+ghost use Rattle.diagnosis.specs.declared.section.BundleFault.{BundleFault};
+ghost use Rattle.diagnosis.specs.Bundle.{bundle_text, bundle_reading, texts_reading};
+ghost use Rattle.diagnosis.specs.Designs.{IsDesign};
+ghost use Rattle.diagnosis.specs.Reading.{four, RefusedBy};
+ghost use Rattle.diag_report.specs.PredictedLog.{HasWordNames};
+
+use crate::bundle::{Sections, bundle_text, split};
+use crate::section::{BundleFault, Section};
+use crate::texts::read_texts;
+use good_sim::expected_all;
+use scan_model::{Digest, Expected, Name, NoMemory, Parts};
+use sha2::Sha256;
+use std::alloc::Global;
+use std::marker::Model;
+
+/// A design: its name, its bundle with the SHA-256 digest (FIPS 180-4) of its bytes, and the parts that the bundle stands
+/// for with their expected values.
+#[derive(Drop)]
+pub struct Design {
+    name: Name,
+    text: Name,
+    digest: Digest,
+    parts: Parts,
+    expected: Expected,
+}
+
+impl Model for Design {
+    ghost use Rattle.diagnosis.specs.Designs.{DesignFacts, IsWholeDesign};
+
+    ghost Value = { DesignFacts };
+
+    ghost view = { λ d. record { name = d.name; text = d.text; test = d.parts } };
+
+    ghost invariant = { λ d. IsWholeDesign (record { name = d.name; text = d.text; test = d.parts }) d.digest d.expected };
+}
+
+impl Design {
+    // The design of a bundle that stands for the parts.
+    fn whole(alloc: Global, name: &[u8], text: Name, parts: Parts) -> Result<Self, NoMemory>
+        requires name { is_tag name.now ≡ true }
+        requires stands { bundle_reading text ≡ Ok parts }
+        ensures name { IfOk result (λ design. design.name ≡ name.now) }
+        ensures text { IfOk result (λ design. design.text ≡ text) }
+        ensures test { IfOk result (λ design. design.test ≡ parts) }
+    {
+        let name = Name::copy_of(alloc, name)?;
+        let expected = expected_all(alloc, &parts)?;
+        let digest = Digest::from_bytes(<Sha256 as sha2::Digest>::digest(text.as_slice()));
+        Ok(Design {
+            name,
+            text,
+            digest,
+            parts,
+            expected,
+        })
+    }
+
+    /// The name, a tag.
+    pub fn name(&self) -> &[u8]
+        ensures value { result.now ≡ self.now.name }
+        ensures design { IsDesign self.now }
+    {
+        self.name.as_slice()
+    }
+
+    /// The bundle.
+    pub fn text(&self) -> &[u8]
+        ensures value { result.now ≡ self.now.text }
+        ensures design { IsDesign self.now }
+    {
+        self.text.as_slice()
+    }
+
+    /// The digest of the bundle's bytes.
+    pub fn digest(&self) -> &Digest
+        ensures { result.now ≡ sha256 self.now.text }
+    {
+        &self.digest
+    }
+
+    /// What the bundle stands for.
+    pub fn parts(&self) -> &Parts
+        ensures value { result.now ≡ self.now.test }
+        ensures design { IsDesign self.now }
+        ensures names { HasWordNames self.now.test }
+    {
+        &self.parts
+    }
+
+    /// The fault-free responses.
+    pub fn expected(&self) -> &Expected
+        ensures { result.now ≡ expected_rows self.now.test }
+    {
+        &self.expected
+    }
+}
+
+/// The design of four texts. Its text is their bundle.
+pub fn design_of(
+    alloc: Global,
+    name: &[u8],
+    netlist: &[u8],
+    scan: &[u8],
+    patterns: &[u8],
+    neighbours: &[u8],
+) -> Result<Design, BundleFault>
+    requires name { is_tag name.now ≡ true }
+    ensures name { IfOk result (λ design. design.name ≡ name.now) }
+    ensures text { IfOk result (λ design. design.text ≡ bundle_text (four netlist.now scan.now patterns.now neighbours.now)) }
+    ensures stands { IfOk result (λ design. texts_reading (four netlist.now scan.now patterns.now neighbours.now) ≡ Ok design.test) }
+    ensures fault { IfErr result (RefusedBy (texts_reading (four netlist.now scan.now patterns.now neighbours.now))) }
+{
+    let texts = Sections {
+        netlist,
+        scan,
+        patterns,
+        neighbours,
+    };
+    let parts = read_texts(alloc, &texts)?;
+    let design = design_with(alloc, name, netlist, scan, patterns, neighbours, parts)?;
+    Ok(design)
+}
+
+/// The same design, of four texts that were read and stand for the parts.
+pub fn design_with(
+    alloc: Global,
+    name: &[u8],
+    netlist: &[u8],
+    scan: &[u8],
+    patterns: &[u8],
+    neighbours: &[u8],
+    parts: Parts,
+) -> Result<Design, NoMemory>
+    requires name { is_tag name.now ≡ true }
+    requires stands { texts_reading (four netlist.now scan.now patterns.now neighbours.now) ≡ Ok parts }
+    ensures name { IfOk result (λ design. design.name ≡ name.now) }
+    ensures text { IfOk result (λ design. design.text ≡ bundle_text (four netlist.now scan.now patterns.now neighbours.now)) }
+    ensures test { IfOk result (λ design. design.test ≡ parts) }
+{
+    let texts = Sections {
+        netlist,
+        scan,
+        patterns,
+        neighbours,
+    };
+    let text = bundle_text(alloc, &texts)?;
+    Design::whole(alloc, name, text, parts)
+}
+
+/// The design of a bundle. Rule 81 comes before the rules of its sections.
+pub fn read_bundle(alloc: Global, name: &[u8], bytes: &[u8]) -> Result<Design, BundleFault>
+    requires name { is_tag name.now ≡ true }
+    ensures name { IfOk result (λ design. design.name ≡ name.now) }
+    ensures text { IfOk result (λ design. design.text ≡ bytes.now) }
+    ensures stands { IfOk result (λ design. bundle_reading bytes.now ≡ Ok design.test) }
+    ensures fault { IfErr result (RefusedBy (bundle_reading bytes.now)) }
+{
+    let texts = match split(bytes) {
+        Ok(texts) => texts,
+        Err(fault) => {
+            return Err(BundleFault::Text {
+                section: Section::Bundle,
+                fault,
+            });
+        }
+    };
+    let parts = read_texts(alloc, &texts)?;
+    let text = Name::copy_of(alloc, bytes)?;
+    Ok(Design::whole(alloc, name, text, parts)?)
+}

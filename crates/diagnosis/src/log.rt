@@ -1,0 +1,86 @@
+//! Logs that were read.
+ghost use Rattle.std.specs.Prelude.{◌≡◌, true, IfOk};
+ghost use Rattle.scan_model.specs.Words.{is_tag};
+ghost use Rattle.scan_model.specs.LogText.{log_frame, log_reading};
+ghost use Rattle.text_parts.specs.Gives.{Gives};
+
+use crate::design::Design;
+use fail_logs::read_log;
+use scan_model::{LogFacts, Name};
+use std::alloc::Global;
+use std::marker::Model;
+use text_parts::ReadFault;
+
+/// A fail log that was read: the names of its design and its die, its text, and what the text stands for.
+#[derive(Debug, Drop)]
+pub struct ReadLog {
+    design: Name,
+    die: Name,
+    text: Name,
+    facts: LogFacts,
+}
+
+impl Model for ReadLog {
+    ghost use Rattle.std.specs.Prelude.{◌≡◌, true};
+    ghost use Rattle.scan_model.specs.Words.{is_tag};
+    ghost use Rattle.diagnosis.specs.Designs.{ReadLogFacts};
+
+    ghost Value = { ReadLogFacts };
+
+    ghost view = { λ l. record { design = l.design; die = l.die; text = l.text; facts = l.facts } };
+
+    ghost invariant = { λ l. is_tag l.die ≡ true };
+}
+
+impl ReadLog {
+    /// The name of its design.
+    pub fn design(&self) -> &[u8]
+        ensures { result.now ≡ self.now.design }
+    {
+        self.design.as_slice()
+    }
+
+    /// The name of its die, a tag.
+    pub fn die(&self) -> &[u8]
+        ensures value { result.now ≡ self.now.die }
+        ensures tag { is_tag self.now.die ≡ true }
+    {
+        self.die.as_slice()
+    }
+
+    /// The text that was read.
+    pub fn text(&self) -> &[u8]
+        ensures { result.now ≡ self.now.text }
+    {
+        self.text.as_slice()
+    }
+
+    /// What the text stands for: the tested patterns and the failing bits.
+    pub fn facts(&self) -> &LogFacts
+        ensures { result.now ≡ self.now.facts }
+    {
+        &self.facts
+    }
+}
+
+/// The log of a die of the design, which keeps its text.
+pub fn log_of(
+    alloc: Global,
+    design: &Design,
+    die: &[u8],
+    bytes: &[u8],
+) -> Result<ReadLog, ReadFault>
+    requires die { is_tag die.now ≡ true }
+    ensures design { IfOk result (λ log. log.design ≡ design.now.name) }
+    ensures die { IfOk result (λ log. log.die ≡ die.now) }
+    ensures text { IfOk result (λ log. log.text ≡ bytes.now) }
+    ensures reading { Gives (λ log. log.facts) result (log_reading (log_frame design.now.test design.now.name die.now) bytes.now) }
+{
+    let facts = read_log(alloc, design.parts(), design.name(), die, bytes)?;
+    Ok(ReadLog {
+        design: Name::copy_of(alloc, design.name())?,
+        die: Name::copy_of(alloc, die)?,
+        text: Name::copy_of(alloc, bytes)?,
+        facts,
+    })
+}

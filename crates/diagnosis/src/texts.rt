@@ -1,0 +1,80 @@
+//! The four texts of a design, each read and judged before the next.
+ghost use Rattle.std.specs.Prelude.{◌≡◌, Ok, IfOk, IfErr};
+ghost use Rattle.scan_model.specs.Circuits.{IsCircuit};
+ghost use Rattle.scan_model.specs.ScanTest.{AreChains, ArePatterns, ArePairs};
+ghost use Rattle.scan_model.specs.NetlistText.{netlist_reading};
+ghost use Rattle.scan_model.specs.ScanText.{scan_reading};
+ghost use Rattle.scan_model.specs.PatternText.{pattern_frame, pattern_reading};
+ghost use Rattle.bridge_pairs.specs.PairText.{pairs_reading};
+ghost use Rattle.diagnosis.specs.declared.section.Section.TheVariants as section;
+ghost use Rattle.diagnosis.specs.Bundle.{in_section, texts_reading};
+ghost use Rattle.diagnosis.specs.Sections.{four_texts};
+ghost use Rattle.diagnosis.specs.Reading.{RefusedBy, ReadAs, IsIn};
+
+use crate::bundle::Sections;
+use crate::section::{BundleFault, Section};
+use scan_model::{Chain, Circuit, Pairs, Parts, Pattern, Rows};
+use std::alloc::Global;
+use text_parts::ReadFault;
+
+// What the reader of a section answered.
+fn in_section<X: Drop>(section: Section, answer: Result<X, ReadFault>) -> Result<X, BundleFault>
+    ensures { IsIn section answer result }
+{
+    match answer {
+        Ok(value) => Ok(value),
+        Err(ReadFault::Text(fault)) => Err(BundleFault::Text { section, fault }),
+        Err(ReadFault::NoMemory) => Err(BundleFault::NoMemory),
+    }
+}
+
+fn read_circuit(alloc: Global, text: &[u8]) -> Result<Circuit, BundleFault>
+    ensures reading { ReadAs (in_section section.Netlist (netlist_reading text.now)) result }
+    ensures fits { IfOk result IsCircuit }
+{
+    in_section(Section::Netlist, bench_reader::read_netlist(alloc, text))
+}
+
+fn read_chains(alloc: Global, circuit: &Circuit, text: &[u8]) -> Result<Rows<Chain>, BundleFault>
+    ensures reading { ReadAs (in_section section.Scan (scan_reading circuit.now.nets text.now)) result }
+    ensures fits { IfOk result (AreChains circuit.now) }
+{
+    in_section(Section::Scan, scan_text::read_scan(alloc, circuit, text))
+}
+
+fn read_patterns(
+    alloc: Global,
+    circuit: &Circuit,
+    chains: &Rows<Chain>,
+    text: &[u8],
+) -> Result<Rows<Pattern>, BundleFault>
+    ensures reading { ReadAs (in_section section.Patterns (pattern_reading (pattern_frame circuit.now chains.now) text.now)) result }
+    ensures fits { IfOk result (ArePatterns circuit.now chains.now) }
+{
+    in_section(
+        Section::Patterns,
+        scan_text::read_patterns(alloc, circuit, chains, text),
+    )
+}
+
+fn read_pairs(alloc: Global, circuit: &Circuit, text: &[u8]) -> Result<Pairs, BundleFault>
+    ensures reading { ReadAs (in_section section.Neighbours (pairs_reading circuit.now text.now)) result }
+    ensures fits { IfOk result (ArePairs circuit.now) }
+{
+    in_section(
+        Section::Neighbours,
+        bridge_pairs::read_pairs(alloc, circuit, text),
+    )
+}
+
+/// The parts that four texts stand for, or the first fault of the first of them that breaks a rule.
+pub fn read_texts(alloc: Global, texts: &Sections<'_>) -> Result<Parts, BundleFault>
+    ensures stands { IfOk result (λ parts. texts_reading (four_texts texts.now) ≡ Ok parts) }
+    ensures fault { IfErr result (RefusedBy (texts_reading (four_texts texts.now))) }
+{
+    let circuit = read_circuit(alloc, texts.netlist)?;
+    let chains = read_chains(alloc, &circuit, texts.scan)?;
+    let patterns = read_patterns(alloc, &circuit, &chains, texts.patterns)?;
+    let pairs = read_pairs(alloc, &circuit, texts.neighbours)?;
+    Ok(Parts::make(alloc, circuit, chains, patterns, pairs)?)
+}

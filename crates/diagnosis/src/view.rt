@@ -1,0 +1,124 @@
+//! A die with logs of it.
+ghost use Rattle.std.specs.Prelude.{◌≡◌, ◌∷◌, ◌++◌, ◌+◌, [], true, length, map, position, if◌then◌else◌, IfOk, OnErr};
+ghost use Rattle.std.specs.List.{position_or_len};
+ghost use Rattle.std.specs.Str.{bytes_eq};
+ghost use Rattle.std.specs.Arc.{arc_value};
+ghost use Rattle.scan_model.specs.Words.{is_tag, has_word};
+ghost use Rattle.diagnosis.specs.declared.put.Put.TheVariants.{Created, Same};
+ghost use Rattle.diagnosis.specs.Designs.{IsLogOf, IsView, texts_of};
+ghost use Rattle.diagnosis.specs.Adding.{Added};
+
+use crate::design::Design;
+use crate::log::ReadLog;
+use crate::put::Put;
+use scan_model::{Name, NoMemory, Rows};
+use std::alloc::Global;
+use std::marker::Model;
+use std::sync::Arc;
+
+/// A die of a design with different logs of it, in order.
+#[derive(Drop)]
+pub struct DieView {
+    design: Arc<Design>,
+    die: Name,
+    logs: Rows<Arc<ReadLog>>,
+}
+
+impl Model for DieView {
+    ghost use Rattle.std.specs.Prelude.{map};
+    ghost use Rattle.std.specs.Arc.{arc_value};
+    ghost use Rattle.diagnosis.specs.Designs.{ViewFacts, IsView};
+
+    ghost Value = { ViewFacts };
+
+    ghost view = { λ v. record { design = arc_value v.design; die = v.die; logs = map (λ log. arc_value log) v.logs } };
+
+    ghost invariant = { λ v. IsView (record { design = arc_value v.design; die = v.die; logs = map (λ log. arc_value log) v.logs }) };
+}
+
+impl DieView {
+    /// A die without logs.
+    pub fn make(alloc: Global, design: Arc<Design>, die: Name) -> Result<DieView, NoMemory>
+        requires { is_tag die ≡ true }
+        ensures { IfOk result (λ view. view ≡ record { design = arc_value design; die = die; logs = [] }) }
+    {
+        // The view's invariant rests on what the design says of itself.
+        let _name = design.name();
+        let logs = Rows::new(alloc);
+        Ok(DieView { design, die, logs })
+    }
+
+    /// Adds a log at the end, unless one of equal text is there; its number is its place from 1.
+    pub fn add(&mut self, log: Arc<ReadLog>) -> Result<Put, NoMemory>
+        requires { IsLogOf self.old.design self.old.die (arc_value log) }
+        ensures added { IfOk result (λ put. Added put (arc_value log) self.old self.new) }
+        ensures err { OnErr result (self.new ≡ self.old) }
+    {
+        if let Some(place) = place_of(self.logs.as_slice(), log.text()) {
+            let number = place as u64 + 1;
+            return Ok(Put::Same { number });
+        }
+        self.logs.push(log)?;
+        let number = self.logs.len() as u64;
+        Ok(Put::Created { number })
+    }
+
+    // The same die with the same logs once more.
+    pub(crate) fn copy(&self, alloc: Global) -> Result<DieView, NoMemory>
+        ensures { IfOk result (λ copy. copy ≡ self.now) }
+    {
+        Ok(DieView {
+            design: Arc::try_clone(&self.design)?,
+            die: Name::copy_of(alloc, self.die.as_slice())?,
+            logs: more_references(alloc, self.logs.as_slice())?,
+        })
+    }
+
+    /// The number of logs.
+    pub fn revision(&self) -> u64
+        ensures number { result ≡ length self.now.logs }
+        ensures view { IsView self.now }
+    {
+        self.logs.len() as u64
+    }
+
+    /// The design.
+    pub fn design(&self) -> &Arc<Design>
+        ensures { arc_value result.now ≡ self.now.design }
+    {
+        &self.design
+    }
+
+    /// The name of the die, a tag.
+    pub fn die(&self) -> &[u8]
+        ensures { result.now ≡ self.now.die }
+    {
+        self.die.as_slice()
+    }
+
+    /// The logs, in the order in which they were added.
+    pub fn logs(&self) -> &[Arc<ReadLog>]
+        ensures logs { map (λ log. arc_value log) result.now ≡ self.now.logs }
+        ensures view { IsView self.now }
+    {
+        self.logs.as_slice()
+    }
+}
+
+// More references to the same logs.
+fn more_references(alloc: Global, logs: &[Arc<ReadLog>]) -> Result<Rows<Arc<ReadLog>>, NoMemory>
+    ensures { IfOk result (λ copies. map (λ log. arc_value log) copies ≡ map (λ log. arc_value log) logs.now) }
+{
+    let mut copies = Rows::new(alloc);
+    for log in logs {
+        copies.push(Arc::try_clone(log)?)?;
+    }
+    Ok(copies)
+}
+
+// The place of the first log of that text.
+fn place_of(logs: &[Arc<ReadLog>], text: &[u8]) -> Option<usize>
+    ensures { result ≡ position (bytes_eq text.now) (texts_of (map (λ log. arc_value log) logs.now)) }
+{
+    logs.iter().position(|log| text == log.text())
+}
