@@ -9,7 +9,7 @@ cp -a "$top/crates" "$top/crates.txt" "$top/HANDLES" "$work"
 mkdir -p "$work/crates/book_logs/src" "$work/crates/book_logs/proofs/put_log"
 cp "$top/bench/book_logs/main.rt.in" "$work/crates/book_logs/src/main.rt"
 cp "$top/bench/book_logs/put_log.antt.in" "$work/crates/book_logs/proofs/put_log/Answers.antt"
-echo 'book_logs: scan_model text_parts desk_outside book' >>"$work/crates.txt"
+echo 'book_logs: scan_model text_parts desk_outside diagnosis book' >>"$work/crates.txt"
 cd "$work/crates/book_logs"
 rt run -- 1 >"$work/build.log" 2>&1 || { tail -5 "$work/build.log"; exit 1; }
 for count in 10000 20000 40000; do

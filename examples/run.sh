@@ -188,16 +188,40 @@ the_library_answers() {
     done <"$work/library-answers"
 }
 
+# crates_below NAME..: these crates of the repository and all that they stand on.
+crates_below() {
+    awk -F ': *' -v wanted="$*" '
+        { deps[$1] = $2 }
+        END {
+            count = split(wanted, due, " ")
+            while (count > 0) {
+                name = due[count--]
+                if (!(name in deps) || name in seen) continue
+                seen[name]
+                print name
+                more = split(deps[name], below, " ")
+                for (i = 1; i <= more; i++) due[++count] = below[i]
+            }
+        }
+    ' "$top/crates.txt"
+}
+
 # Makes the calls: the small program is proved and run with them as its stored run, by a gate of its own in a copy of the
 # crates that it rests on. What the gate proved is kept.
 make_calls() {
     copy=$work/repository
     crate=$copy/crates/book_calls
     mkdir -p "$crate/src" "$crate/proofs/calls/put_log"
-    cp -a "$top/crates" "$top/HANDLES" "$copy"
-    rm -r "$copy"/crates/*/must-fail "$copy/crates/worked_rows" "$copy/crates/scandesk"
-    grep -v '^worked_rows:\|^scandesk:' "$top/crates.txt" >"$copy/crates.txt"
-    echo 'book_calls: scan_model text_parts desk_outside fault_universe diag_report book hex' >>"$copy/crates.txt"
+    cp "$top/HANDLES" "$copy"
+    stands_on='scan_model text_parts desk_outside fault_universe diag_report diagnosis book hex'
+    # The names have no blanks.
+    # shellcheck disable=SC2086
+    for name in $(crates_below $stands_on); do
+        cp -a "$top/crates/$name" "$copy/crates"
+        rm -rf "$copy/crates/$name/must-fail"
+        grep "^$name:" "$top/crates.txt" >>"$copy/crates.txt"
+    done
+    echo "book_calls: $stands_on" >>"$copy/crates.txt"
     for source in "$top"/examples/book/*.rt.in; do
         cp "$source" "$crate/src/$(basename "$source" .in)"
     done

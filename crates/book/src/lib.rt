@@ -13,11 +13,8 @@ mod sign;
 pub use answers::{LookFault, PutFault};
 pub use book::Book;
 pub use diagnosis::{
-    BundleFault, Checked, Design, Diagnosis, DieView, Put, ReadLog, Section, Sections, bundle_text, check_report, design_of,
-    design_with, log_of, make_diagnosis, make_report, read_bundle,
+    BundleFault, Checked, Design, Diagnosis, DieView, Put, ReadLog, Section, Sections, bundle_text,
+    check_report, design_of, design_with, log_of, make_diagnosis, make_report, read_bundle,
 };
 pub use opening::{NotStarted, StartFault};
 pub use sign::Sign;
-
-#[cfg(test)]
-mod tests;

@@ -9,15 +9,13 @@ use Rattle.std.proofs.lemmas.List.Elements.{recursion_from_All}
 use mathlib.Core.Path.{fun_ext}
 use Rattle.scan_model.specs.declared.values.Tri.{Tri}
 use Rattle.scan_model.specs.declared.values.Tri.TheVariants.{Unknown}
-use Rattle.scan_model.specs.declared.circuit.Driver.{Driver}
-use Rattle.scan_model.specs.declared.circuit.Driver.TheVariants.{Input, Flop, Gate}
 use Rattle.scan_model.specs.declared.parts.Chain.{Chain}
 use Rattle.scan_model.specs.declared.parts.Point.{Point}
 use Rattle.scan_model.specs.declared.parts.Point.TheVariants.{Output, Cell}
 use Rattle.scan_model.specs.declared.parts.PatternKind.TheVariants.{Capture, Shift}
 use Rattle.scan_model.specs.declared.fault.Fault.{Fault}
 use Rattle.scan_model.specs.declared.fault.Fault.TheVariants as fault
-use Rattle.scan_model.specs.Netlist.{Netlist, IsNetlist, IsOperandCount, driver_of, net_at, pin_at}
+use Rattle.scan_model.specs.Netlist.{Netlist, IsNetlist, driver_of, pin_at}
 use Rattle.scan_model.specs.ChainShift.{value_at}
 use Rattle.scan_model.specs.ScanTest.{ScanTest, IsScanTest, IsFlop, IsPoint, chain_at, no_chain, no_pattern, pattern_at, points_of}
 use Rattle.scan_model.specs.Faults.{unloaded}
@@ -27,10 +25,13 @@ use Rattle.scan_model.proofs.Outputs.{output_pin-in_range, output_pin-only, outp
 use Rattle.scan_model.proofs.Points.{points_are_points}
 use Rattle.good_sim.specs.Valuation.{AreValues}
 use Rattle.good_sim.specs.declared.chains.Direction.TheVariants.{In, Out}
-use Rattle.good_sim.specs.Shifts.{shifted_rows, FitChains}
+use Rattle.scan_model.specs.Loads.{FitChains}
+use Rattle.scan_model.proofs.Cells.{data_pin-in_range, cells_are_flops}
+use Rattle.scan_model.proofs.Loads.{same_len, as_many}
+use Rattle.good_sim.specs.Shifts.{shifted_rows}
 use Rattle.good_sim.specs.Shown.{forced_over, outputs_over, captured_over, captured_rows_over, shown_at, HasPoint}
 use Rattle.good_sim.proofs.Shifting.{shifted_rows-at, shifted_rows-fit, length-shifted_rows}
-use Rattle.good_sim.proofs.Sources.{cells_within, same_len, as_many, unknowns}
+use Rattle.good_sim.proofs.Unknowns.{unknowns}
 
 -- a forced pin is that of the output, or isn't
 pub forced_at_output : (c : Netlist) (k q : ℕ) (v : Tri) → IsNetlist c → k < length c.outputs → q < length c.pins → is_at_output k (pin_at c q).place ≡ true → Some v ≡ cond (eqb (output_pin c k) q) (Some v) None
@@ -38,15 +39,6 @@ forced_at_output c k q v sound lt in_pins is = rw (eq-eqb (output_pin c k) q (sy
 
 pub not_at_output : (c : Netlist) (k q : ℕ) (v : Tri) → IsNetlist c → k < length c.outputs → is_at_output k (pin_at c q).place ≡ false → None ≡ cond (eqb (output_pin c k) q) (Some v) None
 not_at_output c k q v sound lt is_not = rw (ne_eqb (output_pin c k) q (λ same. both_ways (is_at_output k (pin_at c q).place) is_not (subst (λ p. is_at_output k (pin_at c p).place ≡ true) same (output_pin-at c k sound lt)))) refl
-
-one_operand : (c : Netlist) (n : ℕ) (x : Driver) (count : ℕ) → IsFlop x → IsOperandCount x count → count ≡ 1
-one_operand c n Input count flop h = absurd flop
-one_operand c n Flop count flop h = h
-one_operand c n (Gate kind) count flop h = absurd flop
-
--- the data pin of a flop is in range
-pub data_pin-in_range : (c : Netlist) (n : ℕ) → IsNetlist c → n < length c.nets → IsFlop (driver_of c n) → data_pin c n < length c.pins
-data_pin-in_range c n sound lt flop = omega (arith, sound.operand_range n lt, one_operand c n (driver_of c n) (net_at c n).pin_count flop (sound.operand_counts n lt))
 
 -- where nothing is forced on the pin of an output, the output shows its net
 pub shown_by_net : (c : Netlist) (forced : Forced) (values : List Tri) (k : ℕ) (d : Tri) → IsNetlist c → k < length c.outputs → length values ≡ length c.nets → None ≡ forced.pin (output_pin c k)
@@ -60,10 +52,6 @@ seen_same c e f u v p sound same agree lt = rw (same, agree (pin_at c p).net (so
 map_agree : {A : Type 0} (f g : A → Tri) (P : A → Type 0) (xs : List A) → ((x : A) → P x → f x ≡ g x) → AllByRecursion P xs → map f xs ≡ map g xs
 map_agree f g P [] agree all = refl
 map_agree f g P (x ∷ xs) agree all = rw (agree x all.0, map_agree f g P xs agree all.1) refl
-
--- the cells of a chain are flops of the circuit
-pub cells_are_flops : (t : ScanTest) (h : ℕ) (chain : Chain) → IsScanTest t → h < length t.chains → chain ≡ get_or t.chains h chain → All (λ n. (n < length t.netlist.nets) × IsFlop (driver_of t.netlist n)) chain.cells
-cells_are_flops t h chain sound lt is = cells_within (λ n. (n < length t.netlist.nets) × IsFlop (driver_of t.netlist n)) t.chains h chain lt is sound.chains.cells
 
 -- the values of the outputs and the unloaded rows show the response
 pub response_is : (t : ScanTest) (f : Option Fault) (w : ℕ) (outputs : List Tri) (rows : List (List Tri))

@@ -14,8 +14,9 @@ use Rattle.scan_model.specs.ChainShift.{loaded_at, unloaded_at}
 use Rattle.scan_model.specs.ScanTest.{ScanTest, HasSite, no_chain}
 use Rattle.good_sim.specs.declared.chains.Direction.{Direction}
 use Rattle.good_sim.specs.declared.chains.Direction.TheVariants.{In, Out}
-use Rattle.good_sim.specs.Shifts.{shifted_past, shifted, shifted_rows, FitChains, SitsWithinRows}
-use Rattle.good_sim.proofs.Sources.{same_len}
+use Rattle.scan_model.specs.Loads.{FitChains}
+use Rattle.scan_model.proofs.Loads.{same_len, length-loaded}
+use Rattle.good_sim.specs.Shifts.{shifted_past, shifted, shifted_rows, SitsWithinRows}
 
 -- a row keeps its length
 length-shifted_past : (d : Direction) (kind : CellKind) (c : ℕ) (row : List Tri) → length (shifted_past d kind c row) ≡ length row
@@ -23,14 +24,7 @@ length-shifted_past In kind c row = length-map-range_with_len (loaded_at kind c 
 length-shifted_past Out kind c row = length-map-range_with_len (unloaded_at kind c row) 0 (length row)
 
 length-shifted : (d : Direction) (f : Option Fault) (h : ℕ) (row : List Tri) → length (shifted d f h row) ≡ length row
-length-shifted In None h row = refl
-length-shifted In (Some (fault.Stem m v)) h row = refl
-length-shifted In (Some (fault.Branch p v)) h row = refl
-length-shifted In (Some (fault.Bridge a b kind)) h row = refl
-length-shifted In (Some (fault.Cell g c kind)) h row = elim (cases_Bool (eqb h g)) [
-  | inl same ↦ rw same (length-shifted_past In kind c row)
-  | inr other ↦ rw other refl
-]
+length-shifted In f h row = length-loaded f h row
 length-shifted Out None h row = refl
 length-shifted Out (Some (fault.Stem m v)) h row = refl
 length-shifted Out (Some (fault.Branch p v)) h row = refl

@@ -2,7 +2,6 @@
 use Rattle.std.specs.Prelude.{◌≡◌, ℕ, ◌<◌, List, [], map, length, Option, Some, None, slice_index_or}
 use Rattle.std.specs.List.{enumerate_from}
 use Rattle.scan_model.specs.declared.values.Tri.{Tri}
-use Rattle.scan_model.specs.declared.parts.Chain.{Chain}
 use Rattle.scan_model.specs.declared.fault.CellKind.{CellKind}
 use Rattle.scan_model.specs.declared.fault.Fault.{Fault}
 use Rattle.scan_model.specs.declared.fault.Fault.TheVariants as fault
@@ -24,10 +23,6 @@ shifted Out f h row = unloaded f h row
 -- what becomes of a row for each chain
 abbrev pub shifted_rows : Direction → Option Fault → List (List Tri) → List (List Tri)
 shifted_rows direction f rows = map (λ e. shifted direction f e.0 e.1) (enumerate_from 0 rows)
-
--- there is a row for each chain, with a value for each cell
-abbrev pub FitChains : List Chain → List (List Tri) → Type 0
-FitChains chains rows = map length rows ≡ map (λ h. length h.cells) chains
 
 -- if the fault sits in chain h, it sits behind one of its n cells
 abbrev pub SitsWithin : Option Fault → ℕ → ℕ → Type 0

@@ -24,3 +24,6 @@ pub mod PointCount
 pub mod LevelTests
 pub mod CandidatePlaces
 pub mod ExpectedRows
+pub mod Cells
+pub mod Loads
+pub mod counting

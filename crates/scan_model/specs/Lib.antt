@@ -32,3 +32,8 @@ pub mod ScanText
 pub mod PatternText
 pub mod LogText
 pub mod DieReport
+pub mod Loads
+pub mod Force
+pub mod BranchMask
+pub mod Masks
+pub mod ChainWalk

@@ -13,6 +13,7 @@ mod logs;
 mod pair_index;
 mod parts;
 mod rows;
+mod steps;
 mod test_order;
 mod values;
 
@@ -25,4 +26,5 @@ pub use logs::{Bit, BitClass, Counts, LogFacts, Scored};
 pub use pair_index::{PairPlace, nets_number};
 pub use parts::{Chain, Pair, Pairs, Parts, Pattern, PatternKind, Point};
 pub use rows::{Name, NoMemory, Rows};
+pub use steps::Steps;
 pub use values::{Tri, tri_and, tri_not, tri_or, tri_xor};

@@ -1,20 +1,12 @@
 //! The diagnosis desk on the command line: the outermost layer.
 #![tactic(auto)]
 
-mod command;
-mod commands;
-mod design;
 mod file_shelf;
-mod files;
-mod generator;
-mod page;
 mod stdout_sink;
-mod top;
-mod words;
 
 use crate::file_shelf::FileShelf;
 use crate::stdout_sink::StdoutSink;
-use crate::top::{finish, run};
+use desk_commands::{finish, run};
 use std::alloc::Global;
 use std::process::ExitCode;
 use std::rt::Env;

@@ -1,11 +1,5 @@
-//! Worked rows: small designs and logs whose answers are known from outside, tried across the crates.
+//! Worked rows: small designs and logs whose answers are known from outside, tried across the readers and the engines.
 #![tactic(auto)]
-
-mod die;
-mod parts;
-
-pub use die::report_of;
-pub use parts::parts_of;
 
 #[cfg(test)]
 mod tests;

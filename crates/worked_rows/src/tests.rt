@@ -1,5 +1,6 @@
 mod chains;
 mod circuits;
+mod dies;
 mod logs;
 mod neighbours;
 mod netlists;

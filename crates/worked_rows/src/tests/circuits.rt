@@ -1,3 +1,6 @@
+use diagnosis::{BundleFault, Design, design_of};
+use std::alloc::Global;
+
 pub(crate) fn c17() -> &'static str {
     "INPUT(1)\nINPUT(2)\nINPUT(3)\nINPUT(6)\nINPUT(7)\nOUTPUT(22)\nOUTPUT(23)\n10 = NAND(1, 3)\n11 = NAND(3, 6)\n16 = NAND(2, 11)\n19 = NAND(11, 7)\n22 = NAND(10, 16)\n23 = NAND(16, 19)\n"
 }
@@ -9,4 +12,31 @@ pub(crate) fn s27() -> &'static str {
 /// All flops of s27 in one chain.
 pub(crate) fn s27_chain() -> &'static str {
     "CHAIN c0 G5 G6 G7\n"
+}
+
+/// The design d of a netlist, a scan text and a pattern text, without neighbours.
+pub(crate) fn design(
+    alloc: Global,
+    netlist: &str,
+    scan: &str,
+    patterns: &str,
+) -> Result<Design, BundleFault> {
+    design_of(
+        alloc,
+        b"d",
+        netlist.as_bytes(),
+        scan.as_bytes(),
+        patterns.as_bytes(),
+        b"",
+    )
+}
+
+/// The same of c17, which has no chains.
+pub(crate) fn design_of_c17(alloc: Global, patterns: &str) -> Result<Design, BundleFault> {
+    design(alloc, c17(), "", patterns)
+}
+
+/// The same of s27 with its chain.
+pub(crate) fn design_of_s27(alloc: Global, patterns: &str) -> Result<Design, BundleFault> {
+    design(alloc, s27(), s27_chain(), patterns)
 }

@@ -1,16 +1,14 @@
-use super::circuits::{s27, s27_chain};
-use super::refusal::stops_at;
-use crate::parts_of;
+use super::circuits::design_of_s27;
+use diagnosis::{BundleFault, Section};
 use std::alloc::Global;
 
 fn is_refused(alloc: Global, text: &str, line: u64, rule: u32) -> bool {
-    let answer = parts_of(
-        alloc,
-        s27().as_bytes(),
-        s27_chain().as_bytes(),
-        text.as_bytes(),
-    );
-    stops_at(answer, line, rule)
+    match design_of_s27(alloc, text) {
+        Err(BundleFault::Text { section, fault }) => {
+            section == Section::Patterns && fault.line == line && fault.rule == rule
+        }
+        _ => false,
+    }
 }
 
 /// A text, and the line and the rule of its first fault.

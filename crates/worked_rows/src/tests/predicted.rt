@@ -1,29 +1,30 @@
-use super::circuits::{c17, s27, s27_chain};
-use crate::{parts_of, report_of};
+use super::circuits::{design_of_c17, design_of_s27};
+use super::dies::report_over;
 use diag_report::{Report, fails_text};
-use fail_logs::read_log;
+use diagnosis::{BundleFault, Design, log_of};
 use fault_universe::universe_len;
-use scan_model::{Name, Parts};
+use scan_model::{Name, NoMemory};
 use std::alloc::{AllocError, Global};
-use text_parts::ReadFault;
+use std::sync::Arc;
 
-/// The log that the fault at a place predicts of the die D1 of the design c17.
-fn predicted(alloc: Global, parts: &Parts, place: u32) -> Result<Option<Name>, ReadFault> {
-    if place >= universe_len(parts) {
+/// The log that the fault at a place predicts of the die D1 of the design.
+fn predicted(alloc: Global, design: &Design, place: u32) -> Result<Option<Name>, NoMemory> {
+    if place >= universe_len(design.parts()) {
         return Ok(None);
     }
-    Ok(Some(fails_text(alloc, parts, b"c17", b"D1", place)?))
+    let log = fails_text(alloc, design.parts(), design.name(), b"D1", place)?;
+    Ok(Some(log))
 }
 
-fn is_log(alloc: Global, place: u32, text: &str) -> Result<bool, ReadFault> {
-    let parts = parts_of(alloc, c17().as_bytes(), b"", b"CAPTURE 11111\n")?;
-    let log = predicted(alloc, &parts, place)?;
+fn is_log(alloc: Global, place: u32, text: &str) -> Result<bool, BundleFault> {
+    let design = design_of_c17(alloc, "CAPTURE 11111\n")?;
+    let log = predicted(alloc, &design, place)?;
     Ok(matches!(log, Some(log) if log.as_slice() == text.as_bytes()))
 }
 
 #[test]
 fn the_log_of_the_first_fault(rt: HostRuntime) {
-    let log = "FAILLOG 1\ndie D1\ndesign c17\ntested 0 0\nfail 0 out 22\nend\n";
+    let log = "FAILLOG 1\ndie D1\ndesign d\ntested 0 0\nfail 0 out 22\nend\n";
     assert!(rt; matches!(is_log(rt.alloc(), 0, log), Ok(true)));
 }
 
@@ -44,48 +45,51 @@ fn own_words(alloc: Global, place: u32, fails: usize) -> Result<String, AllocErr
 }
 
 /// Whether the fault at a place explains the log that it predicts, and no pass speaks against it.
-fn explains_itself(alloc: Global, parts: &Parts, place: u32) -> Result<bool, ReadFault> {
-    let Some(log) = predicted(alloc, parts, place)? else {
+fn explains_itself<R>(
+    rt: &R,
+    alloc: Global,
+    design: &Arc<Design>,
+    place: u32,
+) -> Result<bool, NoMemory> {
+    let Some(log) = predicted(alloc, design, place)? else {
         return Ok(false);
     };
-    let facts = read_log(alloc, parts, b"c17", b"D1", log.as_slice())?;
-    let report = report_of(alloc, parts, b"c17", b"D1", &facts)?;
-    let words = own_words(alloc, place, facts.fails.len())?;
+    let Ok(log) = log_of(alloc, design, b"D1", log.as_slice()) else {
+        return Ok(false);
+    };
+    let words = own_words(alloc, place, log.facts().fails.len())?;
+    let report = report_over(rt, alloc, design, b"D1", log)?;
     Ok(has(&report, &words))
 }
 
 /// Whether a design has so many faults, and each explains its own log.
-fn all_explain_themselves(
+fn all_explain_themselves<R>(
+    rt: &R,
     alloc: Global,
-    netlist: &str,
-    scan: &str,
-    patterns: &str,
+    design: Design,
     faults: u32,
-) -> Result<bool, ReadFault> {
-    let parts = parts_of(
-        alloc,
-        netlist.as_bytes(),
-        scan.as_bytes(),
-        patterns.as_bytes(),
-    )?;
+) -> Result<bool, NoMemory> {
+    let design = Arc::new(alloc, design)?;
     for place in 0..faults {
-        if !explains_itself(alloc, &parts, place)? {
+        if !explains_itself(rt, alloc, &design, place)? {
             return Ok(false);
         }
     }
-    Ok(universe_len(&parts) == faults)
+    Ok(universe_len(design.parts()) == faults)
 }
 
 #[test]
-fn each_fault_of_c17(rt: HostRuntime) {
-    let patterns = "CAPTURE 11111\nCAPTURE 10X01\nCAPTURE 01010\n";
-    let explained = all_explain_themselves(rt.alloc(), c17(), "", patterns, 34);
-    assert!(rt; matches!(explained, Ok(true)));
+fn each_fault_of_c17(rt: HostRuntime) -> Result<(), BundleFault> {
+    let alloc = rt.alloc();
+    let design = design_of_c17(alloc, "CAPTURE 11111\nCAPTURE 10X01\nCAPTURE 01010\n")?;
+    assert!(rt; all_explain_themselves(&rt, alloc, design, 34)?);
+    Ok(())
 }
 
 #[test]
-fn each_fault_of_s27(rt: HostRuntime) {
-    let patterns = "CAPTURE 0000 000\nSHIFT 101\nCAPTURE 1101 1X0\n";
-    let explained = all_explain_themselves(rt.alloc(), s27(), s27_chain(), patterns, 64);
-    assert!(rt; matches!(explained, Ok(true)));
+fn each_fault_of_s27(rt: HostRuntime) -> Result<(), BundleFault> {
+    let alloc = rt.alloc();
+    let design = design_of_s27(alloc, "CAPTURE 0000 000\nSHIFT 101\nCAPTURE 1101 1X0\n")?;
+    assert!(rt; all_explain_themselves(&rt, alloc, design, 64)?);
+    Ok(())
 }

@@ -1,34 +1,28 @@
 //! Responses: the outputs, then the cells from the last position to the first.
-use super::circuits::{s27, s27_chain};
-use crate::parts_of;
+use super::circuits::{design, design_of_s27};
 use chain_faults::{faulty_load, faulty_unload};
+use diagnosis::{BundleFault, Design};
 use fault_universe::{fault_at, universe_len};
 use good_sim::plain_response;
-use scan_model::{CellKind, Parts, Rows, Tri};
+use scan_model::{CellKind, NoMemory, Parts, Rows, Tri};
 use std::alloc::Global;
-use text_parts::ReadFault;
 
 const X: Tri = Tri::Unknown;
 
 /// The response in the first pattern under the fault at a place; without a fault where there is none.
-fn first_response(alloc: Global, parts: &Parts, place: u32) -> Result<Rows<Tri>, ReadFault> {
+fn first_response(alloc: Global, parts: &Parts, place: u32) -> Result<Rows<Tri>, NoMemory> {
     if parts.patterns().is_empty() {
         return Ok(Rows::new(alloc));
     }
-    Ok(plain_response(alloc, parts, 0, fault_at(parts, place))?)
+    plain_response(alloc, parts, 0, fault_at(parts, place))
 }
 
-fn response_of_s27(alloc: Global, patterns: &str, place: u32) -> Result<Rows<Tri>, ReadFault> {
-    let parts = parts_of(
-        alloc,
-        s27().as_bytes(),
-        s27_chain().as_bytes(),
-        patterns.as_bytes(),
-    )?;
-    first_response(alloc, &parts, place)
+fn response_of_s27(alloc: Global, patterns: &str, place: u32) -> Result<Rows<Tri>, BundleFault> {
+    let design = design_of_s27(alloc, patterns)?;
+    Ok(first_response(alloc, design.parts(), place)?)
 }
 
-fn shows(answer: Result<Rows<Tri>, ReadFault>, values: &[Tri]) -> bool {
+fn shows<E: Drop>(answer: Result<Rows<Tri>, E>, values: &[Tri]) -> bool {
     match answer {
         Ok(shown) => shown.as_slice() == values,
         Err(_) => false,
@@ -54,9 +48,9 @@ fn a_slow_cell_in_a_shift(rt: HostRuntime) {
 }
 
 /// A netlist in other letter case, with comments, and without an end of its last line.
-fn inverter(alloc: Global) -> Result<Parts, ReadFault> {
+fn inverter(alloc: Global) -> Result<Design, BundleFault> {
     let netlist = "# c\r\ninput(a)\r\nOUTPUT ( y )  # out\r\ny = nand(a)";
-    parts_of(alloc, netlist.as_bytes(), b"", b"CAPTURE 1\n")
+    design(alloc, netlist, "", "CAPTURE 1\n")
 }
 
 fn has_sizes(parts: &Parts) -> bool {
@@ -65,10 +59,10 @@ fn has_sizes(parts: &Parts) -> bool {
         && universe_len(parts) == 4
 }
 
-fn inverts(alloc: Global) -> Result<bool, ReadFault> {
-    let parts = inverter(alloc)?;
-    let answer = first_response(alloc, &parts, 4);
-    Ok(has_sizes(&parts) && shows(answer, &[Tri::Zero]))
+fn inverts(alloc: Global) -> Result<bool, BundleFault> {
+    let design = inverter(alloc)?;
+    let answer = first_response(alloc, design.parts(), 4);
+    Ok(has_sizes(design.parts()) && shows(answer, &[Tri::Zero]))
 }
 
 #[test]

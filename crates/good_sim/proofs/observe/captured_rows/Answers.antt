@@ -1,4 +1,4 @@
-use Rattle.good_sim.proofs.Observing.{cells_are_flops}
+use Rattle.scan_model.proofs.Cells.{cells_are_flops}
 use Rattle.good_sim.proofs.observe.captured_rows.Goals as goal
 
 pub captured_row-requires-clause-cells : goal.captured_row-requires-clause-cells

@@ -1,0 +1,84 @@
+#!/bin/sh
+# Runs `rt ci --anew` at the top of the repository, with the words of this script after it, and prints where its processor
+# time went: for each crate the seconds of its proof, of its tests and of its must-fail edits, with their number, and the
+# whole in minutes. The provers are looked at once a second in the process table, so each counts up to a second too little;
+# what no prover took (compilers, programs, tests that run) stands as the rest. The status is that of the gate.
+top=$(CDPATH='' cd -- "$(dirname -- "$0")/.." && pwd) || exit 1
+cd "$top" || exit 1
+exec python3 - "$@" <<'PY'
+import collections, os, resource, subprocess, sys, time
+
+TICKS = os.sysconf('SC_CLK_TCK')
+
+
+def stat_of(pid):
+    """The parent, the start and the processor seconds of a process."""
+    with open(f'/proc/{pid}/stat', encoding='utf-8', errors='replace') as stat:
+        fields = stat.read().rpartition(')')[2].split()
+    return int(fields[1]), fields[19], (int(fields[11]) + int(fields[12])) / TICKS
+
+
+def words_of(pid):
+    with open(f'/proc/{pid}/cmdline', 'rb') as words:
+        return words.read().decode(errors='replace').split('\0')
+
+
+def kind_of(pid, words):
+    """The crate that a prover works on, and what for."""
+    if os.path.basename(words[0]) != 'rattle' or '--crate-name' not in words:
+        return None
+    crate = words[words.index('--crate-name') + 1]
+    if '/rt-edit' in os.readlink(f'/proc/{pid}/cwd'):
+        return crate, 'edits'
+    return crate, 'tests' if '--test' in words else 'proof'
+
+
+def look(root, taken):
+    """Notes the time of each prover below the process root."""
+    processes = {}
+    for pid in filter(str.isdigit, os.listdir('/proc')):
+        try:
+            processes[int(pid)] = stat_of(pid)
+        except (OSError, IndexError):
+            continue
+    below, due = set(), [root]
+    while due:
+        at = due.pop()
+        more = [pid for pid, (parent, _, _) in processes.items() if parent == at and pid not in below]
+        below.update(more)
+        due += more
+    for pid in below:
+        _, start, seconds = processes[pid]
+        try:
+            kind = taken[pid, start][0] if (pid, start) in taken else kind_of(pid, words_of(pid))
+        except (OSError, ValueError, IndexError):
+            continue
+        if kind:
+            taken[pid, start] = kind, seconds
+
+
+def tell(taken, whole, passed):
+    sums, edits = collections.Counter(), collections.Counter()
+    for kind, seconds in taken.values():
+        sums[kind] += seconds
+        edits[kind[0]] += kind[1] == 'edits'
+    print(f'{"crate":16} {"proof":>8} {"tests":>8} {"edits":>8} {"number":>8} {"all":>8}')
+    crates = sorted({crate for crate, _ in sums}, key=lambda crate: -sum(sums[crate, kind] for kind in ('proof', 'tests', 'edits')))
+    for crate in crates:
+        row = [sums[crate, kind] for kind in ('proof', 'tests', 'edits')]
+        print(f'{crate:16} {row[0]:8.0f} {row[1]:8.0f} {row[2]:8.0f} {edits[crate]:8} {sum(row):8.0f}')
+    columns = [sum(seconds for (_, kind), seconds in sums.items() if kind == column) for column in ('proof', 'tests', 'edits')]
+    print(f'{"all":16} {columns[0]:8.0f} {columns[1]:8.0f} {columns[2]:8.0f} {sum(edits.values()):8} {sum(columns):8.0f}')
+    print(f'the rest {whole - sum(columns):.0f} s; the whole {whole / 60:.1f} minutes of processors, {passed / 60:.1f} minutes by the clock')
+
+
+begun = time.monotonic()
+gate = subprocess.Popen(['rt', 'ci', '--anew', *sys.argv[1:]])
+taken = {}
+while gate.poll() is None:
+    look(gate.pid, taken)
+    time.sleep(1)
+used = resource.getrusage(resource.RUSAGE_CHILDREN)
+tell(taken, used.ru_utime + used.ru_stime, time.monotonic() - begun)
+sys.exit(gate.returncode)
+PY

@@ -1,0 +1,5 @@
+mod bundles;
+mod changes;
+mod opening;
+mod signing;
+mod texts;

@@ -1,0 +1,88 @@
+//! Sign-offs.
+use super::changes::{FAILS, PASSES, c17, is_created, is_same, opened, put_log};
+use book::{Book, LookFault, Put, PutFault, check_report};
+use desk_outside::MemKeeper;
+use scan_model::{Digest, Name, NoMemory};
+use std::alloc::Global;
+
+/// SHA-256 of the report of c17's die of which 22 fails.
+pub const RIGHT: [u8; 32] = [
+    0xf8, 0xb6, 0x58, 0xff, 0x1c, 0x75, 0x35, 0xfc, 0xdb, 0x3e, 0x94, 0xbb, 0xc5, 0x99, 0x98, 0xac,
+    0xa3, 0xc6, 0x39, 0xea, 0x60, 0xab, 0xb6, 0x00, 0xf8, 0x5c, 0x4b, 0x97, 0x4f, 0xf6, 0xae, 0x23,
+];
+
+// Signs revision 1 of die D1.
+fn sign<R>(
+    rt: &R,
+    alloc: Global,
+    book: &mut Book<MemKeeper>,
+    digest: &Digest,
+) -> Result<Put, PutFault> {
+    let Ok(view) = book.look_die(b"c17", b"D1", Some(1)) else {
+        return Err(PutFault::UnknownDesign);
+    };
+    if view.revision() == 0 {
+        return Err(PutFault::UnknownDesign);
+    }
+    let Ok(checked) = check_report(rt, alloc, &view) else {
+        return Err(PutFault::NoMemory);
+    };
+    let Ok(signer) = Name::copy_of(alloc, b"ann") else {
+        return Err(PutFault::NoMemory);
+    };
+    book.sign(0, &checked, &signer, digest)
+}
+
+fn is_right(put: &Result<Put, PutFault>) -> bool {
+    match put {
+        Err(PutFault::DigestDiffers { right }) => right.as_bytes() == &RIGHT,
+        _ => false,
+    }
+}
+
+// Whether sign-off 1 of die D1 is of revision 1 with the right digest.
+fn is_signed(book: &Book<MemKeeper>) -> bool {
+    match book.look_sign(b"c17", b"D1", 1) {
+        Ok(sign) => sign.revision == 1 && sign.digest.as_bytes() == &RIGHT,
+        Err(_) => false,
+    }
+}
+
+#[test]
+fn a_sign_off_stays_with_its_revision(rt: HostRuntime) -> Result<(), NoMemory> {
+    let alloc = rt.alloc();
+    let mut book = opened(&rt, alloc, 0, 10)?;
+    let design = c17(alloc, b"11111")?;
+    assert!(rt; is_created(&book.put_design(0, &design), 1));
+    assert!(rt; is_created(&put_log(alloc, &mut book, FAILS), 1));
+    let wrong = Digest::from_bytes([0; 32]);
+    let right = Digest::from_bytes(RIGHT);
+    assert!(rt; is_right(&sign(&rt, alloc, &mut book, &wrong)));
+    assert!(rt; is_created(&sign(&rt, alloc, &mut book, &right), 1));
+    assert!(rt; is_created(&put_log(alloc, &mut book, PASSES), 2));
+    assert!(rt; is_same(&sign(&rt, alloc, &mut book, &right), 1));
+    assert!(rt; is_signed(&book));
+    Ok(())
+}
+
+#[test]
+fn a_revision_that_is_not_there_is_told(rt: HostRuntime) -> Result<(), NoMemory> {
+    let alloc = rt.alloc();
+    let mut book = opened(&rt, alloc, 0, 10)?;
+    let design = c17(alloc, b"11111")?;
+    assert!(rt; is_created(&book.put_design(0, &design), 1));
+    assert!(rt;
+        matches!(
+            book.look_die(b"c17", b"D1", None),
+            Err(LookFault::UnknownDie)
+        )
+    );
+    assert!(rt; is_created(&put_log(alloc, &mut book, FAILS), 1));
+    assert!(rt;
+        matches!(
+            book.look_die(b"c17", b"D1", Some(2)),
+            Err(LookFault::UnknownRevision { have: 1 })
+        )
+    );
+    Ok(())
+}

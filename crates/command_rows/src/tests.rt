@@ -1,0 +1,7 @@
+mod commands;
+mod designs;
+mod files;
+mod refusals;
+mod reports;
+mod runs;
+mod words;

@@ -1,0 +1,54 @@
+//! Summaries and bundles. A demonstration takes too long for a test: `examples/run.sh` runs it.
+use super::runs::ran_after;
+use diag_report::summary_text;
+use diagnosis::read_bundle;
+use std::test::Fail;
+
+const SUMMARY: &[u8] = b"\
+inputs 5\n\
+outputs 2\n\
+nets 11\n\
+pins 14\n\
+chains 0\n\
+cells 0\n\
+patterns 1\n\
+pairs 0\n\
+left-out 0\n\
+faults 34\n\
+";
+
+const WITH_PAIRS: &[u8] = b"\
+inputs 5\n\
+outputs 2\n\
+nets 11\n\
+pins 14\n\
+chains 0\n\
+cells 0\n\
+patterns 1\n\
+pairs 2\n\
+left-out 1\n\
+faults 42\n\
+left-out-row 3 3 10\n\
+";
+
+#[test]
+fn a_design_is_counted(rt: HostRuntime) -> Result<(), Fail> {
+    for (near, summary) in [("near", SUMMARY), ("pairs", WITH_PAIRS)] {
+        let (status, text) = ran_after(&rt, "check", &["net", "scan", "pat", near])?;
+        assert_eq!(rt; status, 0);
+        assert_eq!(rt; text.as_slice(), summary);
+    }
+    Ok(())
+}
+
+// The patterns have no LF at their end.
+#[test]
+fn a_packed_design_reads_back(rt: HostRuntime) -> Result<(), Fail> {
+    let (status, text) = ran_after(&rt, "pack", &["net", "scan", "bare", "near"])?;
+    assert_eq!(rt; status, 0);
+    assert!(rt; text.ends_with(b"\n%scan\n%patterns\nCAPTURE 11111\n%neighbours\n"));
+    let design = read_bundle(rt.alloc(), b"c17", &text)?;
+    let summary = summary_text(rt.alloc(), design.parts())?;
+    assert_eq!(rt; summary.as_slice(), SUMMARY);
+    Ok(())
+}

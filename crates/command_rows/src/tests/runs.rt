@@ -1,0 +1,44 @@
+//! Runs over memory.
+use super::files::files_in_memory;
+use desk_commands::run;
+use desk_outside::{File, MemShelf, MemSink, are_distinct};
+use scan_model::Rows;
+use std::alloc::{AllocError, Global};
+use std::test::Fail;
+
+fn strings(alloc: Global, command: &str, words: &[&str]) -> Result<Vec<String>, AllocError> {
+    let mut all = Vec::new(alloc);
+    all.push(String::from_str(alloc, command)?)?;
+    for word in words {
+        all.push(String::from_str(alloc, word)?)?;
+    }
+    Ok(all)
+}
+
+/// The status and the text of a command with these words after it.
+pub fn ran_after(rt: &HostRuntime, command: &str, words: &[&str]) -> Result<(u8, Vec<u8>), Fail> {
+    let held = files_in_memory(rt.alloc())?;
+    ran_over(rt, held, command, words, &[], &[])
+}
+
+/// The same over a shelf with these files, where these reads of the shelf and these writes to the sink fail.
+pub fn ran_over(
+    rt: &HostRuntime,
+    held: Rows<File>,
+    command: &str,
+    words: &[&str],
+    failing_reads: &[u64],
+    failing_writes: &[u64],
+) -> Result<(u8, Vec<u8>), Fail> {
+    let alloc = rt.alloc();
+    let words = strings(alloc, command, words)?;
+    if !are_distinct(held.as_slice()) {
+        Err::<(), _>("a name stands twice")?;
+    }
+    let failing_reads = Rows::from_vec(Vec::from_slice(alloc, failing_reads)?);
+    let failing_writes = Rows::from_vec(Vec::from_slice(alloc, failing_writes)?);
+    let mut shelf = MemShelf::make_failing(alloc, held, failing_reads)?;
+    let mut sink = MemSink::make_failing(alloc, Rows::new(alloc), failing_writes)?;
+    let status = run(rt, alloc, &words, &mut shelf, &mut sink);
+    Ok((status, Vec::from_slice(alloc, sink.bytes())?))
+}

@@ -1,0 +1,29 @@
+//! `check`: the summary of the design of four files.
+ghost use Rattle.std.specs.Prelude.{◌≡◌, ◌≤◌, List, Some, true};
+ghost use Rattle.desk_outside.specs.declared.shelf.File.{File};
+ghost use Rattle.desk_outside.specs.Faults.{Rose};
+ghost use Rattle.desk_commands.specs.Work.{check_reading};
+ghost use Rattle.desk_commands.specs.Requests.{named_files};
+ghost use Rattle.desk_commands.specs.Stops.{Follows, ends_by_fault};
+
+use crate::command::DesignFiles;
+use crate::design::read_design;
+use crate::files::Stop;
+use desk_outside::Shelf;
+use diag_report::summary_text;
+use scan_model::Name;
+use std::alloc::Global;
+
+/// The summary of the design of the files of these names.
+pub fn summary_of<'a, F: Shelf>(
+    alloc: Global,
+    shelf: &mut F,
+    files: &DesignFiles<'a>,
+) -> Result<Name, Stop<'a>>
+    ensures told { (held : List File) → F.files shelf.old ≡ Some held → Follows result (check_reading held (named_files files.now)) }
+    ensures fault { ends_by_fault result ≡ true → Rose (F.faults shelf.old) (F.faults shelf.new) }
+    ensures later { F.faults shelf.old ≤ F.faults shelf.new }
+{
+    let design = read_design(alloc, shelf, files)?;
+    Ok(summary_text(alloc, &design.parts)?)
+}

@@ -1,0 +1,141 @@
+//! `demo`: a design that is made, a fault that is put into it, and its diagnosis.
+mod diagnosed;
+mod injected;
+mod lines;
+
+ghost use Rattle.std.specs.Prelude.{◌≡◌, ◌≤◌, ◌++◌, Some, Ok, IfOk, IfErr, OnOk, IfSome};
+ghost use Rattle.scan_model.specs.ReportText as text_of;
+ghost use Rattle.diagnosis.specs.Bundle.{texts_reading};
+ghost use Rattle.diagnosis.specs.Reading.{RefusedBy};
+ghost use Rattle.desk_commands.specs.Demo.{demo_name, demo_output, injected_lines, section_word};
+ghost use Rattle.desk_commands.specs.Injected.{IsFound, IsAfterTexts, IsText, IsRefusal, place_of, texts_of};
+
+use crate::command::Demo;
+use crate::commands::demo::diagnosed::diagnosis_of;
+use crate::commands::demo::injected::{Injected, inject};
+use crate::commands::demo::lines::{add_count, add_digest, add_head, add_injected, add_rank};
+use crate::generator::draws::Draws;
+use crate::generator::{Made, made_design};
+use crate::page::{Page, line_page, rule_line};
+use diagnosis::{BundleFault, Design, Section, design_of};
+use scan_model::{Name, NoMemory, Rows};
+use std::alloc::Global;
+
+fn section_name(section: Section) -> &'static str
+    ensures { result.now ≡ section_word section }
+{
+    match section {
+        Section::Bundle => "bundle",
+        Section::Netlist => "netlist",
+        Section::Scan => "scan",
+        Section::Patterns => "patterns",
+        Section::Neighbours => "neighbours",
+        Section::Log => "log",
+    }
+}
+
+// The page of texts that are refused.
+fn refused_page(alloc: Global, fault: BundleFault) -> Result<Page, NoMemory>
+    ensures { IfOk result (λ page. IsRefusal fault page.status page.text) }
+{
+    match fault {
+        BundleFault::Text { section, fault } => {
+            let line = rule_line(alloc, section_name(section), fault)?;
+            line_page(alloc, 3, &line)
+        }
+        BundleFault::NoMemory => Err(NoMemory),
+    }
+}
+
+// Adds the lines of the fault that is put in and of its diagnosis.
+fn add_diagnosis<R>(
+    rt: &R,
+    alloc: Global,
+    text: &mut Name,
+    design: Design,
+    injected: Injected,
+) -> Result<(), NoMemory>
+    requires name { design.name ≡ demo_name }
+    requires found { IsFound design.test injected }
+    ensures { OnOk result (text.new ≡ text.old ++ text_of.joined (injected_lines design.test (Some injected.place))) }
+{
+    let place = injected.place;
+    add_injected(alloc, text, design.parts(), place)?;
+    add_count(
+        alloc,
+        text,
+        "fails",
+        injected.log.facts().fails.len() as u64,
+    )?;
+    let diagnosis = diagnosis_of(rt, alloc, design, injected)?;
+    add_count(alloc, text, "candidates", diagnosis.candidates.len() as u64)?;
+    add_rank(alloc, text, diagnosis.candidates.as_slice(), place)?;
+    add_digest(text, diagnosis.report.bytes())
+}
+
+// Adds the lines of what was found.
+fn add_found<R>(
+    rt: &R,
+    alloc: Global,
+    text: &mut Name,
+    design: Design,
+    injected: Option<Injected>,
+) -> Result<(), NoMemory>
+    requires name { design.name ≡ demo_name }
+    requires found { IfSome injected (IsFound design.test) }
+    ensures { OnOk result (text.new ≡ text.old ++ text_of.joined (injected_lines design.test (place_of injected))) }
+{
+    match injected {
+        None => text.append(b"injected none\n"),
+        Some(injected) => add_diagnosis(rt, alloc, text, design, injected),
+    }
+}
+
+// The page of the design that was made, with the draws that come after its texts.
+fn page_of_design<R>(
+    rt: &R,
+    alloc: Global,
+    demo: Demo,
+    design: Design,
+    draws: &mut Draws,
+) -> Result<Page, NoMemory>
+    requires name { design.name ≡ demo_name }
+    requires draws { IsAfterTexts demo.seed demo.blocks draws.old.state }
+    ensures status { IfOk result (λ page. page.status ≡ 0) }
+    ensures text { IfOk result (λ page. IsText demo.seed demo.blocks design.test page.text) }
+{
+    let injected = inject(alloc, &design, draws)?;
+    let mut text = Rows::new(alloc);
+    add_head(alloc, &mut text, demo, design.parts())?;
+    add_found(rt, alloc, &mut text, design, injected)?;
+    Ok(Page { status: 0, text })
+}
+
+// The design of the texts that were made.
+fn read_made(alloc: Global, made: &Made) -> Result<Design, BundleFault>
+    ensures name { IfOk result (λ design. design.name ≡ demo_name) }
+    ensures stands { IfOk result (λ design. texts_reading (texts_of made.now) ≡ Ok design.test) }
+    ensures fault { IfErr result (RefusedBy (texts_reading (texts_of made.now))) }
+{
+    design_of(
+        alloc,
+        b"demo",
+        made.netlist.as_slice(),
+        made.scan.as_slice(),
+        made.patterns.as_slice(),
+        made.neighbours.as_slice(),
+    )
+}
+
+/// The page of a made design.
+pub fn demo_page<R>(rt: &R, alloc: Global, demo: Demo) -> Result<Page, NoMemory>
+    requires { demo.blocks ≤ 200 }
+    ensures status { IfOk result (λ page. page.status ≡ (demo_output demo.seed demo.blocks).status) }
+    ensures text { IfOk result (λ page. page.text ≡ (demo_output demo.seed demo.blocks).text) }
+{
+    let mut made = made_design(alloc, demo.seed, demo.blocks)?;
+    match read_made(alloc, &made) {
+        Ok(design) => page_of_design(rt, alloc, demo, design, &mut made.draws),
+        Err(fault) => refused_page(alloc, fault),
+    }
+}

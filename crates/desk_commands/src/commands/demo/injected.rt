@@ -1,0 +1,78 @@
+//! The fault that is put in.
+ghost use Rattle.std.specs.Prelude.{◌≡◌, ◌<◌, ℕ, length, IfOk, IfSome};
+ghost use Rattle.scan_model.specs.Universe.{universe};
+ghost use Rattle.desk_commands.specs.Demo.{demo_name};
+ghost use Rattle.desk_commands.specs.Injected.{IsOwnLog, IsFound, IsFirst, IsAfterTexts, IsDrawn, place_of};
+
+use crate::generator::draws::Draws;
+use diag_report::fails_text;
+use diagnosis::{Design, ReadLog, log_of};
+use fault_universe::universe_len;
+use scan_model::NoMemory;
+use std::alloc::Global;
+use text_parts::ReadFault;
+
+/// How many places are tried.
+const TRIES: u64 = 256;
+
+/// The place of a fault that predicts a fail, with the log that it predicts.
+#[derive(Debug, Drop)]
+pub struct Injected {
+    pub place: u32,
+    pub log: ReadLog,
+}
+
+// The log that the fault at a place predicts, as it is read.
+fn own_log(alloc: Global, design: &Design, place: u32) -> Result<ReadLog, NoMemory>
+    requires name { design.now.name ≡ demo_name }
+    requires place { place < length (universe design.now.test) }
+    ensures { IfOk result (IsOwnLog design.now.test place) }
+{
+    let text = fails_text(alloc, design.parts(), b"demo", b"demo", place)?;
+    match log_of(alloc, design, b"demo", text.as_slice()) {
+        Ok(log) => Ok(log),
+        Err(ReadFault::Text(_)) => unreachable!(),
+        Err(ReadFault::NoMemory) => Err(NoMemory),
+    }
+}
+
+// The first of the tried places from this one on, of so many, whose fault predicts a fail.
+fn first_failing(
+    alloc: Global,
+    design: &Design,
+    first: u32,
+    count: u32,
+) -> Result<Option<Injected>, NoMemory>
+    requires name { design.now.name ≡ demo_name }
+    requires count { count ≡ length (universe design.now.test) }
+    requires some { 0 < count }
+    ensures found { IfOk result (λ injected. IfSome injected (IsFound design.now.test)) }
+    ensures first { IfOk result (λ injected. IsFirst design.now.test first (place_of injected)) }
+{
+    for i in 0..TRIES {
+        let place = ((u64::from(first) + i) % u64::from(count)) as u32;
+        let log = own_log(alloc, design, place)?;
+        if !log.facts().fails.is_empty() {
+            return Ok(Some(Injected { place, log }));
+        }
+    }
+    Ok(None)
+}
+
+/// The first fault from a drawn place on, round the end, that predicts a fail; none where none of those that are tried does.
+pub fn inject(
+    alloc: Global,
+    design: &Design,
+    draws: &mut Draws,
+) -> Result<Option<Injected>, NoMemory>
+    requires { design.now.name ≡ demo_name }
+    ensures found { IfOk result (λ injected. IfSome injected (IsFound design.now.test)) }
+    ensures drawn { (seed blocks : ℕ) → IsAfterTexts seed blocks draws.old.state → IfOk result (λ injected. IsDrawn seed blocks design.now.test (place_of injected)) }
+{
+    let count = universe_len(design.parts());
+    if count == 0 {
+        return Ok(None);
+    }
+    let first = draws.draw(count);
+    first_failing(alloc, design, first, count)
+}

@@ -1,0 +1,147 @@
+//! The files of a design, each read and judged before the next is read.
+ghost use Rattle.std.specs.Prelude.{◌≡◌, ◌≤◌, List, Some, Ok, IfOk, true};
+ghost use Rattle.desk_outside.specs.declared.shelf.File.{File};
+ghost use Rattle.desk_outside.specs.Faults.{Rose};
+ghost use Rattle.scan_model.specs.Circuits.{IsCircuit};
+ghost use Rattle.scan_model.specs.ScanTest.{AreChains, ArePatterns, ArePairs};
+ghost use Rattle.scan_model.specs.NetlistText.{netlist_reading};
+ghost use Rattle.scan_model.specs.ScanText.{scan_reading};
+ghost use Rattle.scan_model.specs.PatternText.{pattern_frame, pattern_reading};
+ghost use Rattle.bridge_pairs.specs.PairText.{pairs_reading};
+ghost use Rattle.diagnosis.specs.Bundle.{texts_reading};
+ghost use Rattle.diagnosis.specs.Reading.{four};
+ghost use Rattle.desk_commands.specs.Designs.{shown_file, shown_design};
+ghost use Rattle.desk_commands.specs.Work.{netlist_file, scan_file, pattern_file, neighbour_file, design_reading};
+ghost use Rattle.desk_commands.specs.Requests.{named_files};
+ghost use Rattle.desk_commands.specs.Stops.{Follows, shown, ends_by_fault};
+
+use crate::command::DesignFiles;
+use crate::files::{Stop, named, read_text};
+use desk_outside::Shelf;
+use scan_model::{Chain, Circuit, Name, Pairs, Parts, Pattern, Rows};
+use std::alloc::Global;
+
+// A file that was read: its text, and what the text stands for.
+#[derive(Drop)]
+struct FileText<X> {
+    text: Name,
+    value: X,
+}
+
+/// The four texts of a design, and the scan test that they stand for.
+#[derive(Drop)]
+pub struct ReadDesign {
+    pub netlist: Name,
+    pub scan: Name,
+    pub patterns: Name,
+    pub neighbours: Name,
+    pub parts: Parts,
+}
+
+fn read_circuit<'a, F: Shelf>(
+    alloc: Global,
+    shelf: &mut F,
+    files: &DesignFiles<'a>,
+) -> Result<FileText<Circuit>, Stop<'a>>
+    ensures told { (held : List File) → F.files shelf.old ≡ Some held → Follows (shown shown_file result) (netlist_file held (named_files files.now)) }
+    ensures stands { IfOk result (λ file. netlist_reading file.text ≡ Ok file.value) }
+    ensures fits { IfOk result (λ file. IsCircuit file.value) }
+    ensures fault { ends_by_fault result ≡ true → Rose (F.faults shelf.old) (F.faults shelf.new) }
+    ensures same { F.files shelf.new ≡ F.files shelf.old }
+    ensures later { F.faults shelf.old ≤ F.faults shelf.new }
+{
+    let text = read_text(alloc, shelf, files.netlist)?;
+    let answer = bench_reader::read_netlist(alloc, text.as_slice());
+    let value = named(files.netlist, answer)?;
+    Ok(FileText { text, value })
+}
+
+fn read_chains<'a, F: Shelf>(
+    alloc: Global,
+    shelf: &mut F,
+    files: &DesignFiles<'a>,
+    circuit: &Circuit,
+) -> Result<FileText<Rows<Chain>>, Stop<'a>>
+    ensures told { (held : List File) → F.files shelf.old ≡ Some held → Follows (shown shown_file result) (scan_file held (named_files files.now) circuit.now) }
+    ensures stands { IfOk result (λ file. scan_reading circuit.now.nets file.text ≡ Ok file.value) }
+    ensures fits { IfOk result (λ file. AreChains circuit.now file.value) }
+    ensures fault { ends_by_fault result ≡ true → Rose (F.faults shelf.old) (F.faults shelf.new) }
+    ensures same { F.files shelf.new ≡ F.files shelf.old }
+    ensures later { F.faults shelf.old ≤ F.faults shelf.new }
+{
+    let text = read_text(alloc, shelf, files.scan)?;
+    let answer = scan_text::read_scan(alloc, circuit, text.as_slice());
+    let value = named(files.scan, answer)?;
+    Ok(FileText { text, value })
+}
+
+fn read_patterns<'a, F: Shelf>(
+    alloc: Global,
+    shelf: &mut F,
+    files: &DesignFiles<'a>,
+    circuit: &Circuit,
+    chains: &Rows<Chain>,
+) -> Result<FileText<Rows<Pattern>>, Stop<'a>>
+    ensures told { (held : List File) → F.files shelf.old ≡ Some held → Follows (shown shown_file result) (pattern_file held (named_files files.now) circuit.now chains.now) }
+    ensures stands { IfOk result (λ file. pattern_reading (pattern_frame circuit.now chains.now) file.text ≡ Ok file.value) }
+    ensures fits { IfOk result (λ file. ArePatterns circuit.now chains.now file.value) }
+    ensures fault { ends_by_fault result ≡ true → Rose (F.faults shelf.old) (F.faults shelf.new) }
+    ensures same { F.files shelf.new ≡ F.files shelf.old }
+    ensures later { F.faults shelf.old ≤ F.faults shelf.new }
+{
+    let text = read_text(alloc, shelf, files.patterns)?;
+    let answer = scan_text::read_patterns(alloc, circuit, chains, text.as_slice());
+    let value = named(files.patterns, answer)?;
+    Ok(FileText { text, value })
+}
+
+fn read_neighbours<'a, F: Shelf>(
+    alloc: Global,
+    shelf: &mut F,
+    files: &DesignFiles<'a>,
+    circuit: &Circuit,
+) -> Result<FileText<Pairs>, Stop<'a>>
+    ensures told { (held : List File) → F.files shelf.old ≡ Some held → Follows (shown shown_file result) (neighbour_file held (named_files files.now) circuit.now) }
+    ensures stands { IfOk result (λ file. pairs_reading circuit.now file.text ≡ Ok file.value) }
+    ensures fits { IfOk result (λ file. ArePairs circuit.now file.value) }
+    ensures fault { ends_by_fault result ≡ true → Rose (F.faults shelf.old) (F.faults shelf.new) }
+    ensures same { F.files shelf.new ≡ F.files shelf.old }
+    ensures later { F.faults shelf.old ≤ F.faults shelf.new }
+{
+    let text = read_text(alloc, shelf, files.neighbours)?;
+    let answer = bridge_pairs::read_pairs(alloc, circuit, text.as_slice());
+    let value = named(files.neighbours, answer)?;
+    Ok(FileText { text, value })
+}
+
+/// The design of the files of these names.
+pub fn read_design<'a, F: Shelf>(
+    alloc: Global,
+    shelf: &mut F,
+    files: &DesignFiles<'a>,
+) -> Result<ReadDesign, Stop<'a>>
+    ensures told { (held : List File) → F.files shelf.old ≡ Some held → Follows (shown shown_design result) (design_reading held (named_files files.now)) }
+    ensures stands { IfOk result (λ d. texts_reading (four d.netlist d.scan d.patterns d.neighbours) ≡ Ok d.parts) }
+    ensures fault { ends_by_fault result ≡ true → Rose (F.faults shelf.old) (F.faults shelf.new) }
+    ensures same { F.files shelf.new ≡ F.files shelf.old }
+    ensures later { F.faults shelf.old ≤ F.faults shelf.new }
+{
+    let circuit = read_circuit(alloc, shelf, files)?;
+    let chains = read_chains(alloc, shelf, files, &circuit.value)?;
+    let patterns = read_patterns(alloc, shelf, files, &circuit.value, &chains.value)?;
+    let pairs = read_neighbours(alloc, shelf, files, &circuit.value)?;
+    let parts = Parts::make(
+        alloc,
+        circuit.value,
+        chains.value,
+        patterns.value,
+        pairs.value,
+    )?;
+    Ok(ReadDesign {
+        netlist: circuit.text,
+        scan: chains.text,
+        patterns: patterns.text,
+        neighbours: pairs.text,
+        parts,
+    })
+}

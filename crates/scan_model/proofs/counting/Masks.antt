@@ -1,0 +1,222 @@
+-- A logic fault predicts a fail where its mask lets one flip show, or its pin goes straight to the point.
+use Rattle.std.proofs.Common.{◌≡◌, ◌≢◌, ◌⊎◌, ℕ, zero, suc, ◌+◌, ◌<◌, Bool, true, false, cond, eqb, ◌&&◌, ◌||◌, List, [], ◌∷◌, length, map, Option, Some, None, refl, sym, ap, subst, ◌∙◌, inl, inr, arith}
+use Rattle.std.specs.Prelude.{Contains}
+use Rattle.std.specs.List.{range_with_len, list_any}
+use Rattle.std.proofs.lemmas.Bool.{cases_Bool, cases_eq, eq-eqb, ne_eqb, both_ways}
+use mathlib.Core.Path.{fun_ext}
+use Rattle.scan_model.specs.declared.values.Tri.{Tri}
+use Rattle.scan_model.specs.declared.circuit.Driver.{Driver}
+use Rattle.scan_model.specs.declared.circuit.Driver.TheVariants.{Input, Flop, Gate}
+use Rattle.scan_model.specs.declared.circuit.GateKind.{GateKind}
+use Rattle.scan_model.specs.declared.circuit.PinPlace.{PinPlace}
+use Rattle.scan_model.specs.declared.circuit.PinPlace.TheVariants as place
+use Rattle.scan_model.specs.declared.parts.Point.{Point}
+use Rattle.scan_model.specs.declared.parts.PatternKind.TheVariants.{Capture, Shift}
+use Rattle.scan_model.specs.declared.fault.Stuck.{Stuck}
+use Rattle.scan_model.specs.declared.fault.BridgeKind.{BridgeKind}
+use Rattle.scan_model.specs.declared.fault.Fault.{Fault}
+use Rattle.scan_model.specs.declared.fault.Fault.TheVariants as fault
+use Rattle.scan_model.specs.Values.{are_opposite, tri_not, gate_value}
+use Rattle.scan_model.specs.Netlist.{IsNetlist, IsPlacedAt, is_gate, is_gate_driver, driver_of, net_at, pin_at, operands}
+use Rattle.scan_model.specs.Walks.{IsEvaluationOrder}
+use Rattle.scan_model.specs.ScanTest.{ScanTest, IsScanTest, IsPoint, HasSite, pattern_at, points_of, point_at}
+use Rattle.scan_model.specs.Faults.{stuck_value, bridged}
+use Rattle.scan_model.specs.NetValue.{Forced, seen, driven, values_of, source_of, nothing_forced, good_value, net_value, pin_value}
+use Rattle.scan_model.specs.Universe.{universe}
+use Rattle.scan_model.specs.Coverage.{bit_of}
+use Rattle.scan_model.specs.Response.{observed, predicts_fail}
+use Rattle.scan_model.specs.Suspect.{observed_net}
+use Rattle.scan_model.proofs.NetValues.{values_of-is}
+use Rattle.scan_model.proofs.Sites.{site_of}
+use Rattle.scan_model.specs.Force.{force}
+use Rattle.scan_model.specs.Masks.{point_pin, flipped, flip_shows_at, flip_shows, is_operand_of, forced_output, mask, operand_is_point, place_is_point, straight_at, straight, place_nets, touched_nets, IsLogic}
+use Rattle.scan_model.proofs.counting.Valuations.{valuation_is}
+use Rattle.scan_model.proofs.counting.Branches.{force_pin, branch_is_force}
+use Rattle.scan_model.proofs.counting.OneSite.{opposite_is_not, one_site, force_two, unflipped, one_of_two}
+use Rattle.scan_model.proofs.counting.Shown.{not_opposite_itself, logic_keeps, point_pin-net, observed_net-in_range, point_at-IsPoint, predicts_fail-is, observed_sees, observed_good, shifted_same, place_is_point-is}
+use Rattle.scan_model.proofs.counting.LogicFaults.{IsLoopFree, loop_free}
+
+or_false : (b : Bool) → (b || false) ≡ b
+or_false true = refl
+or_false false = refl
+
+abbrev place_owner : PinPlace → ℕ
+place_owner (place.Operand n i) = n
+place_owner (place.Output k) = 0
+
+abbrev is_operand_place : PinPlace → Bool
+is_operand_place (place.Operand n i) = true
+is_operand_place (place.Output k) = false
+
+module _ (t : ScanTest) (sound : IsScanTest t) (order : List ℕ) (ordered : IsEvaluationOrder t.netlist order) (w : ℕ) where
+  abbrev s : ℕ → Tri
+  s = source_of t None w
+
+  abbrev good : ℕ → Tri
+  good = good_value t w
+
+  net_sound : IsNetlist t.netlist
+  net_sound = sound.circuit.netlist
+
+  -- where one flip of a touched net shows, or the pin is the point's
+  abbrev pub predicted : Fault → Point → Bool
+  predicted f p = list_any (λ n. mask t f w n && flip_shows_at t w n p) (touched_nets t f) || straight_at t f w p
+
+  -- a forced net is flipped, or nothing shows
+  pub force_shows : (m : ℕ) (x : Tri) (o : ℕ) → o < length t.netlist.nets → are_opposite (good o) (values_of t.netlist s (force m x) o) ≡ (are_opposite (good m) x && are_opposite (good o) (flipped t w m o))
+  force_shows m x o lt = elim (cases_Bool (are_opposite (good m) x)) [
+    | inl flips ↦
+        let is : x ≡ tri_not (good m) = opposite_is_not (good m) x flips in
+        rw flips (ap (λ (y : Tri). are_opposite (good o) (values_of t.netlist s (force m y) o)) is)
+    | inr miss ↦ rw miss (unflipped t.netlist order net_sound ordered s m x miss o lt)
+  ]
+
+  -- what a point shows of a logic fault
+  at_pin : (f : Fault) (p : Point) → IsPoint t p → (pattern_at t w).kind ≡ Capture → IsLogic f
+      → are_opposite (observed t None w p) (observed t (Some f) w p) ≡ are_opposite (good (observed_net t p)) (pin_value t (Some f) w (point_pin t p))
+  at_pin f p is_point captures logic = rw (observed_good t sound w p is_point captures, observed_sees t sound f w p is_point captures (logic_keeps f p logic)) refl
+
+  -- ---- stems
+
+  stem_shows : (m : ℕ) (v : Stuck) (p : Point) → IsPoint t p → are_opposite (good (observed_net t p)) (pin_value t (Some (fault.Stem m v)) w (point_pin t p)) ≡ predicted (fault.Stem m v) p
+  stem_shows m v p is_point =
+      ap (λ (o : ℕ). are_opposite (good (observed_net t p)) (values_of t.netlist s (force m (stuck_value v)) o)) (point_pin-net t sound p is_point)
+      ∙ force_shows m (stuck_value v) (observed_net t p) (observed_net-in_range t sound p is_point)
+      ∙ sym (rw (eq-eqb m m refl) (or_false ((are_opposite (good m) (stuck_value v) && flip_shows_at t w m p) || false) ∙ or_false (are_opposite (good m) (stuck_value v) && flip_shows_at t w m p)))
+
+  -- ---- bridges
+
+  bridge_other : (a b : ℕ) (x : Tri) → force_two a b x ≡ force_two b a x
+  bridge_other a b x = ap (λ (f : ℕ → Option Tri). let F : Forced = record { net = f; pin = λ p. None } in F) (fun_ext (λ n. ap (λ (c : Bool). cond c (Some x) None) (or_comm (eqb n a) (eqb n b))))
+    where
+      or_comm : (x y : Bool) → (x || y) ≡ (y || x)
+      or_comm true true = refl
+      or_comm true false = refl
+      or_comm false true = refl
+      or_comm false false = refl
+
+  module _ (a b : ℕ) (kind : BridgeKind) (p : Point) (is_point : IsPoint t p) (site : (a < length t.netlist.nets) × (b < length t.netlist.nets)) (free : IsLoopFree t (fault.Bridge a b kind)) where
+    abbrev x : Tri
+    x = bridged kind (good a) (good b)
+
+    abbrev A : Bool
+    A = are_opposite (good a) x
+
+    abbrev B : Bool
+    B = are_opposite (good b) x
+
+    abbrev o : ℕ
+    o = observed_net t p
+
+    lt : observed_net t p < length t.netlist.nets
+    lt = observed_net-in_range t sound p is_point
+
+    or_true : (y : Bool) → (y || true) ≡ true
+    or_true true = refl
+    or_true false = refl
+
+    one_forced : (x ≡ good a) ⊎ (x ≡ good b) → are_opposite (good o) (values_of t.netlist s (force_two a b x) o) ≡ ((A && flip_shows_at t w a p) || (B && flip_shows_at t w b p))
+    one_forced (inl is) =
+        let off : A ≡ false = ap (are_opposite (good a)) is ∙ not_opposite_itself (good a) in
+        ap (are_opposite (good o)) (one_of_two t.netlist order net_sound ordered s a b x site.0 is free.0 o lt) ∙ force_shows b x o lt ∙ sym (rw off refl)
+    one_forced (inr is) =
+        let off : B ≡ false = ap (are_opposite (good b)) is ∙ not_opposite_itself (good b) in
+        ap (λ (F : Forced). are_opposite (good o) (values_of t.netlist s F o)) (bridge_other a b x)
+        ∙ ap (are_opposite (good o)) (one_of_two t.netlist order net_sound ordered s b a x site.1 is free.1 o lt) ∙ force_shows a x o lt ∙ sym (rw off (or_false (A && flip_shows_at t w a p)))
+
+    bridge_shows : are_opposite (good (observed_net t p)) (pin_value t (Some (fault.Bridge a b kind)) w (point_pin t p)) ≡ predicted (fault.Bridge a b kind) p
+    bridge_shows =
+        ap (λ (q : ℕ). are_opposite (good (observed_net t p)) (values_of t.netlist s (force_two a b x) q)) (point_pin-net t sound p is_point)
+        ∙ one_forced (one_site kind (good a) (good b))
+        ∙ sym (rw (eq-eqb a a refl, eq-eqb b b refl, or_true (eqb b a)) (or_false ((A && flip_shows_at t w a p) || ((B && flip_shows_at t w b p) || false)) ∙ ap (λ (y : Bool). (A && flip_shows_at t w a p) || y) (or_false (B && flip_shows_at t w b p))))
+
+  -- ---- branches
+
+  -- a pin that no gate reads changes no net
+  pub unforced : (F : Forced) (p : ℕ) (f : ℕ → Tri) (first count : ℕ) → ((q : ℕ) → q ≢ p → F.pin q ≡ None) → ((j : ℕ) → j < count → (first + j) ≢ p) → map (seen t.netlist F f) (range_with_len first count) ≡ map (seen t.netlist nothing_forced f) (range_with_len first count)
+  unforced F p f first zero free apart = refl
+  unforced F p f first (suc count) free apart =
+      let here : F.pin first ≡ None = free first (λ same. apart 0 (omega arith) (omega (arith, same))) in
+      let rest = unforced F p f (first + 1) count free (λ j lt same. apart (suc j) (omega arith) (omega (arith, same))) in
+      rw (here, rest) refl
+
+  pub straight_is_good : (p : ℕ) (v : Stuck) → ((n i : ℕ) → (pin_at t.netlist p).place ≡ place.Operand n i → is_gate t.netlist n ≡ false) → (m : ℕ) → m < length t.netlist.nets → net_value t (Some (fault.Branch p v)) w m ≡ good m
+  straight_is_good p v unread m lt = valuation_is t.netlist order net_sound ordered s nothing_forced (values_of t.netlist s (force_pin p (stuck_value v)))
+      (λ n in'. values_of-is t.netlist order s (force_pin p (stuck_value v)) ordered n in' ∙ go n in' (driver_of t.netlist n) refl) m lt
+    where
+      go : (n : ℕ) → n < length t.netlist.nets → (x : Driver) → driver_of t.netlist n ≡ x → driven t.netlist s (force_pin p (stuck_value v)) x (values_of t.netlist s (force_pin p (stuck_value v))) n ≡ driven t.netlist s nothing_forced x (values_of t.netlist s (force_pin p (stuck_value v))) n
+      go n in' Input drives = refl
+      go n in' Flop drives = refl
+      go n in' (Gate kd) drives = ap (gate_value kd) (unforced (force_pin p (stuck_value v)) p (values_of t.netlist s (force_pin p (stuck_value v))) (net_at t.netlist n).first_pin (net_at t.netlist n).pin_count
+          (λ q other. rw (ne_eqb q p other) refl)
+          (λ j below same. both_ways (is_gate t.netlist n) (unread n j (ap (λ (q : ℕ). (pin_at t.netlist q).place) (sym same) ∙ net_sound.operand_places n j in' below)) (ap is_gate_driver drives)))
+
+  branch_straight : (p : ℕ) (v : Stuck) (point : Point) → p < length t.netlist.pins → IsPoint t point → ((n i : ℕ) → (pin_at t.netlist p).place ≡ place.Operand n i → is_gate t.netlist n ≡ false)
+      → are_opposite (good (observed_net t point)) (pin_value t (Some (fault.Branch p v)) w (point_pin t point)) ≡ (place_is_point t (pin_at t.netlist p).place point && are_opposite (good (pin_at t.netlist p).net) (stuck_value v))
+  branch_straight p v point site is_point unread = rw (place_is_point-is t sound p point site is_point) (elim (cases_eq (point_pin t point) p) [
+    | inl same ↦ rw (eq-eqb (point_pin t point) p same) (ap (λ (o : ℕ). are_opposite (good o) (stuck_value v)) (sym (point_pin-net t sound point is_point) ∙ ap (λ (q : ℕ). (pin_at t.netlist q).net) same))
+    | inr other ↦ rw (ne_eqb (point_pin t point) p other)
+        (ap (λ (o : ℕ). are_opposite (good (observed_net t point)) (net_value t (Some (fault.Branch p v)) w o)) (point_pin-net t sound point is_point)
+        ∙ ap (are_opposite (good (observed_net t point))) (straight_is_good p v unread (observed_net t point) (observed_net-in_range t sound point is_point))
+        ∙ not_opposite_itself (good (observed_net t point)))
+  ])
+
+  branch_gate : (p : ℕ) (v : Stuck) (point : Point) (n i : ℕ) (kind : GateKind) → p < length t.netlist.pins → n < length t.netlist.nets → IsPoint t point → (pin_at t.netlist p).place ≡ place.Operand n i → driver_of t.netlist n ≡ Gate kind
+      → are_opposite (good (observed_net t point)) (pin_value t (Some (fault.Branch p v)) w (point_pin t point)) ≡ (are_opposite (good n) (forced_output t w (fault.Branch p v) n) && flip_shows_at t w n point)
+  branch_gate p v point n i kind site in' is_point at drives =
+      let o = observed_net t point in
+      let lt = observed_net-in_range t sound point is_point in
+      let apart : eqb (point_pin t point) p ≡ false = sym (place_is_point-is t sound p point site is_point) ∙ ap (λ (x : PinPlace). place_is_point t x point) at ∙ ap (λ (d : Driver). operand_is_point t d n point) drives in
+      let output : forced_output t w (fault.Branch p v) n ≡ gate_value kind (map (seen t.netlist (force_pin p (stuck_value v)) good) (operands t.netlist n)) = ap (λ (d : Driver). driven t.netlist s (force_pin p (stuck_value v)) d good n) drives in
+      rw apart
+      (ap (λ (q : ℕ). are_opposite (good o) (net_value t (Some (fault.Branch p v)) w q)) (point_pin-net t sound point is_point)
+      ∙ ap (are_opposite (good o)) (branch_is_force t.netlist order net_sound ordered s p n i (stuck_value v) kind in' at drives o lt)
+      ∙ ap (λ (y : Tri). are_opposite (good o) (values_of t.netlist s (force n y) o)) (sym output)
+      ∙ force_shows n (forced_output t w (fault.Branch p v) n) o lt)
+
+  branch_shows : (p : ℕ) (v : Stuck) (point : Point) → p < length t.netlist.pins → IsPoint t point
+      → are_opposite (good (observed_net t point)) (pin_value t (Some (fault.Branch p v)) w (point_pin t point)) ≡ predicted (fault.Branch p v) point
+  branch_shows p v point site is_point = go (pin_at t.netlist p).place refl
+    where
+      leaf : (n i : ℕ) → (pin_at t.netlist p).place ≡ place.Operand n i → is_gate t.netlist n ≡ false
+          → are_opposite (good (observed_net t point)) (pin_value t (Some (fault.Branch p v)) w (point_pin t point)) ≡ predicted (fault.Branch p v) point
+      leaf n i at no_gate =
+          branch_straight p v point site is_point (λ m j is. ap (λ (x : PinPlace). is_gate t.netlist (place_owner x)) (sym is ∙ at) ∙ no_gate)
+          ∙ ap (λ (xs : List ℕ). list_any (λ n. mask t (fault.Branch p v) w n && flip_shows_at t w n point) xs || straight_at t (fault.Branch p v) w point)
+          (sym (ap (place_nets t) at ∙ ap (λ (g : Bool). cond g (n ∷ []) []) no_gate))
+
+      at_operand : (n i : ℕ) → (pin_at t.netlist p).place ≡ place.Operand n i → (d : Driver) → driver_of t.netlist n ≡ d
+          → are_opposite (good (observed_net t point)) (pin_value t (Some (fault.Branch p v)) w (point_pin t point)) ≡ predicted (fault.Branch p v) point
+      at_operand n i at Input drives = leaf n i at (ap is_gate_driver drives)
+      at_operand n i at Flop drives = leaf n i at (ap is_gate_driver drives)
+      at_operand n i at (Gate kind) drives =
+          let stands = subst (IsPlacedAt t.netlist p) at (net_sound.pin_places p site) in
+          let nets : place_nets t (pin_at t.netlist p).place ≡ n ∷ [] = ap (place_nets t) at ∙ ap (λ (g : Bool). cond g (n ∷ []) []) (ap is_gate_driver drives) in
+          let off : place_is_point t (pin_at t.netlist p).place point ≡ false = ap (λ (x : PinPlace). place_is_point t x point) at ∙ ap (λ (d : Driver). operand_is_point t d n point) drives in
+          let own : is_operand_of n (pin_at t.netlist p).place ≡ true = ap (is_operand_of n) at ∙ eq-eqb n n refl in
+          let shown = are_opposite (good n) (forced_output t w (fault.Branch p v) n) && flip_shows_at t w n point in
+          branch_gate p v point n i kind site stands.0 is_point at drives ∙ sym (rw (nets, off, own) (or_false (shown || false) ∙ or_false shown))
+
+      go : (x : PinPlace) → (pin_at t.netlist p).place ≡ x → are_opposite (good (observed_net t point)) (pin_value t (Some (fault.Branch p v)) w (point_pin t point)) ≡ predicted (fault.Branch p v) point
+      go (place.Output k) at =
+          branch_straight p v point site is_point (λ n i is. absurd (let e : true ≡ false = ap is_operand_place (sym is ∙ at) in cc))
+          ∙ ap (λ (xs : List ℕ). list_any (λ n. mask t (fault.Branch p v) w n && flip_shows_at t w n point) xs || straight_at t (fault.Branch p v) w point) (sym (ap (place_nets t) at))
+      go (place.Operand n i) at = at_operand n i at (driver_of t.netlist n) refl
+
+  -- ---- the theorem
+
+  shows : (f : Fault) (p : Point) → IsPoint t p → HasSite t f → IsLoopFree t f → IsLogic f → are_opposite (good (observed_net t p)) (pin_value t (Some f) w (point_pin t p)) ≡ predicted f p
+  shows (fault.Stem m v) p is_point site free logic = stem_shows m v p is_point
+  shows (fault.Branch q v) p is_point site free logic = branch_shows q v p site is_point
+  shows (fault.Bridge a b kind) p is_point site free logic = bridge_shows a b kind p is_point site free
+  shows (fault.Cell h c kind) p is_point site free logic = absurd logic
+
+  pub masks-capture : (f : Fault) (k : ℕ) → Contains (universe t) f → IsLogic f → k < length (points_of t) → (pattern_at t w).kind ≡ Capture
+      → predicts_fail t f (bit_of w k) ≡ (list_any (λ n. mask t f w n && flip_shows t w n k) (touched_nets t f) || straight t f w k)
+  masks-capture f k in' logic lt captures =
+      let is_point = point_at-IsPoint t sound k lt in
+      predicts_fail-is t sound f w k lt ∙ at_pin f (point_at t k) is_point captures logic ∙ shows f (point_at t k) is_point (site_of t f sound in') (loop_free t f sound in') logic
+
+  pub masks-shift : (f : Fault) (k : ℕ) → IsLogic f → k < length (points_of t) → (pattern_at t w).kind ≡ Shift → predicts_fail t f (bit_of w k) ≡ false
+  masks-shift f k logic lt shifts =
+      predicts_fail-is t sound f w k lt ∙ ap (are_opposite (observed t None w (point_at t k))) (shifted_same t sound f w (point_at t k) shifts (logic_keeps f (point_at t k) logic)) ∙ not_opposite_itself (observed t None w (point_at t k))

@@ -1,7 +1,0 @@
-use Rattle.std.proofs.lemmas.Result.{err_from_is_err_and}
-use Rattle.scandesk.proofs.commands.check.summary_of.Goals as goal
-
-pub returns-in_err-summary_text-clause-told : goal.returns-in_err-summary_text-clause-told
-returns-in_err-summary_text-clause-told g c = λ held e.
-    let is = err_from_is_err_and c.from_residual-in_err-summary_text.result c.from_residual-in_err-summary_text.ensures.1 in
-    rw (is.1, is.2) tt
