@@ -79,9 +79,10 @@ impl ReportCache {
     fn keep(&mut self, key: ReportKey, report: &Arc<WholeReport>)
         ensures { (deeds : List Deed) → IsTrueFor self.old deeds → IsReportIn deeds (report_for key (arc_value report.now)) → IsTrueFor self.new deeds }
     {
-        if let Ok(report) = Arc::try_clone(report) {
-            let _ = self.kept.put(key, report);
-        }
+        let Ok(report) = Arc::try_clone(report) else {
+            return;
+        };
+        let _kept = self.kept.put(key, report);
     }
 
     /// The report of a die, which is made where it isn't kept. Where memory is too short to keep it, it is answered all the
