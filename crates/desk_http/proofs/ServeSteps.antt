@@ -9,7 +9,8 @@ use Rattle.desk_outside.specs.declared.door.LinkHome.{LinkHome}
 use Rattle.desk_http.specs.declared.sessions.requests.SessionEnd.{SessionEnd}
 use Rattle.desk_http.specs.Seats.{SeatFacts}
 use Rattle.desk_http.specs.Sessions.{text, IsSession}
-use Rattle.desk_http.specs.Serving.{is_unserved, IsServed, AreServed, with_served, Serves}
+use Rattle.desk_http.proofs.SeatSteps.{did_on}
+use Rattle.desk_http.specs.Serving.{DidSome, is_unserved, IsServed, AreServed, with_served, Serves}
 
 -- ---- a door
 
@@ -80,3 +81,7 @@ home_is told left sent faults =
     let same : (told.out + 1) - 1 ≡ told.out = omega arith in
     let at : ℕ → DoorTold = λ n. record { given = told.given ++ left ∷ []; done = told.done ++ record { sent = sent; failed = not (faults == 0) } ∷ []; out = n } in
     ap at same
+
+-- what a seat did, and then did
+pub did_some_on : (a b c : SeatFacts) → DidSome a b → DidSome b c → DidSome a c
+did_some_on a b c (xs, j, did) (ys, k, then) = (xs ++ ys, j + k, did_on xs ys j k a b c did then)

@@ -1,6 +1,7 @@
 //! What a request is answered over a seat.
 
 pub(crate) mod signoff;
+
 ghost use Rattle.std.specs.Prelude.{List};
 ghost use Rattle.std.specs.Str.{IsAscii};
 ghost use Rattle.desk_outside.specs.declared.deed.Deed.{Deed};
@@ -17,11 +18,11 @@ mod designs;
 mod dies;
 mod signs;
 
-use crate::reply::bodies::Refusal;
 use crate::head::method::Method;
-use crate::routes::resource::Resource;
+use crate::reply::bodies::Refusal;
 use crate::reply::response::{Response, Unanswered};
 use crate::routes::Routes;
+use crate::routes::resource::Resource;
 use crate::sessions::seat::SeatAt;
 use desk_outside::Gate;
 use report_cache::ReportCache;

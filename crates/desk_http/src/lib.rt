@@ -1,4 +1,4 @@
-//! Parts of the desk's HTTP sessions: requests as their bytes come (RFC 9112), their routes, and the bytes of replies.
+//! The desk over HTTP: requests as their bytes come (RFC 9112), their routes and answers, the bytes of replies, and sessions.
 #![tactic(auto)]
 
 mod answers;
@@ -9,24 +9,24 @@ mod routes;
 mod sessions;
 
 pub use answers::answer;
+pub use answers::signoff::{BodyFault, SignBody, sign_body};
+pub use head::method::Method;
+pub use head::{Head, HeadFault, HeadSeen};
+pub use incoming::inbox::Inbox;
+pub use incoming::{BodyRead, HeadRead, read_head, read_to};
 pub use reply::bodies::{
     Refusal, TextKind, design_body, design_head, digest_differs_body, full_body, log_body,
     name_taken_body, sign_off_body, sign_off_line, text_fault_body, unknown_fault_body,
     unknown_line_body, unknown_revision_body, unknown_sign_body,
 };
-pub use head::{Head, HeadFault, HeadSeen};
-pub use incoming::inbox::Inbox;
-pub use incoming::{BodyRead, HeadRead, read_head, read_to};
-pub use head::method::Method;
-pub use routes::methods::Methods;
+pub use reply::response::{Body, Response, Unanswered};
+pub use reply::short::Short;
+pub use reply::status::Status;
 pub use reply::{Reply, interim, keeper_fault, no_memory};
 pub use report_cache::{ReportCache, WholeReport};
-pub use sessions::requests::{SessionEnd, SessionNote, session_at};
-pub use routes::resource::Resource;
-pub use reply::response::{Body, Response, Unanswered};
 pub use routes::Routes;
+pub use routes::methods::Methods;
+pub use routes::resource::Resource;
+pub use sessions::requests::{SessionEnd, SessionNote, session_at};
 pub use sessions::seat::{Alone, SeatAt};
 pub use sessions::serve::{Served, serve_door_at};
-pub use reply::short::Short;
-pub use answers::signoff::{BodyFault, SignBody, sign_body};
-pub use reply::status::Status;

@@ -2,6 +2,7 @@
 
 pub(crate) mod methods;
 pub(crate) mod resource;
+
 ghost use Rattle.std.specs.Prelude.{◌≡◌, IfOk};
 ghost use Rattle.desk_http.specs.Routes.{routes};
 

@@ -7,8 +7,8 @@ ghost use Rattle.desk_http.specs.Answering.{AnsweredBy, response_of};
 
 use crate::reply::bodies::{design_body, design_head, unknown_fault_body};
 use crate::reply::response::{Body, Response, Unanswered, kind_of, refused_look, refused_put};
-use crate::sessions::seat::SeatAt;
 use crate::reply::status::Status;
+use crate::sessions::seat::SeatAt;
 use book::{BundleFault, Put, read_bundle};
 use desk_outside::Gate;
 use diag_report::{fails_text, summary_text};

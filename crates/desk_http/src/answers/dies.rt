@@ -9,8 +9,8 @@ ghost use Rattle.desk_http.specs.Answering.{AnsweredBy, response_of};
 
 use crate::reply::bodies::{TextKind, log_body, unknown_line_body};
 use crate::reply::response::{Body, Response, Unanswered, refused_look, refused_put};
-use crate::sessions::seat::SeatAt;
 use crate::reply::status::Status;
+use crate::sessions::seat::SeatAt;
 use book::{Put, log_of};
 use desk_outside::Gate;
 use report_cache::ReportCache;

@@ -8,11 +8,11 @@ ghost use Rattle.desk_http.specs.RouteAnswers.{sign_post, sign_get};
 ghost use Rattle.desk_http.specs.Seats.{IsPrefix, Did};
 ghost use Rattle.desk_http.specs.Answering.{Answered, AnsweredBy, ReadsSign, response_of};
 
+use crate::answers::signoff::{BodyFault, SignBody, sign_body};
 use crate::reply::bodies::{TextKind, sign_off_body, sign_off_line};
 use crate::reply::response::{Response, Unanswered, refused_look, refused_put};
-use crate::sessions::seat::SeatAt;
-use crate::answers::signoff::{BodyFault, SignBody, sign_body};
 use crate::reply::status::Status;
+use crate::sessions::seat::SeatAt;
 use book::{Checked, Put};
 use desk_outside::Gate;
 use report_cache::ReportCache;

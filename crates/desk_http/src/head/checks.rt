@@ -9,10 +9,10 @@ ghost use Rattle.desk_http.specs.Fields.{named, content_lengths};
 ghost use Rattle.desk_http.specs.Sees.{Judges, Sees};
 
 use crate::head::fields::{CONTENT_LENGTH, Fields, TRANSFER_ENCODING};
-use crate::head::{Head, HeadFault, HeadSeen};
 use crate::head::head_end::head_length;
 use crate::head::method::Method;
 use crate::head::values::{is_target, method_of};
+use crate::head::{Head, HeadFault, HeadSeen};
 use httparse::Status;
 use httparse::spans::{HeaderSpan, RequestSpans, parse_request};
 

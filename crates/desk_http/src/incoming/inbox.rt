@@ -1,8 +1,8 @@
 //! What came over a connection.
 ghost use Rattle.std.specs.Prelude.{◌≡◌, ◌≤◌, [], ◌++◌, length, drop, IfOk, OnOk, OnErr};
 
-use crate::head::checks::{FIELD_ROOM, seen};
 use crate::head::HeadSeen;
+use crate::head::checks::{FIELD_ROOM, seen};
 use httparse::spans::{EMPTY_HEADER_SPAN, HeaderSpan};
 use scan_model::NoMemory;
 use std::alloc::Global;
@@ -69,72 +69,5 @@ impl Inbox {
         ensures { self.new ≡ drop count self.old }
     {
         self.bytes.drain(..count);
-    }
-}
-
-#[cfg(test)]
-mod tests {
-    use super::*;
-    use crate::head::{Head, HeadFault};
-    use crate::head::method::Method;
-    use httparse::spans::Span;
-    use std::test::Fail;
-
-    const TEXT: &[u8] = b"GET /designs/none HTTP/1.1\r\nHost: desk\r\n\r\n";
-
-    const REFUSED: [(&[u8], HeadFault); 7] = [
-        (b"GET /designs/none\r\n\r\n", HeadFault::BadRequest),
-        (
-            b"POST / HTTP/1.1\ntransfer-encoding: chunked\n\n",
-            HeadFault::TransferEncoding,
-        ),
-        (
-            b"GET / HTTP/1.1\nContent-Length: +1\n\n",
-            HeadFault::BadRequest,
-        ),
-        (
-            b"GET / HTTP/1.1\nContent-Length: 1\nContent-Length: 01\n\n",
-            HeadFault::BadRequest,
-        ),
-        (b"GET /a?b HTTP/1.1\n\n", HeadFault::BadRequest),
-        (
-            b"GET / HTTP/1.1\nContent-Length: 016777217\n\n",
-            HeadFault::TooLarge,
-        ),
-        (b"PUT / HTTP/1.1\n\n", HeadFault::LengthRequired),
-    ];
-
-    #[test]
-    fn reads_a_head_byte_by_byte(rt: HostRuntime) -> Result<(), Fail> {
-        let mut inbox = Inbox::make(rt.alloc())?;
-        for byte in TEXT {
-            assert_eq!(rt; inbox.head(), HeadSeen::Unended);
-            inbox.add(&[*byte])?;
-        }
-        let whole = Head {
-            length: 42,
-            method: Method::Get,
-            target: Span { start: 4, end: 17 },
-            body: 0,
-            awaits: false,
-            closes: false,
-        };
-        assert_eq!(rt; inbox.head(), HeadSeen::Whole(whole));
-        Ok(())
-    }
-
-    #[test]
-    fn refuses_heads(rt: HostRuntime) -> Result<(), Fail> {
-        for (text, fault) in REFUSED {
-            let mut inbox = Inbox::make(rt.alloc())?;
-            inbox.add(text)?;
-            assert_eq!(rt; inbox.head(), HeadSeen::Refused(fault));
-        }
-        let mut inbox = Inbox::make(rt.alloc())?;
-        for _ in 0..1024 {
-            inbox.add(b"no end, ")?;
-        }
-        assert_eq!(rt; inbox.head(), HeadSeen::Refused(HeadFault::HeadTooLarge));
-        Ok(())
     }
 }

@@ -13,9 +13,9 @@ use crate::reply::bodies::{
     Refusal, TextKind, digest_differs_body, full_body, name_taken_body, text_fault_body,
     unknown_revision_body, unknown_sign_body,
 };
-use crate::routes::methods::Methods;
 use crate::reply::short::Short;
 use crate::reply::status::Status;
+use crate::routes::methods::Methods;
 use book::{LookFault, PutFault, Section};
 use report_cache::WholeReport;
 use scan_model::{Name, NoMemory};

@@ -22,21 +22,24 @@ ghost use Rattle.httparse.specs.Spans.{span_bytes};
 ghost use Rattle.desk_http.specs.declared.head.HeadSeen.TheVariants as seen;
 
 use crate::answers::answer;
-use crate::reply::bodies::Refusal;
+use crate::head::method::Method;
 use crate::head::{Head, HeadFault};
 use crate::incoming::inbox::Inbox;
 use crate::incoming::{BodyRead, HeadRead, read_head, read_to};
-use crate::sessions::marks::{ITEM_LIMIT, Marks};
-use crate::head::method::Method;
-use crate::reply::{Reply, interim, keeper_fault, no_memory};
+use crate::reply::bodies::Refusal;
 use crate::reply::response::{Response, Unanswered};
+use crate::reply::{Reply, interim, keeper_fault, no_memory};
 use crate::routes::Routes;
+use crate::sessions::marks::{ITEM_LIMIT, Marks};
 use crate::sessions::seat::SeatAt;
 use desk_outside::{Failed, Gate, Link, send_all};
 use report_cache::ReportCache;
 use scan_model::{NoMemory, Rows};
 use std::alloc::Global;
 use std::thread::Threads;
+
+// The most bytes that one read takes.
+const PIECE: usize = 65_536;
 
 /// How a session ended.
 #[derive(Clone, Copy, Debug, PartialEq, Eq)]
@@ -386,13 +389,13 @@ struct Room {
 impl Room {
     fn make(alloc: Global) -> Result<Room, NoMemory>
         ensures inbox { IfOk result (λ room. room.inbox ≡ []) }
-        ensures piece { IfOk result (λ room. vec_len room.piece ≡ 8192) }
+        ensures piece { IfOk result (λ room. vec_len room.piece ≡ 65536) }
         ensures marks { IfOk result (λ room. room.marks ≡ []) }
     {
         Ok(Room {
             routes: Routes::make(alloc)?,
             inbox: Inbox::make(alloc)?,
-            piece: vec![in alloc; 0; 8192]?,
+            piece: vec![in alloc; 0; PIECE]?,
             marks: Marks::make(alloc)?,
         })
     }

@@ -9,7 +9,7 @@ abbrev pub invariant-loop-end : goal.invariant-loop-end
 invariant-loop-end g l = record {
   few : l.before < item_limit;
   many : length l.marks ≤ l.before;
-  piece : vec_len l.piece ≡ 8192;
+  piece : vec_len l.piece ≡ 65536;
   belongs : g.S.SeatAt.belongs l.seat l.desk;
   truth : IsTrueFor l.cache (g.S.SeatAt.facts l.seat l.desk).seen;
   so_far : SoFar l.before l.marks (g.S.SeatAt.facts l.fn.seat l.desk) (g.S.SeatAt.facts l.seat l.desk) (g.L.Link.left l.fn.link) (prepend_known l.inbox (g.L.Link.left l.link)) (g.L.Link.sent l.fn.link) (g.L.Link.sent l.link);

@@ -2,6 +2,7 @@ use Rattle.std.proofs.Common.{◌==◌, not, ℕ, List, [], Option, Some, ap, su
 use Rattle.desk_outside.specs.declared.door.LinkHome.{LinkHome}
 use Rattle.desk_outside.specs.Doors.{handed}
 use Rattle.desk_http.specs.Sessions.{IsSession}
+use Rattle.desk_http.proofs.SeatSteps.{did_nothing}
 use Rattle.desk_http.proofs.ServeSteps.{told_after, home_is, rose_above}
 use Rattle.desk_http.proofs.sessions.serve.serve_next.Goals as goal
 
@@ -23,3 +24,9 @@ returns-clause-served g c told is_told =
       c.back.ensures.home (handed told hand.0) sent.0 hand.3 sent.1 ∙ ap Some (home_is told hand.0 sent.0 faults),
       record { marks = note.marks; session = by_after; failed = λ e. rose_above (g.O.L.Link.faults c.in-Ok.link) faults c.in-Ok.ensures.unfailed (c.session_at-note.ensures.failed e) },
     )
+
+pub returns-in-Err-clause-did : goal.returns-in-Err-clause-did
+returns-in-Err-clause-did g c = ([], 0, did_nothing (g.S.SeatAt.facts c.args.seat.now c.args.desk.now))
+
+pub returns-clause-did : goal.returns-clause-did
+returns-clause-did g c = (_, _, c.session_at-note.ensures.session.did)
