@@ -10,3 +10,4 @@ pub mod PartsOfLines
 pub mod CircuitOfLines
 pub mod EmptyLines
 pub mod ThirdRound
+pub mod Judged

@@ -5,11 +5,11 @@ ghost use Rattle.std.specs.List.{list_any};
 ghost use Rattle.scan_model.specs.Lines.{text_lines};
 ghost use Rattle.scan_model.specs.Words.{has_word};
 ghost use Rattle.scan_model.specs.Netlist.{netlist};
-ghost use Rattle.scan_model.specs.TextFaults.{first_fault, refused_or};
+ghost use Rattle.scan_model.specs.TextFaults.{HasNoFault, IsFirstInRounds, first_fault, refused_or};
 ghost use Rattle.scan_model.specs.NetlistRules.{forms_of, first_rule, early_fault};
-ghost use Rattle.scan_model.specs.NetlistText.{circuit_of, netlist_reading};
+ghost use Rattle.scan_model.specs.NetlistText.{circuit_of, netlist_breaks, netlist_rounds, netlist_reading};
 ghost use Rattle.text_parts.specs.Views.{nows};
-ghost use Rattle.text_parts.specs.Gives.{Gives};
+ghost use Rattle.text_parts.specs.Gives.{Gives, IfFault};
 ghost use Rattle.bench_reader.specs.Lines.{line_view};
 ghost use Rattle.bench_reader.specs.Kept.{kept_views, filled_from, uses_undefined, first_line};
 ghost use Rattle.bench_reader.specs.Clean.{IsRead, AreKnown};
@@ -112,7 +112,9 @@ impl Draft {
 
 /// The circuit that a netlist stands for, or its first fault by rules 1 to 9.
 pub fn read_netlist(alloc: Global, bytes: &[u8]) -> Result<Circuit, ReadFault>
-    ensures { Gives (λ c. c) result (netlist_reading bytes.now) }
+    ensures reading { Gives (λ c. c) result (netlist_reading bytes.now) }
+    ensures first { IfFault result (IsFirstInRounds netlist_rounds (netlist_breaks (text_lines bytes.now)) (length (text_lines bytes.now))) }
+    ensures none { IfOk result (λ c. HasNoFault (netlist_breaks (text_lines bytes.now)) (length (text_lines bytes.now))) }
 {
     let draft = Draft::read(alloc, bytes)?;
     match Circuit::make(alloc, draft.nets, draft.pins, draft.inputs, draft.outputs) {

@@ -9,7 +9,7 @@ use Rattle.scan_model.specs.Netlist.{Netlist}
 use Rattle.scan_model.specs.Cone.{in_fan_in}
 use Rattle.scan_model.specs.Lines.{is_blank}
 use Rattle.scan_model.specs.Words.{has_word}
-use Rattle.scan_model.specs.TextFaults.{lowest, first_fault, refused_or}
+use Rattle.scan_model.specs.TextFaults.{breaks, lowest, first_fault, refused_or}
 use Rattle.scan_model.specs.NetlistText.{net_number}
 use Rattle.scan_model.specs.ScanText.{net_names}
 use Rattle.scan_model.specs.ScanTest.{same_pair}
@@ -108,9 +108,17 @@ pair_rules names seen i fields =
     (33, names_one_net names (nets_named i fields)) ∷
     (34, names_too_many names seen i (nets_named i fields)) ∷ []
 
+-- the rules at record i
+abbrev pub pair_table : List (List ℕ) → List (List (List ℕ)) → ℕ → List (ℕ × Bool)
+pair_table names rows i = pair_rules names (pairs_before names rows i) i (record_at rows i)
+
+-- record i, counted from 0, breaks the rule
+abbrev pub pairs_break : List (List ℕ) → List (List (List ℕ)) → ℕ → ℕ → Bool
+pairs_break names rows i rule = breaks (pair_table names rows i) rule
+
 -- the lowest rule that record i breaks
 abbrev pub pair_rule : List (List ℕ) → List (List (List ℕ)) → ℕ → Option ℕ
-pair_rule names rows i = lowest (pair_rules names (pairs_before names rows i) i (record_at rows i))
+pair_rule names rows i = lowest (pair_table names rows i)
 
 abbrev pub pairs_fault : List (List ℕ) → List (List (List ℕ)) → Option (ℕ × ℕ)
 pairs_fault names rows = first_fault (pair_rule names rows) (length rows)

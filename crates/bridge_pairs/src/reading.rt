@@ -1,8 +1,9 @@
 ghost use Rattle.std.specs.Prelude.{◌≡◌, ◌≤◌, length, IfOk};
+ghost use Rattle.scan_model.specs.TextFaults.{HasNoFault, IsFirstFault};
 ghost use Rattle.scan_model.specs.ScanText.{net_names};
 ghost use Rattle.scan_model.specs.ScanTest.{ArePairs};
-ghost use Rattle.text_parts.specs.Gives.{Gives};
-ghost use Rattle.bridge_pairs.specs.PairText.{records_in, naming, pairs_reading};
+ghost use Rattle.text_parts.specs.Gives.{Gives, IfFault};
+ghost use Rattle.bridge_pairs.specs.PairText.{records_in, naming, pairs_break, pairs_reading};
 ghost use Rattle.bridge_pairs.specs.NamedNets.{AreNamed};
 
 use crate::named::NamedPairs;
@@ -34,6 +35,8 @@ fn named_pairs(alloc: Global, nets: &[Net], bytes: &[u8]) -> Result<Vec<Pair>, R
 /// counted from 1 with the header, and one of the rules 31 to 34. 64 pairs take two sweeps over the gates and pins.
 pub fn read_pairs(alloc: Global, circuit: &Circuit, bytes: &[u8]) -> Result<Pairs, ReadFault>
     ensures reading { Gives (λ pairs. pairs) result (pairs_reading circuit.now bytes.now) }
+    ensures first { IfFault result (IsFirstFault (pairs_break (net_names circuit.now.nets) (records_in bytes.now)) (length (records_in bytes.now))) }
+    ensures none { IfOk result (λ pairs. HasNoFault (pairs_break (net_names circuit.now.nets) (records_in bytes.now)) (length (records_in bytes.now))) }
     ensures fits { IfOk result (ArePairs circuit.now) }
 {
     let nets = circuit.nets().as_slice();

@@ -1,4 +1,4 @@
-//! Files that are read within the limit, and why there is no report.
+//! Files that are read within the limit, and why a command stops.
 ghost use Rattle.std.specs.Prelude.{◌≡◌, ◌≤◌, ℕ, List, length, Some, IfOk, IfErr, true, false};
 ghost use Rattle.desk_outside.specs.declared.shelf.File.{File};
 ghost use Rattle.desk_outside.specs.Faults.{Rose};
@@ -25,7 +25,7 @@ pub enum Refusal {
     Rule(TextFault),
 }
 
-/// Why a command has no report.
+/// Why a command stops before its work is done.
 #[derive(Debug, Drop)]
 pub enum Stop<'a> {
     /// The file of that name doesn't serve.

@@ -26,6 +26,3 @@ pub use memory::{MemCabinet, MemDoor, MemLink, MemStreet, SureLink};
 pub use shelf::{File, MemShelf, Shelf, ShelfAnswer, SureShelf, are_distinct};
 pub use sink::{MemSink, Sink, SureSink, write_all};
 pub use street::{DoorHome, Street};
-
-#[cfg(test)]
-mod tests;

@@ -1,6 +1,6 @@
 //! Where bytes go.
 ghost use Rattle.std.specs.Prelude.{◌≡◌, ◌≤◌, ◌<◌, ℕ, List, length, take, Some, None, Option, IfOk, IsOk, OnErr, OnOk, [], false};
-ghost use Rattle.desk_outside.specs.Schedule.{fresh_calls, fails_next, after_call};
+ghost use Rattle.desk_outside.specs.Schedule.{fresh_calls, fails_next, after_call, after_failure};
 ghost use Rattle.std.specs.Io.KnownBytes.{append_known};
 ghost use Rattle.desk_outside.specs.Faults.{Rose};
 ghost use Rattle.desk_outside.specs.Bytes.{AddsPart};
@@ -107,6 +107,7 @@ impl Sink for MemSink {
         ensures all { IfOk result (λ n. n ≡ length bytes.now) }
         ensures listed { OnOk result (fails_next (sink_calls self.old) ≡ false) }
         ensures counted { OnOk result (sink_calls self.new ≡ after_call (sink_calls self.old)) }
+        ensures refused { OnErr result (sink_calls self.new ≡ after_failure (sink_calls self.old)) }
     {
         if self.calls.fails() {
             return Err(Failed);

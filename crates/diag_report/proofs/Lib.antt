@@ -15,3 +15,5 @@ mod ListedBits
 mod LogWalk
 mod LogBits
 mod RoundTrip
+pub mod GivenRows
+pub mod CutLines

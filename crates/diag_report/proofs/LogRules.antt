@@ -57,8 +57,8 @@ module _ (frame : LogFrame) (x : List (List ℕ)) (xs : List (List (List ℕ))) 
       let own : IsLine ws = (back_lines (x ∷ xs) (ws ∷ after) names).0 in
       let at = inside (x ∷ xs) ws after in
       let forms = later_back x xs front_names in
-      ap (λ (b : Bool). cond b (lowest (log_end_rules (is_titled ls) (is_closed (later_lines ls))))
-      (lowest (log_rules frame (is_titled (take (length (x ∷ xs)) ls)) (is_closed (later_lines (take (length (x ∷ xs)) ls))) (headers_in (later_lines (take (length (x ∷ xs)) ls))) (line_at ls (length (x ∷ xs))))))
+      ap (λ (b : Bool). lowest (cond b (log_end_rules (is_titled ls) (is_closed (later_lines ls)))
+      (log_rules frame (is_titled (take (length (x ∷ xs)) ls)) (is_closed (later_lines (take (length (x ∷ xs)) ls))) (headers_in (later_lines (take (length (x ∷ xs)) ls))) (line_at ls (length (x ∷ xs))))))
       (ne_eqb (length (x ∷ xs)) (length ls) (λ e. omega (arith, at, e)))
       ∙ ap (λ (front : List (List ℕ)). lowest (log_rules frame (is_titled front) (is_closed (later_lines front)) (headers_in (later_lines front)) (line_at ls (length (x ∷ xs))))) (take_front (x ∷ xs) (ws ∷ after))
       ∙ ap (λ (l : List ℕ). lowest (log_rules frame (is_titled (map spaced (x ∷ xs))) (is_closed (later_lines (map spaced (x ∷ xs)))) (headers_in (later_lines (map spaced (x ∷ xs)))) l)) (line_there (x ∷ xs) ws after)
@@ -72,7 +72,7 @@ title_are frame closed refused h v is_plain same =
 pub title_rule : (frame : LogFrame) (after : List (List (List ℕ))) → AreLines (title_words ∷ after) → log_rule frame (map spaced (title_words ∷ after)) 0 ≡ None
 title_rule frame after names =
     let ls : List (List ℕ) = map spaced (title_words ∷ after) in
-    ap (λ (b : Bool). cond b (lowest (log_end_rules (is_titled ls) (is_closed (later_lines ls)))) (lowest (log_rules frame (is_titled (take 0 ls)) (is_closed (later_lines (take 0 ls))) (headers_in (later_lines (take 0 ls))) (line_at ls 0))))
+    ap (λ (b : Bool). lowest (cond b (log_end_rules (is_titled ls) (is_closed (later_lines ls))) (log_rules frame (is_titled (take 0 ls)) (is_closed (later_lines (take 0 ls))) (headers_in (later_lines (take 0 ls))) (line_at ls 0))))
     (ne_eqb 0 (length ls) (λ e. absurd (omega (arith, e))))
     ∙ title_are frame (is_closed (later_lines (take 0 ls))) (has_refused_byte (spaced title_words)) (headers_in (later_lines (take 0 ls))) (words (spaced title_words)) (none_refused title_words names.0.1) (words_of_line title_words names.0)
 
@@ -82,7 +82,7 @@ end_rule frame x xs names closed =
     let ls : List (List ℕ) = map spaced (x ∷ xs) in
     let n : ℕ = length ls in
     let titled : is_titled ls ≡ true = ap (list_any has_words) (word_lines_back (x ∷ xs) names) ∙ ap (λ (b : Bool). b || list_any has_words xs) names.0.0 in
-    ap (λ (b : Bool). cond b (lowest (log_end_rules (is_titled ls) (is_closed (later_lines ls)))) (lowest (log_rules frame (is_titled (take n ls)) (is_closed (later_lines (take n ls))) (headers_in (later_lines (take n ls))) (line_at ls n)))) (eq-eqb n n refl)
+    ap (λ (b : Bool). lowest (cond b (log_end_rules (is_titled ls) (is_closed (later_lines ls))) (log_rules frame (is_titled (take n ls)) (is_closed (later_lines (take n ls))) (headers_in (later_lines (take n ls))) (line_at ls n)))) (eq-eqb n n refl)
     ∙ ap (λ (b : Bool). lowest (log_end_rules b (is_closed (later_lines ls)))) titled ∙ ap (λ (b : Bool). lowest (log_end_rules true b)) (ap is_closed (later_back x xs names) ∙ closed)
 
 -- ---- forms that break no rule

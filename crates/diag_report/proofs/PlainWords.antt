@@ -24,7 +24,7 @@ AreNames ws = AllByRecursion (λ w. is_word_name w ≡ true) ws
 -- ---- bytes
 
 -- a byte that no name has is not this one
-not_byte : (c : ℕ) → is_name_byte c ≡ false → (b : ℕ) → is_name_byte b ≡ true → eqb b c ≡ false
+pub not_byte : (c : ℕ) → is_name_byte c ≡ false → (b : ℕ) → is_name_byte b ≡ true → eqb b c ≡ false
 not_byte c none b some = elim (cases_Bool (eqb b c)) [
   | inl same ↦ absurd (both_ways (is_name_byte b) (ap is_name_byte (eqb-true b c same) ∙ none) some)
   | inr other ↦ other
@@ -40,11 +40,11 @@ not_refused b e =
     rw (low, right_true (leb 33 b) (leb b 126) range) refl
 
 -- a test that no name byte passes finds none in a name
-none_in_name : (p : ℕ → Bool) → ((b : ℕ) → is_name_byte b ≡ true → p b ≡ false) → (w : List ℕ) → list_all is_name_byte w ≡ true → AllByRecursion (λ b. p b ≡ false) w
+pub none_in_name : (p : ℕ → Bool) → ((b : ℕ) → is_name_byte b ≡ true → p b ≡ false) → (w : List ℕ) → list_all is_name_byte w ≡ true → AllByRecursion (λ b. p b ≡ false) w
 none_in_name p each [] e = tt
 none_in_name p each (b ∷ bs) e = (each b (left_true (is_name_byte b) _ e), none_in_name p each bs (right_true (is_name_byte b) _ e))
 
-append_all : (P : ℕ → Type 0) (xs ys : List ℕ) → AllByRecursion P xs → AllByRecursion P ys → AllByRecursion P (xs ++ ys)
+pub append_all : (P : ℕ → Type 0) (xs ys : List ℕ) → AllByRecursion P xs → AllByRecursion P ys → AllByRecursion P (xs ++ ys)
 append_all P [] ys a b = b
 append_all P (x ∷ xs) ys a b = (a.0, append_all P xs ys a.1 b)
 

@@ -3,18 +3,15 @@ use Rattle.std.proofs.Common.{◌≡◌, ℕ, ◌+◌, ◌<◌, ◌≤◌, Bool,
 use Rattle.std.specs.Prelude.{filter}
 use Rattle.std.proofs.lemmas.List.{length-append}
 use Rattle.std.proofs.lemmas.List.Elements.{filter-append, All-push}
-use Rattle.scan_model.specs.declared.values.Tri.{Tri}
 use Rattle.scan_model.specs.declared.logs.Bit.{Bit}
 use Rattle.scan_model.specs.declared.logs.BitClass.{BitClass}
 use Rattle.scan_model.specs.declared.logs.BitClass.TheVariants.{Conflict, Masked, Failing, Passing, Uncounted}
-use Rattle.scan_model.specs.declared.logs.LogFacts.{LogFacts}
-use Rattle.scan_model.specs.ChainShift.{value_at}
 use Rattle.scan_model.specs.Coverage.{bit_of}
-use Rattle.scan_model.specs.Classes.{class_of, is_conflict, is_masked, is_failing, is_passing}
+use Rattle.scan_model.specs.Classes.{is_conflict, is_masked, is_failing, is_passing}
 use Rattle.fault_universe.specs.BitRows.{row_bits}
 use Rattle.fault_universe.proofs.BitSteps.{row_bits_more}
 use Rattle.diag_report.specs.declared.tally.Tally.{Tally}
-use Rattle.diag_report.specs.BitTally.{class_in, tally_over, noted, IsTallyOf}
+use Rattle.diag_report.specs.BitTally.{tally_over, noted, IsTallyOf}
 
 length_push : (xs : List Bit) (b : Bit) (passes : Bool) → length (xs ++ cond passes (b ∷ []) []) ≡ length xs + cond passes 1 0
 length_push xs b true = length-append xs (b ∷ [])
@@ -39,23 +36,22 @@ pushed_is tally Passing b = simp (append-nil, add-zero)
 pushed_is tally Uncounted b = simp (append-nil, add-zero)
 
 -- one more bit
-tally_more : (logs : List LogFacts) (good : ℕ → List Tri) (bits : List Bit) (b : Bit) → tally_over logs good (bits ++ b ∷ []) ≡ noted (tally_over logs good bits) (class_in logs good b) b
-tally_more logs good bits b =
+tally_more : (classes : Bit → BitClass) (bits : List Bit) (b : Bit) → tally_over classes (bits ++ b ∷ []) ≡ noted (tally_over classes bits) (classes b) b
+tally_more classes bits b =
     rw (
-      count_push (λ b. is_failing (class_in logs good b)) bits b,
-      count_push (λ b. is_passing (class_in logs good b)) bits b,
-      filter-append (λ b. is_conflict (class_in logs good b)) bits (b ∷ []),
-      filter-append (λ b. is_masked (class_in logs good b)) bits (b ∷ []),
+      count_push (λ b. is_failing (classes b)) bits b,
+      count_push (λ b. is_passing (classes b)) bits b,
+      filter-append (λ b. is_conflict (classes b)) bits (b ∷ []),
+      filter-append (λ b. is_masked (classes b)) bits (b ∷ []),
     )
-    (pushed_is (tally_over logs good bits) (class_in logs good b) b)
+    (pushed_is (tally_over classes bits) (classes b) b)
 
 -- one more bit of a row
-pub tally_row_more : (logs : List LogFacts) (good : ℕ → List Tri) (bits : List Bit) (w k : ℕ) (row : List Tri) (tally next : Tally) (class : BitClass)
-    → tally ≡ tally_over logs good (bits ++ row_bits w k) → good w ≡ row → class ≡ class_of logs (value_at row k) (bit_of w k) → next ≡ noted tally class (bit_of w k) → next ≡ tally_over logs good (bits ++ row_bits w (k + 1))
-tally_row_more logs good bits w k row tally next class so_far is_row is_class added =
-    let same : class ≡ class_in logs good (bit_of w k) = is_class ∙ ap (λ (values : List Tri). class_of logs (value_at values k) (bit_of w k)) (sym is_row) in
-    added ∙ ap (λ (x : Tally). noted x class (bit_of w k)) so_far ∙ ap (λ (x : BitClass). noted (tally_over logs good (bits ++ row_bits w k)) x (bit_of w k)) same
-    ∙ sym (tally_more logs good (bits ++ row_bits w k) (bit_of w k)) ∙ ap (tally_over logs good) (sym (row_bits_more bits w k))
+pub tally_row_more : (classes : Bit → BitClass) (bits : List Bit) (w k : ℕ) (tally next : Tally) (class : BitClass)
+    → tally ≡ tally_over classes (bits ++ row_bits w k) → class ≡ classes (bit_of w k) → next ≡ noted tally class (bit_of w k) → next ≡ tally_over classes (bits ++ row_bits w (k + 1))
+tally_row_more classes bits w k tally next class so_far is_class added =
+    added ∙ ap (λ (x : Tally). noted x class (bit_of w k)) so_far ∙ ap (λ (x : BitClass). noted (tally_over classes (bits ++ row_bits w k)) x (bit_of w k)) is_class
+    ∙ sym (tally_more classes (bits ++ row_bits w k) (bit_of w k)) ∙ ap (tally_over classes) (sym (row_bits_more bits w k))
 
 pub IsTallyOf-noted : (points n : ℕ) (tally next : Tally) (class : BitClass) (b : Bit) → next ≡ noted tally class b → b.point < points → IsTallyOf points n tally → IsTallyOf points (n + 1) next
 IsTallyOf-noted points n tally next class b is lt all = rw is (each class)

@@ -73,7 +73,8 @@ pub record ExplainsOwnLog (t : ScanTest) (f : Fault) : Type 0 where
 abbrev pub is_word_name : List ℕ → Bool
 is_word_name w = is_filled w && list_all is_name_byte w
 
--- the names of the outputs and of the chains are such words
+-- the names of the nets, and so of the outputs, and of the chains are such words
 pub record HasWordNames (t : ScanTest) : Type 0 where
+  pub nets : All (λ n. IsTrue (is_word_name n.name)) t.netlist.nets
   pub outputs : All (λ n. IsTrue (is_word_name (name_of t n))) t.netlist.outputs
   pub chains : All (λ h. IsTrue (is_word_name h.name)) t.chains

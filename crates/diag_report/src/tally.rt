@@ -1,9 +1,8 @@
-ghost use Rattle.std.specs.Prelude.{◌≡◌, ℕ, ◌+◌, ◌^◌, ◌<◌, ◌≤◌, ◌++◌, [], List, length, slice_index_or, IfOk, OnOk};
-ghost use Rattle.scan_model.specs.declared.values.Tri.{Tri};
+ghost use Rattle.std.specs.Prelude.{◌≡◌, ℕ, ◌+◌, ◌^◌, ◌<◌, ◌≤◌, ◌++◌, List, length, IfOk, OnOk};
 ghost use Rattle.scan_model.specs.declared.logs.Bit.{Bit};
 ghost use Rattle.scan_model.specs.declared.logs.LogFacts.{LogFacts};
 ghost use Rattle.scan_model.specs.ScanTest.{points_of};
-ghost use Rattle.scan_model.specs.Response.{expected_rows};
+ghost use Rattle.scan_model.specs.Classes.{class_with};
 ghost use Rattle.log_join.specs.Joining.{StandsFor, IsJoinedOf, FitsExpected};
 ghost use Rattle.fault_universe.specs.BitRows.{row_bits};
 ghost use Rattle.diag_report.specs.BitTally.{tally_over, tally_of, noted, IsTallyOf};
@@ -50,10 +49,9 @@ fn tally_row(
     requires points { points ≡ joined.now.points }
     requires few { points ≤ 131072 }
     requires tally { IsTallyOf points (2 ^ 62) tally.old }
-    ensures classes { OnOk result ((logs : List LogFacts) (good : ℕ → List Tri) (bits : List Bit) → StandsFor logs joined.now
-        → good pattern ≡ slice_index_or expected.now pattern []
-        → tally.old ≡ tally_over logs good bits
-        → tally.new ≡ tally_over logs good (bits ++ row_bits pattern points)) }
+    ensures classes { OnOk result ((logs : List LogFacts) (bits : List Bit) → StandsFor logs joined.now
+        → tally.old ≡ tally_over (class_with expected.now logs) bits
+        → tally.new ≡ tally_over (class_with expected.now logs) (bits ++ row_bits pattern points)) }
     ensures tally { OnOk result ((n : ℕ) → IsTallyOf points n tally.old → IsTallyOf points (n + points) tally.new) }
 {
     for point in 0..points {
@@ -71,9 +69,9 @@ pub(crate) fn tally_bits(
     expected: &Expected,
     joined: &Joined,
 ) -> Result<Tally, NoMemory>
-    requires expected { expected.now ≡ expected_rows parts.now }
+    requires expected { FitsExpected expected.now joined.now }
     requires joined { IsJoinedOf (length parts.now.patterns) (length (points_of parts.now)) joined.now }
-    ensures classes { (logs : List LogFacts) → StandsFor logs joined.now → IfOk result (λ tally. tally ≡ tally_of parts.now logs) }
+    ensures classes { (logs : List LogFacts) → StandsFor logs joined.now → IfOk result (λ tally. tally ≡ tally_of parts.now (class_with expected.now logs)) }
     ensures tally { IfOk result (IsTallyOf (length (points_of parts.now)) (2 ^ 62)) }
 {
     let mut tally = Tally {

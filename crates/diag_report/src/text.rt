@@ -2,10 +2,10 @@ ghost use Rattle.std.specs.Prelude.{◌≡◌, ◌<◌, List, All, map, length, 
 ghost use Rattle.std.specs.List.{enumerate_from};
 ghost use Rattle.scan_model.specs.declared.logs.LogFacts.{LogFacts};
 ghost use Rattle.scan_model.specs.ScanTest.{points_of};
-ghost use Rattle.scan_model.specs.Response.{expected_rows};
+ghost use Rattle.scan_model.specs.Classes.{class_with};
 ghost use Rattle.scan_model.specs.Universe.{universe};
 ghost use Rattle.scan_model.specs.ReportText as text_of;
-ghost use Rattle.log_join.specs.Joining.{StandsFor, IsJoinedOf};
+ghost use Rattle.log_join.specs.Joining.{StandsFor, IsJoinedOf, FitsExpected};
 ghost use Rattle.diag_report.specs.LineEnds.{AddsLines};
 ghost use Rattle.diag_report.specs.Layout.{title_lines, total_lines, layout};
 
@@ -102,7 +102,8 @@ fn write_lines(
     Ok(finished(draft))
 }
 
-/// The report of a die: its head, the Conflict and the Masked bits in bit order, and its candidates in their order.
+/// The report of a die: its head, the Conflict and the Masked bits in bit order, and its candidates in their order. The
+/// classes are those that the given expected values make.
 /// Takes time linear in the text and in the bits.
 pub fn make_text(
     alloc: Global,
@@ -112,10 +113,10 @@ pub fn make_text(
     joined: &Joined,
     ranked: &Rows<Scored>,
 ) -> Result<Report, NoMemory>
-    requires expected { expected.now ≡ expected_rows parts.now }
+    requires expected { FitsExpected expected.now joined.now }
     requires joined { IsJoinedOf (length parts.now.patterns) (length (points_of parts.now)) joined.now }
     requires places { All (λ row. row.place < length (universe parts.now)) ranked.now }
-    ensures { (logs : List LogFacts) → StandsFor logs joined.now → IfOk result (λ r. r ≡ text_of.report_layout (universe parts.now) parts.now head.now.design head.now.die head.now.logs logs ranked.now) }
+    ensures { (logs : List LogFacts) → StandsFor logs joined.now → IfOk result (λ r. r ≡ text_of.layout_by_class (universe parts.now) parts.now head.now.design head.now.die head.now.logs (class_with expected.now logs) ranked.now) }
 {
     let tally = tally_bits(alloc, parts, expected, joined)?;
     write_lines(alloc, parts, head, &tally, ranked.as_slice())

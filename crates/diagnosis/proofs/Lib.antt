@@ -25,3 +25,4 @@ pub mod AnyOrder
 pub mod LogFits
 pub mod Places
 pub mod Reports
+mod CutReports

@@ -56,3 +56,10 @@ log_at P logs i log all below is =
 -- they stand over the test of the design
 pub logs_stand : (v : ViewFacts) → IsView v → All (StandsOver v.design.test) v.logs
 logs_stand v view = All-weaker (IsLogOf v.design v.die) (StandsOver v.design.test) (λ log of. of.stands) v.logs view.logs
+
+abbrev pub view_with : DesignFacts → List ℕ → List ReadLogFacts → ViewFacts
+view_with design die logs = record { design = design; die = die; logs = logs }
+
+-- a view is its parts
+pub same_view : (v : ViewFacts) (design : DesignFacts) (die : List ℕ) (logs : List ReadLogFacts) → design ≡ v.design → die ≡ v.die → logs ≡ v.logs → view_with design die logs ≡ v
+same_view v design die logs is_design is_die are_logs = rw (is_design, is_die, are_logs) refl

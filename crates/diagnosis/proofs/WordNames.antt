@@ -1,4 +1,4 @@
--- The outputs and the chains of a design have words of name bytes as names.
+-- The nets, the outputs and the chains of a design have words of name bytes as names.
 use Rattle.std.proofs.Common.{◌≡◌, ℕ, ◌<◌, true, List, [], ◌∷◌, length, get_or, map, Option, Some, None, option_map, Ok, refl, sym, ap, ◌∙◌, subst, arith}
 use Rattle.std.specs.Prelude.{All, IsTrue, IfSome, ◌&&◌, codes}
 use Rattle.std.specs.List.{list_all, cons_option, slice_split}
@@ -6,6 +6,7 @@ use Rattle.std.specs.Str.{bytes_eq}
 use Rattle.std.proofs.lemmas.Bool.{cond_both, and_parts, and_from}
 use Rattle.std.proofs.lemmas.List.{get_or-map}
 use Rattle.std.proofs.lemmas.List.Elements.{All-nil, All-cons, All-map, All-weaker, All-get_or, All-from_recursion, filter_passes}
+use Rattle.std.proofs.lemmas.List.Folds.{list_all-map}
 use Rattle.std.proofs.lemmas.List.Sums.{AllPass-from_list_all}
 use Rattle.scan_model.specs.declared.circuit.Net.{Net}
 use Rattle.scan_model.specs.declared.parts.Chain.{Chain}
@@ -65,6 +66,15 @@ word_outputs fs known are =
     (All-weaker (λ n. has_word defined n ≡ true) (λ n. IsTrue (is_word_name (net_at (circuit_in fs) (net_number defined n)).name)) (word_output fs are) (outputs_of fs)
     (All-from_recursion (λ n. has_word defined n ≡ true) (outputs_of fs) outputs.known))
 
+word_nets : (fs : List Form) → are_words (defined_names fs) ≡ true → All (λ n. IsTrue (is_word_name n.name)) (circuit_in fs).nets
+word_nets fs are =
+    AllPass-from_list_all (λ n. is_word_name n.name) (circuit_in fs).nets
+    (sym (list_all-map is_word_name (λ (n : Net). n.name) (circuit_in fs).nets) ∙ ap are_words (names_after [] 0 fs) ∙ are)
+
+netlist_net_names : (bytes : List ℕ) (c : Netlist) → netlist_reading bytes ≡ Ok c → All (λ n. IsTrue (is_word_name n.name)) c.nets
+netlist_net_names bytes c e =
+    subst (λ (d : Netlist). All (λ n. IsTrue (is_word_name n.name)) d.nets) (no_fault (netlist_fault bytes) (circuit_of bytes) c e).1 (word_nets (forms_of (text_lines bytes)) (words_defined (text_lines bytes)))
+
 netlist_word_names : (bytes : List ℕ) (c : Netlist) → netlist_reading bytes ≡ Ok c → All (λ n. IsTrue (is_word_name (net_at c n).name)) c.outputs
 netlist_word_names bytes c e =
     let ls = text_lines bytes in
@@ -107,8 +117,8 @@ scan_word_names nets bytes cs e =
 -- ---- the scan test
 
 parts_named : (c : Netlist) (cs : List Chain) (patterns : List Pattern) (pairs : Pairs) (t : ScanTest) → scan_test c cs patterns pairs ≡ t
-    → All (λ n. IsTrue (is_word_name (net_at c n).name)) c.outputs → All HasWordName cs → HasWordNames t
-parts_named c cs patterns pairs t whole outputs named = subst HasWordNames whole (record { outputs = outputs; chains = named })
+    → All (λ n. IsTrue (is_word_name n.name)) c.nets → All (λ n. IsTrue (is_word_name (net_at c n).name)) c.outputs → All HasWordName cs → HasWordNames t
+parts_named c cs patterns pairs t whole nets outputs named = subst HasWordNames whole (record { nets = nets; outputs = outputs; chains = named })
 
 pub word_names : (texts : FourTexts) (t : ScanTest) → texts_reading texts ≡ Ok t → HasWordNames t
 word_names texts t e =
@@ -117,7 +127,7 @@ word_names texts t e =
     let chains = section_read Scan (scan_reading c.nets texts.scan) (with_chains texts c) t circuit.2 in
     let patterns = section_read Patterns (pattern_reading (pattern_frame c chains.0) texts.patterns) (with_patterns texts c chains.0) t chains.2 in
     let pairs = section_read Neighbours (pairs_reading c texts.neighbours) (λ p. Ok (scan_test c chains.0 patterns.0 p)) t patterns.2 in
-    parts_named c chains.0 patterns.0 pairs.0 t (let read = pairs.2 in cc) (netlist_word_names texts.netlist c circuit.1) (scan_word_names c.nets texts.scan chains.0 chains.1)
+    parts_named c chains.0 patterns.0 pairs.0 t (let read = pairs.2 in cc) (netlist_net_names texts.netlist c circuit.1) (netlist_word_names texts.netlist c circuit.1) (scan_word_names c.nets texts.scan chains.0 chains.1)
 
 pub bundle_word_names : (bytes : List ℕ) (t : ScanTest) → bundle_reading bytes ≡ Ok t → HasWordNames t
 bundle_word_names bytes t e = go (bundle_fault bytes) e

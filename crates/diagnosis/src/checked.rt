@@ -2,6 +2,7 @@
 ghost use Rattle.std.specs.Prelude.{◌≡◌, ◌<◌, ℕ, List, All, length, map, IfOk};
 ghost use Rattle.std.specs.Arc.{arc_value};
 ghost use Rattle.sha2.specs.Sha256.{sha256};
+ghost use Rattle.scan_model.specs.Lines.{pieces};
 ghost use Rattle.scan_model.specs.ScanTest.{points_of};
 ghost use Rattle.scan_model.specs.DieReport.{die_report};
 ghost use Rattle.scan_model.specs.MatchCounts.{candidates};
@@ -76,15 +77,18 @@ fn diagnosis_of(
 pub fn make_diagnosis<R>(_rt: &R, alloc: Global, view: &DieView) -> Result<Diagnosis, NoMemory>
     ensures lines { IfOk result (λ d. d.report ≡ view_lines view.now) }
     ensures report { IfOk result (λ d. text_of.joined d.report ≡ view_report view.now) }
+    ensures cut { IfOk result (λ d. pieces (view_report view.now) ≡ d.report) }
     ensures candidates { IfOk result (λ d. d.candidates ≡ ranked (candidates view.now.design.test (facts_of view.now.logs))) }
 {
     diagnosis_of(alloc, view.design(), view.die(), view.logs())
 }
 
-/// The report over the logs of a die. Their order doesn't matter, nor does it that a text is given again.
+/// The report over the logs of a die. Its lines are its text cut behind each LF. The order of the logs doesn't matter, nor does
+/// it that a text is given again.
 pub fn make_report<R>(rt: &R, alloc: Global, view: &DieView) -> Result<Report, NoMemory>
     ensures lines { IfOk result (λ report. report ≡ view_lines view.now) }
     ensures report { IfOk result (λ report. text_of.joined report ≡ view_report view.now) }
+    ensures cut { IfOk result (λ report. pieces (view_report view.now) ≡ report) }
     ensures any_order { (others : List (List ℕ)) → HaveSameTexts (texts_of view.now.logs) others → IfOk result (λ report. text_of.joined report ≡ die_report view.now.design.test view.now.design.name view.now.die others) }
 {
     let diagnosis = make_diagnosis(rt, alloc, view)?;
@@ -136,13 +140,19 @@ impl Checked {
     }
 }
 
+fn digest_of(report: &Report) -> Digest
+    ensures { result ≡ sha256 (text_of.joined report.now) }
+{
+    Digest::from_bytes(<Sha256 as sha2::Digest>::digest(report.bytes()))
+}
+
 /// Makes the report of a die that has a log, for its digest.
 pub fn check_report<R>(rt: &R, alloc: Global, view: &DieView) -> Result<Checked, NoMemory>
     requires { 0 < length view.now.logs }
     ensures { IfOk result (λ checked. checked ≡ view.now) }
 {
     let report = make_report(rt, alloc, view)?;
-    let bytes = <Sha256 as sha2::Digest>::digest(report.bytes());
-    let digest = Digest::from_bytes(bytes);
-    Ok(Checked::by_digest(view.copy(alloc)?, digest))
+    let digest = digest_of(&report);
+    let view = view.copy(alloc)?;
+    Ok(Checked::by_digest(view, digest))
 }

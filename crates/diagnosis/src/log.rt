@@ -3,6 +3,7 @@ ghost use Rattle.std.specs.Prelude.{◌≡◌, true, IfOk};
 ghost use Rattle.scan_model.specs.Words.{is_tag};
 ghost use Rattle.scan_model.specs.LogText.{log_frame, log_reading};
 ghost use Rattle.text_parts.specs.Gives.{Gives};
+ghost use Rattle.diagnosis.specs.Designs.{IsLogOf};
 
 use crate::design::Design;
 use fail_logs::read_log;
@@ -74,6 +75,7 @@ pub fn log_of(
     ensures design { IfOk result (λ log. log.design ≡ design.now.name) }
     ensures die { IfOk result (λ log. log.die ≡ die.now) }
     ensures text { IfOk result (λ log. log.text ≡ bytes.now) }
+    ensures log { IfOk result (IsLogOf design.now die.now) }
     ensures reading { Gives (λ log. log.facts) result (log_reading (log_frame design.now.test design.now.name die.now) bytes.now) }
 {
     let facts = read_log(alloc, design.parts(), design.name(), die, bytes)?;

@@ -67,11 +67,12 @@ impl DieView {
     pub(crate) fn copy(&self, alloc: Global) -> Result<DieView, NoMemory>
         ensures { IfOk result (λ copy. copy ≡ self.now) }
     {
-        Ok(DieView {
-            design: Arc::try_clone(&self.design)?,
-            die: Name::copy_of(alloc, self.die.as_slice())?,
-            logs: more_references(alloc, self.logs.as_slice())?,
-        })
+        // The copy's invariant is what the view says of itself.
+        let _revision = self.revision();
+        let design = Arc::try_clone(self.design())?;
+        let die = Name::copy_of(alloc, self.die())?;
+        let logs = more_references(alloc, self.logs())?;
+        Ok(DieView { design, die, logs })
     }
 
     /// The number of logs.

@@ -8,3 +8,4 @@ pub mod CellTable
 pub mod TestFrame
 pub mod Accepted
 pub mod Whole
+pub mod Judged

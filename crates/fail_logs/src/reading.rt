@@ -1,12 +1,12 @@
 //! A whole log.
 
-ghost use Rattle.std.specs.Prelude.{◌≡◌, ◌≤◌, length, IfOk};
+ghost use Rattle.std.specs.Prelude.{◌≡◌, ◌≤◌, ◌+◌, length, IfOk};
 ghost use Rattle.scan_model.specs.Lines.{text_lines};
-ghost use Rattle.scan_model.specs.TextFaults.{refused_or};
-ghost use Rattle.scan_model.specs.LogText.{log_frame, log_reading, log_fault, later_lines};
+ghost use Rattle.scan_model.specs.TextFaults.{HasNoFault, IsFirstFault, refused_or};
+ghost use Rattle.scan_model.specs.LogText.{log_frame, log_breaks, log_reading, log_fault, later_lines};
 ghost use Rattle.scan_model.specs.Coverage.{FitsLog};
 ghost use Rattle.scan_model.specs.ScanTest.{points_of};
-ghost use Rattle.text_parts.specs.Gives.{Gives};
+ghost use Rattle.text_parts.specs.Gives.{Gives, IfFault};
 ghost use Rattle.fail_logs.specs.Frames.{frame_view, places_view};
 ghost use Rattle.fail_logs.specs.IsFrame.{IsFrame};
 ghost use Rattle.fail_logs.specs.LineFacts.{facts_of, kept_facts};
@@ -74,6 +74,8 @@ pub fn read_log(
     bytes: &[u8],
 ) -> Result<LogFacts, ReadFault>
     ensures reading { Gives (λ log. log) result (log_reading (log_frame parts.now design.now die.now) bytes.now) }
+    ensures first { IfFault result (IsFirstFault (log_breaks (log_frame parts.now design.now die.now) (text_lines bytes.now)) (length (text_lines bytes.now) + 1)) }
+    ensures none { IfOk result (λ log. HasNoFault (log_breaks (log_frame parts.now design.now die.now) (text_lines bytes.now)) (length (text_lines bytes.now) + 1)) }
     ensures fits { IfOk result (FitsLog (length parts.now.patterns) (length (points_of parts.now))) }
 {
     let frame = Frame::of_parts(alloc, parts, design, die)?;

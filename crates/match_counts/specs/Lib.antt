@@ -1,1 +1,6 @@
 pub mod Tally
+pub mod Hits
+pub mod BlockSums
+pub mod PointRows
+pub mod Shares
+pub mod Totals

@@ -41,7 +41,7 @@ fn plain_counts_of(
 }
 
 /// Adds a fault's counts where it explains a failing bit.
-fn push_candidate(rows: &mut Rows<Scored>, row: Scored) -> Result<(), NoMemory>
+pub(crate) fn push_candidate(rows: &mut Rows<Scored>, row: Scored) -> Result<(), NoMemory>
     ensures { OnOk result (rows.new ≡ rows.old ++ cond (is_candidate row) (row ∷ []) []) }
 {
     if row.counts.tfsf > 0 {

@@ -20,10 +20,13 @@ pub mod PinCounts
 pub mod BitTables
 pub mod Definite
 pub mod FaultSteps
+pub mod FirstFaults
+pub mod TextRules
 pub mod PointCount
 pub mod LevelTests
 pub mod CandidatePlaces
 pub mod ExpectedRows
 pub mod Cells
 pub mod Loads
+pub mod MoreDefinite
 pub mod counting

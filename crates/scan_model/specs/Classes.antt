@@ -1,5 +1,5 @@
 -- What the logs of a die say together of a bit.
-use Rattle.std.specs.Prelude.{List, Bool, true, false, not, ◌&&◌}
+use Rattle.std.specs.Prelude.{List, [], Bool, true, false, not, ◌&&◌, slice_index_or}
 use Rattle.std.specs.List.{list_any}
 use Rattle.scan_model.specs.declared.values.Tri.{Tri}
 use Rattle.scan_model.specs.declared.values.Tri.TheVariants.{Zero, One, Unknown}
@@ -7,6 +7,7 @@ use Rattle.scan_model.specs.declared.logs.Bit.{Bit}
 use Rattle.scan_model.specs.declared.logs.LogFacts.{LogFacts}
 use Rattle.scan_model.specs.declared.logs.BitClass.{BitClass}
 use Rattle.scan_model.specs.declared.logs.BitClass.TheVariants.{Conflict, Masked, Failing, Passing, Uncounted}
+use Rattle.scan_model.specs.ChainShift.{value_at}
 use Rattle.scan_model.specs.ScanTest.{ScanTest}
 use Rattle.scan_model.specs.Response.{expected}
 use Rattle.scan_model.specs.Coverage.{lists, covers}
@@ -59,6 +60,10 @@ is_passing Masked = false
 is_passing Failing = false
 is_passing Passing = true
 is_passing Uncounted = false
+
+-- the class of a bit where these rows of values are expected, one of each pattern
+abbrev pub class_with : List (List Tri) → List LogFacts → Bit → BitClass
+class_with rows logs b = class_of logs (value_at (slice_index_or rows b.pattern []) b.point) b
 
 -- the class of a bit over the logs of a die
 abbrev pub class : ScanTest → List LogFacts → Bit → BitClass

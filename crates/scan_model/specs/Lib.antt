@@ -37,3 +37,4 @@ pub mod Force
 pub mod BranchMask
 pub mod Masks
 pub mod ChainWalk
+pub mod MoreDefinite

@@ -4,7 +4,7 @@ use Rattle.std.specs.List.{list_any, position_or_len, range_with_len}
 use Rattle.std.specs.Str.{bytes_eq}
 use Rattle.scan_model.specs.Lines.{text_lines, line_at, has_refused_byte}
 use Rattle.scan_model.specs.Words.{words, word_lines, has_words, number_of}
-use Rattle.scan_model.specs.TextFaults.{lowest, first_fault, refused_or}
+use Rattle.scan_model.specs.TextFaults.{breaks, lowest, first_fault, refused_or}
 use Rattle.scan_model.specs.declared.parts.PatternKind.{PatternKind}
 use Rattle.scan_model.specs.declared.parts.PatternKind.TheVariants.{Capture, Shift}
 use Rattle.scan_model.specs.declared.parts.Pattern.{Pattern}
@@ -243,11 +243,19 @@ log_rules frame titled closed headers line = (51, has_refused_byte line) ∷ rul
 abbrev pub log_end_rules : Bool → Bool → List (ℕ × Bool)
 log_end_rules titled closed = (52, not titled) ∷ (61, not closed) ∷ []
 
+-- the rules at the line i, which may be the one after the last
+abbrev pub log_table : LogFrame → List (List ℕ) → ℕ → List (ℕ × Bool)
+log_table frame ls i =
+    if i == length ls then log_end_rules (is_titled ls) (is_closed (later_lines ls))
+    else log_rules frame (is_titled (take i ls)) (is_closed (later_lines (take i ls))) (headers_in (later_lines (take i ls))) (line_at ls i)
+
+-- the line i breaks the rule
+abbrev pub log_breaks : LogFrame → List (List ℕ) → ℕ → ℕ → Bool
+log_breaks frame ls i rule = breaks (log_table frame ls i) rule
+
 -- the lowest rule that the line i breaks
 abbrev pub log_rule : LogFrame → List (List ℕ) → ℕ → Option ℕ
-log_rule frame ls i =
-    if i == length ls then lowest (log_end_rules (is_titled ls) (is_closed (later_lines ls)))
-    else lowest (log_rules frame (is_titled (take i ls)) (is_closed (later_lines (take i ls))) (headers_in (later_lines (take i ls))) (line_at ls i))
+log_rule frame ls i = lowest (log_table frame ls i)
 
 abbrev pub log_fault : LogFrame → List ℕ → Option (ℕ × ℕ)
 log_fault frame bytes = first_fault (log_rule frame (text_lines bytes)) (length (text_lines bytes) + 1)

@@ -101,11 +101,15 @@ first_rules defined outputs pins line =
           || makes_past pins (length (pins_of outputs (form_of line))) pin_limit,
     ) ∷ []
 
--- the lowest of these rules that the line i breaks
+-- the rules at the line i
+abbrev pub first_table : List (List ℕ) → ℕ → List (ℕ × Bool)
+first_table ls i =
+    first_rules (defined_names (forms_of (take i ls))) (outputs_of (forms_of (take i ls)))
+    (length (pins_after [] (forms_of (take i ls)))) (line_at ls i)
+
+-- the lowest of these that it breaks
 abbrev pub first_rule : List (List ℕ) → ℕ → Option ℕ
-first_rule ls i =
-    lowest (first_rules (defined_names (forms_of (take i ls))) (outputs_of (forms_of (take i ls)))
-    (length (pins_after [] (forms_of (take i ls)))) (line_at ls i))
+first_rule ls i = lowest (first_table ls i)
 
 -- ---- the second round: rule 7
 
@@ -114,8 +118,11 @@ abbrev pub uses_undefined_first : List Form → ℕ → Bool
 uses_undefined_first fs i =
     list_any (λ n. not (has_word (defined_names fs) n) && not (has_word (used_names (take i fs)) n)) (uses_of (form_at fs i))
 
+abbrev pub second_table : List (List ℕ) → ℕ → List (ℕ × Bool)
+second_table ls i = (7, uses_undefined_first (forms_of ls) i) ∷ []
+
 abbrev pub second_rule : List (List ℕ) → ℕ → Option ℕ
-second_rule ls i = lowest ((7, uses_undefined_first (forms_of ls) i) ∷ [])
+second_rule ls i = lowest (second_table ls i)
 
 -- the first fault of these two rounds
 abbrev pub early_fault : List (List ℕ) → Option (ℕ × ℕ)

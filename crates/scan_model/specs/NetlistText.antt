@@ -9,9 +9,9 @@ use Rattle.scan_model.specs.declared.circuit.PinPlace.TheVariants as place
 use Rattle.scan_model.specs.Netlist.{Netlist, netlist}
 use Rattle.scan_model.specs.Walks.{has_level}
 use Rattle.scan_model.specs.Lines.{text_lines}
-use Rattle.scan_model.specs.TextFaults.{lowest, or_else, first_fault, refused_or}
+use Rattle.scan_model.specs.TextFaults.{breaks, lowest, or_else, first_fault, refused_or}
 use Rattle.scan_model.specs.NetlistLines.{Form, input, output, definition, driver_named}
-use Rattle.scan_model.specs.NetlistRules.{forms_of, form_at, nets_of, defined_names, new_output, outputs_of, pins_of, early_fault}
+use Rattle.scan_model.specs.NetlistRules.{forms_of, form_at, nets_of, defined_names, new_output, outputs_of, pins_of, first_table, second_table, early_fault}
 
 -- the number of a net, in the order of defining lines
 abbrev pub net_number : List (List ℕ) → List ℕ → ℕ
@@ -65,8 +65,21 @@ circuit_of bytes = circuit_in (forms_of (text_lines bytes))
 abbrev pub defines_without_level : List Form → Form → Bool
 defines_without_level fs f = list_any (λ n. not (has_level (circuit_in fs) (net_number (defined_names fs) n))) (nets_of f)
 
+abbrev pub third_table : List (List ℕ) → ℕ → List (ℕ × Bool)
+third_table ls i = (8, defines_without_level (forms_of ls) (form_at (forms_of ls) i)) ∷ []
+
 abbrev pub third_rule : List (List ℕ) → ℕ → Option ℕ
-third_rule ls i = lowest ((8, defines_without_level (forms_of ls) (form_at (forms_of ls) i)) ∷ [])
+third_rule ls i = lowest (third_table ls i)
+
+-- ---- all rules
+
+-- the line i breaks the rule
+abbrev pub netlist_breaks : List (List ℕ) → ℕ → ℕ → Bool
+netlist_breaks ls i rule = breaks (first_table ls i ++ (second_table ls i ++ third_table ls i)) rule
+
+-- the rounds in which the rules are sought
+abbrev pub netlist_rounds : List (List ℕ)
+netlist_rounds = (1 ∷ 2 ∷ 3 ∷ 4 ∷ 5 ∷ 6 ∷ 9 ∷ []) ∷ (7 ∷ []) ∷ (8 ∷ []) ∷ []
 
 -- the first fault: the rounds in their order
 abbrev pub netlist_fault : List ℕ → Option (ℕ × ℕ)

@@ -4,7 +4,7 @@ use Rattle.std.specs.List.{list_any, list_all}
 use Rattle.std.specs.Str.{bytes_eq}
 use Rattle.scan_model.specs.Lines.{text_lines, line_at, has_refused_byte}
 use Rattle.scan_model.specs.Words.{words, word_lines, has_words}
-use Rattle.scan_model.specs.TextFaults.{lowest, first_fault, refused_or}
+use Rattle.scan_model.specs.TextFaults.{breaks, lowest, first_fault, refused_or}
 use Rattle.scan_model.specs.declared.parts.Chain.{Chain}
 use Rattle.scan_model.specs.declared.parts.Pattern.{Pattern}
 use Rattle.scan_model.specs.Netlist.{Netlist}
@@ -93,11 +93,19 @@ pattern_rules frame earlier line =
 abbrev pub pattern_end_rules : ℕ → List (ℕ × Bool)
 pattern_end_rules patterns = (26, patterns == 0) ∷ []
 
+-- the rules at the line i, which may be the one after the last
+abbrev pub pattern_table : PatternFrame → List (List ℕ) → ℕ → List (ℕ × Bool)
+pattern_table frame ls i =
+    if i == length ls then pattern_end_rules (length (pattern_lines ls))
+    else pattern_rules frame (length (pattern_lines (take i ls))) (line_at ls i)
+
+-- the line i breaks the rule
+abbrev pub pattern_breaks : PatternFrame → List (List ℕ) → ℕ → ℕ → Bool
+pattern_breaks frame ls i rule = breaks (pattern_table frame ls i) rule
+
 -- the lowest rule that the line i breaks
 abbrev pub pattern_rule : PatternFrame → List (List ℕ) → ℕ → Option ℕ
-pattern_rule frame ls i =
-    if i == length ls then lowest (pattern_end_rules (length (pattern_lines ls)))
-    else lowest (pattern_rules frame (length (pattern_lines (take i ls))) (line_at ls i))
+pattern_rule frame ls i = lowest (pattern_table frame ls i)
 
 abbrev pub pattern_fault : PatternFrame → List ℕ → Option (ℕ × ℕ)
 pattern_fault frame bytes = first_fault (pattern_rule frame (text_lines bytes)) (length (text_lines bytes) + 1)

@@ -78,26 +78,32 @@ candidate_line faults t e = line ((codes "candidate" ∷ decimal e.0 ∷ codes "
     ∷ codes "tfsf" ∷ decimal e.1.counts.tfsf ∷ codes "tfsp" ∷ decimal e.1.counts.tfsp ∷ codes "tpsf" ∷ decimal e.1.counts.tpsf ∷ [])
     ++ fault_words t (slice_index_or faults e.1.place no_fault))
 
--- the bits of a class
+-- the bits of a class, by the class of each bit
+abbrev pub bits_in : ScanTest → (Bit → BitClass) → (BitClass → Bool) → List Bit
+bits_in t classes is = filter (λ b. is (classes b)) (bits_of t)
+
 abbrev pub bits_that : ScanTest → List LogFacts → (BitClass → Bool) → List Bit
-bits_that t logs is = filter (λ b. is (class t logs b)) (bits_of t)
+bits_that t logs is = bits_in t (class t logs) is
 
 -- A report is a list of lines: nine of a head, the Conflict bits, the Masked bits, and the rows in their order, which
 -- are places of a list of faults with their counts.
-abbrev pub report_layout : List Fault → ScanTest → List ℕ → List ℕ → ℕ → List LogFacts → List Scored → List (List ℕ)
-report_layout faults t design die count logs rows =
+abbrev pub layout_by_class : List Fault → ScanTest → List ℕ → List ℕ → ℕ → (Bit → BitClass) → List Scored → List (List ℕ)
+layout_by_class faults t design die count classes rows =
     line (codes "REPORT" ∷ decimal 1 ∷ [])
     ∷ line (codes "design" ∷ design ∷ [])
     ∷ line (codes "die" ∷ die ∷ [])
     ∷ line (codes "logs" ∷ decimal count ∷ [])
-    ∷ line (codes "failing" ∷ decimal (length (bits_that t logs is_failing)) ∷ [])
-    ∷ line (codes "passing" ∷ decimal (length (bits_that t logs is_passing)) ∷ [])
-    ∷ line (codes "conflicts" ∷ decimal (length (bits_that t logs is_conflict)) ∷ [])
-    ∷ line (codes "masked" ∷ decimal (length (bits_that t logs is_masked)) ∷ [])
+    ∷ line (codes "failing" ∷ decimal (length (bits_in t classes is_failing)) ∷ [])
+    ∷ line (codes "passing" ∷ decimal (length (bits_in t classes is_passing)) ∷ [])
+    ∷ line (codes "conflicts" ∷ decimal (length (bits_in t classes is_conflict)) ∷ [])
+    ∷ line (codes "masked" ∷ decimal (length (bits_in t classes is_masked)) ∷ [])
     ∷ line (codes "candidates" ∷ decimal (length rows) ∷ [])
-    ∷ (map (bit_line t (codes "conflict")) (bits_that t logs is_conflict)
-    ++ map (bit_line t (codes "masked")) (bits_that t logs is_masked)
+    ∷ (map (bit_line t (codes "conflict")) (bits_in t classes is_conflict)
+    ++ map (bit_line t (codes "masked")) (bits_in t classes is_masked)
     ++ map (candidate_line faults t) (enumerate_from 1 rows))
+
+abbrev pub report_layout : List Fault → ScanTest → List ℕ → List ℕ → ℕ → List LogFacts → List Scored → List (List ℕ)
+report_layout faults t design die count logs rows = layout_by_class faults t design die count (class t logs) rows
 
 -- the report over the faults of a list: its rows are those that explain a failing bit, in ranking order
 abbrev pub report_lines_among : List Fault → ScanTest → List ℕ → List ℕ → List LogFacts → List (List ℕ)

@@ -4,7 +4,7 @@ use Rattle.std.specs.List.{list_any, list_all}
 use Rattle.std.specs.Str.{bytes_eq}
 use Rattle.scan_model.specs.Lines.{text_lines, line_at, has_refused_byte}
 use Rattle.scan_model.specs.Words.{words, word_lines, has_words, has_word, is_short_name}
-use Rattle.scan_model.specs.TextFaults.{lowest, first_fault, refused_or}
+use Rattle.scan_model.specs.TextFaults.{breaks, lowest, first_fault, refused_or}
 use Rattle.scan_model.specs.declared.circuit.Driver.{Driver}
 use Rattle.scan_model.specs.declared.circuit.Driver.TheVariants.{Input, Flop, Gate}
 use Rattle.scan_model.specs.declared.circuit.Net.{Net}
@@ -93,9 +93,17 @@ chains_before ls i = chains (word_lines (take i ls))
 abbrev pub titles_in : List ChainNames → List (List ℕ)
 titles_in cs = map (λ c. c.name) cs
 
+-- the rules at the line i
+abbrev pub scan_table : List Net → List (List ℕ) → ℕ → List (ℕ × Bool)
+scan_table nets ls i = scan_rules nets (cells_in (chains_before ls i)) (titles_in (chains_before ls i)) (line_at ls i)
+
+-- the line i breaks the rule
+abbrev pub scan_breaks : List Net → List (List ℕ) → ℕ → ℕ → Bool
+scan_breaks nets ls i rule = breaks (scan_table nets ls i) rule
+
 -- the lowest rule that the line i breaks
 abbrev pub scan_rule : List Net → List (List ℕ) → ℕ → Option ℕ
-scan_rule nets ls i = lowest (scan_rules nets (cells_in (chains_before ls i)) (titles_in (chains_before ls i)) (line_at ls i))
+scan_rule nets ls i = lowest (scan_table nets ls i)
 
 abbrev pub scan_fault : List Net → List ℕ → Option (ℕ × ℕ)
 scan_fault nets bytes = first_fault (scan_rule nets (text_lines bytes)) (length (text_lines bytes))

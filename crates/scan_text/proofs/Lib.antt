@@ -3,3 +3,4 @@ pub mod SoundChains
 pub mod ScanLoop
 pub mod SoundPatterns
 pub mod PatternLoop
+pub mod Judged

@@ -1,9 +1,10 @@
-ghost use Rattle.std.specs.Prelude.{◌≡◌, length, IfOk, Ok, None, [], ◌∷◌, ◌++◌};
+ghost use Rattle.std.specs.Prelude.{◌≡◌, ◌+◌, length, IfOk, Ok, None, [], ◌∷◌, ◌++◌};
 ghost use Rattle.scan_model.specs.Netlist.{Netlist};
-ghost use Rattle.scan_model.specs.TextFaults.{lowest};
-ghost use Rattle.scan_model.specs.PatternText.{pattern_frame, pattern_rules, patterns_of, pattern_reading};
+ghost use Rattle.scan_model.specs.Lines.{text_lines};
+ghost use Rattle.scan_model.specs.TextFaults.{HasNoFault, IsFirstFault, lowest};
+ghost use Rattle.scan_model.specs.PatternText.{pattern_frame, pattern_rules, pattern_breaks, patterns_of, pattern_reading};
 ghost use Rattle.scan_model.specs.ScanTest.{ArePatterns};
-ghost use Rattle.text_parts.specs.Gives.{Gives};
+ghost use Rattle.text_parts.specs.Gives.{Gives, IfFault};
 ghost use Rattle.scan_text.specs.Frames.{frame_view};
 
 use crate::pattern::{
@@ -77,6 +78,8 @@ pub fn read_patterns(
     bytes: &[u8],
 ) -> Result<Rows<Pattern>, ReadFault>
     ensures reading { Gives (λ patterns. patterns) result (pattern_reading (pattern_frame circuit.now chains.now) bytes.now) }
+    ensures first { IfFault result (IsFirstFault (pattern_breaks (pattern_frame circuit.now chains.now) (text_lines bytes.now)) (length (text_lines bytes.now) + 1)) }
+    ensures none { IfOk result (λ patterns. HasNoFault (pattern_breaks (pattern_frame circuit.now chains.now) (text_lines bytes.now)) (length (text_lines bytes.now) + 1)) }
     ensures fits { IfOk result (ArePatterns circuit.now chains.now) }
 {
     let frame = Frame {

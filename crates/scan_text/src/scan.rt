@@ -1,8 +1,10 @@
 ghost use Rattle.std.specs.Prelude.{◌≡◌, ◌≤◌, length, IfOk};
 ghost use Rattle.scan_model.specs.Netlist.{Netlist};
-ghost use Rattle.scan_model.specs.ScanText.{net_names, scan_reading};
+ghost use Rattle.scan_model.specs.Lines.{text_lines};
+ghost use Rattle.scan_model.specs.TextFaults.{HasNoFault, IsFirstFault};
+ghost use Rattle.scan_model.specs.ScanText.{net_names, scan_breaks, scan_reading};
 ghost use Rattle.scan_model.specs.ScanTest.{AreChains};
-ghost use Rattle.text_parts.specs.Gives.{Gives};
+ghost use Rattle.text_parts.specs.Gives.{Gives, IfFault};
 
 use crate::chains::Chains;
 use scan_model::{Chain, Circuit, Net, Rows};
@@ -30,6 +32,8 @@ fn read_chains(alloc: Global, nets: &[Net], bytes: &[u8]) -> Result<Vec<Chain>, 
 /// The chains that a scan text stands for, or its first fault by rules 11 to 15.
 pub fn read_scan(alloc: Global, circuit: &Circuit, bytes: &[u8]) -> Result<Rows<Chain>, ReadFault>
     ensures reading { Gives (λ chains. chains) result (scan_reading circuit.now.nets bytes.now) }
+    ensures first { IfFault result (IsFirstFault (scan_breaks circuit.now.nets (text_lines bytes.now)) (length (text_lines bytes.now))) }
+    ensures none { IfOk result (λ chains. HasNoFault (scan_breaks circuit.now.nets (text_lines bytes.now)) (length (text_lines bytes.now))) }
     ensures fits { IfOk result (AreChains circuit.now) }
 {
     let nets = circuit.nets().as_slice();

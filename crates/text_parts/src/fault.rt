@@ -4,6 +4,7 @@ ghost use Rattle.std.specs.Prelude.{◌≡◌};
 ghost use Rattle.text_parts.specs.declared.fault.ReadFault.TheVariants.{NoMemory};
 
 use std::alloc::{AllocError, AllocFailed};
+use thiserror::Error;
 
 /// The first fault of a text: a line, counted from 1, and a rule.
 #[derive(Clone, Copy, Debug, PartialEq, Eq)]
@@ -13,9 +14,11 @@ pub struct TextFault {
 }
 
 /// Why a text was not read: its first fault, or want of memory.
-#[derive(Debug, Drop)]
+#[derive(Debug, Drop, Error)]
 pub enum ReadFault {
+    #[error("a line of the text breaks a rule")]
     Text(TextFault),
+    #[error("memory ran out")]
     NoMemory,
 }
 

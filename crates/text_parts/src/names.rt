@@ -1,8 +1,8 @@
-ghost use Rattle.std.specs.Prelude.{◌≡◌, ◌≤◌, [], ◌∷◌, ◌++◌, length, position, OnOk, OnErr, IfOk, Ok, true, not};
+ghost use Rattle.std.specs.Prelude.{◌≡◌, ◌≤◌, ℕ, [], ◌∷◌, ◌++◌, length, take, position, OnOk, OnErr, IfOk, Ok, true, false, not};
 ghost use Rattle.std.specs.List.{list_any, position_or_len};
 ghost use Rattle.std.specs.Str.{bytes_eq};
 ghost use Rattle.scan_model.specs.ScanText.{net_names, stands_again};
-ghost use Rattle.text_parts.specs.Views.{nows};
+ghost use Rattle.text_parts.specs.Views.{nows, before_repeat};
 
 use scan_model::Net;
 use std::alloc::{AllocError, Global};
@@ -84,20 +84,13 @@ impl<'a> Names<'a> {
         self.place(word).unwrap_or(self.len())
     }
 
-    /// Adds names at the end, in their order.
-    pub fn add_all(&mut self, names: &[&'a [u8]]) -> Result<(), AllocError>
-        ensures ok { OnOk result (self.new ≡ self.old ++ nows names.now) }
-    {
-        for name in names {
-            self.add(name)?;
-        }
-        Ok(())
-    }
-
-    /// Adds names at the end, up to the first that is there already, and answers whether there is none.
+    /// Adds names at the end, up to the first that is there already, and answers whether there is none. Where memory
+    /// runs out, some from the front were added.
     pub fn add_new(&mut self, names: &[&'a [u8]]) -> Result<bool, AllocError>
         ensures fresh { IfOk result (λ b. b ≡ not (stands_again self.old (nows names.now))) }
         ensures added { result ≡ Ok true → self.new ≡ self.old ++ nows names.now }
+        ensures repeats { result ≡ Ok false → self.new ≡ self.old ++ before_repeat self.old (nows names.now) }
+        ensures part { (k : ℕ) × (self.new ≡ self.old ++ nows (take k names.now)) }
     {
         for name in names {
             if self.contains(name) {

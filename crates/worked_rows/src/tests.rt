@@ -1,6 +1,7 @@
 mod chains;
 mod circuits;
 mod dies;
+mod faults;
 mod logs;
 mod neighbours;
 mod netlists;

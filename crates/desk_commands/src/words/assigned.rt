@@ -40,7 +40,7 @@ fn with_files(alloc: Global, command: clap::Command<'_>) -> Result<clap::Command
         .arg(argument(alloc, "neighbours"))
 }
 
-// The arguments' words. Those who call have words that are right, so no parse fails but for want of memory.
+// The words of the arguments. They were found right before, so `clap` refuses them for want of memory alone.
 fn matches_of<'a>(
     command: clap::Command<'a>,
     words: &'a [String],

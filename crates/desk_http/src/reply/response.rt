@@ -173,7 +173,7 @@ pub(crate) fn kind_of(section: Section) -> TextKind
     }
 }
 
-// What a look is answered that found nothing.
+// The answer to a look that found nothing.
 pub(crate) fn refused_look(fault: LookFault) -> Result<Response, NoMemory>
     ensures answer { RefusedLook fault result }
     ensures memory { OnOk result (¬ (fault ≡ look_fault.NoMemory)) }
@@ -191,7 +191,7 @@ pub(crate) fn refused_look(fault: LookFault) -> Result<Response, NoMemory>
     })
 }
 
-// What a change is answered that was refused.
+// The answer to a change that was refused.
 pub(crate) fn refused_put(fault: PutFault) -> Result<Response, Unanswered>
     ensures answer { RefusedPut fault result }
     ensures keeper { OnOk result (¬ (fault ≡ put_fault.Failed)) }

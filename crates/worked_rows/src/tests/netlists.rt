@@ -58,6 +58,23 @@ fn reaches_both_outputs(alloc: Global) -> Result<bool, ReadFault> {
     Ok(cone.as_slice() == [6, 7, 8, 9, 10].as_slice())
 }
 
+/// Whether the fan-in cone of c17's net 3, the net 2 by number, is itself, and that of its net 10, by number 5, has the
+/// nets 1, 3 and 10.
+fn reach_back_to_inputs(alloc: Global) -> Result<bool, ReadFault> {
+    let circuit = read_netlist(alloc, c17().as_bytes())?;
+    if circuit.nets().len() != 11 {
+        return Ok(false);
+    }
+    let of_input = circuit.cone_in(2)?;
+    let of_gate = circuit.cone_in(5)?;
+    Ok(of_input.as_slice() == [2].as_slice() && of_gate.as_slice() == [0, 2, 5].as_slice())
+}
+
+#[test]
+fn cones_back_to_inputs(rt: HostRuntime) {
+    assert!(rt; matches!(reach_back_to_inputs(rt.alloc()), Ok(true)));
+}
+
 #[test]
 fn a_cone_to_both_outputs(rt: HostRuntime) {
     assert!(rt; matches!(reaches_both_outputs(rt.alloc()), Ok(true)));

@@ -99,7 +99,7 @@ fn ends_with_50(answer: Result<Report, BundleFault>) -> bool {
     let Ok(report) = answer else {
         return false;
     };
-    let past = matches!(report.page(251), Err(PastEnd { lines: 250 }));
+    let past = report.pages() == 3 && matches!(report.page(251), Err(PastEnd { lines: 250 }));
     match report.page(201) {
         Ok(page) => past && line_ends(page) == 50,
         Err(_) => false,

@@ -1,4 +1,4 @@
-use Rattle.std.proofs.Common.{◌≡◌, ℕ, ◌<◌, List, Ok, Err, None, length, get_or, sym, ap, subst, ◌∙◌, arith}
+use Rattle.std.proofs.Common.{rules, ◌≡◌, ℕ, ◌<◌, List, Ok, Err, None, length, get_or, sym, ap, subst, ◌∙◌, arith}
 use Rattle.std.proofs.lemmas.List.{get_or_default}
 use Rattle.scan_model.specs.Netlist.{Netlist, netlist}
 use Rattle.scan_model.specs.Walks.{HasLevels, IsLeastWithoutLevel}
@@ -11,6 +11,8 @@ use Rattle.bench_reader.specs.Drafts.{IsDraft}
 use Rattle.bench_reader.proofs.SecondRound.{not_refused}
 use Rattle.bench_reader.proofs.CircuitOfLines.{length-nets_after}
 use Rattle.bench_reader.proofs.ThirdRound.{reads_circuit, reads_level_fault, length-net_lines_from}
+use Rattle.bench_reader.proofs.Judged.{reads_first, reads_none, early_first}
+use Rattle.text_parts.specs.declared.fault.ReadFault.TheVariants.{Text}
 use Rattle.bench_reader.proofs.reading.read_netlist.Goals as goal
 
 module _ (bytes : List ℕ) (d : Draft) (read : refused_or (early_fault (text_lines bytes)) (circuit_of bytes) ≡ Ok (netlist d.nets d.pins d.inputs d.outputs)) (draft : IsDraft d (forms_of (text_lines bytes))) where
@@ -32,15 +34,27 @@ module _ (bytes : List ℕ) (d : Draft) (read : refused_or (early_fault (text_li
         reads_level_fault bytes early net line draft.differ least_in
         (is ∙ get_or_default d.net_lines.items net line 0 has_line ∙ ap (λ ls. get_or ls net 0) draft.net_lines)
 
-pub returns-in-Ok : goal.returns-in-Ok
-returns-in-Ok c = with_levels c.args.bytes.now c.in_ok-draft.draft c.in_ok-draft.ensures.fault c.in_ok-draft.ensures.draft c.in-Ok.circuit c.in-Ok.ensures.ok c.in-Ok.ensures.levels
+pub returns-in_err-draft-clause-first : goal.returns-in_err-draft-clause-first
+returns-in_err-draft-clause-first c =
+    let is : c.from_residual.result ≡ Err c.in_err-draft.field-0.0 = search rules in
+    rw is (early_first c.args.bytes.now c.in_err-draft.field-0.0 c.in_err-draft.ensures.fault)
+
+pub returns-in-Ok-clause-reading : goal.returns-in-Ok-clause-reading
+returns-in-Ok-clause-reading c = with_levels c.args.bytes.now c.in_ok-draft.draft c.in_ok-draft.ensures.fault c.in_ok-draft.ensures.draft c.in-Ok.circuit c.in-Ok.ensures.ok c.in-Ok.ensures.levels
+
+pub returns-in-Ok-clause-none : goal.returns-in-Ok-clause-none
+returns-in-Ok-clause-none c = reads_none c.args.bytes.now (Ok c.in-Ok.circuit) (returns-in-Ok-clause-reading c)
 
 pub index-line-requires : goal.index-line-requires
 index-line-requires c =
     let least = rw c.in-Err-NoLevel.field-0-is at c.in-Err-NoLevel.ensures.no_level in
     omega (arith, has_line c.args.bytes.now c.in_ok-draft.draft c.in_ok-draft.ensures.fault c.in_ok-draft.ensures.draft c.in-Err-NoLevel.net least)
 
-pub returns-in-Err-NoLevel : goal.returns-in-Err-NoLevel
-returns-in-Err-NoLevel c =
+pub returns-in-Err-NoLevel-clause-reading : goal.returns-in-Err-NoLevel-clause-reading
+returns-in-Err-NoLevel-clause-reading c =
     let least = rw c.in-Err-NoLevel.field-0-is at c.in-Err-NoLevel.ensures.no_level in
     without_level c.args.bytes.now c.in_ok-draft.draft c.in_ok-draft.ensures.fault c.in_ok-draft.ensures.draft c.in-Err-NoLevel.net least c.index-line.result.now c.index-line.ensures
+
+pub returns-in-Err-NoLevel-clause-first : goal.returns-in-Err-NoLevel-clause-first
+returns-in-Err-NoLevel-clause-first c =
+    reads_first c.args.bytes.now (Err (Text (record { line = c.index-line.result.now; rule = 8 }))) (returns-in-Err-NoLevel-clause-reading c)

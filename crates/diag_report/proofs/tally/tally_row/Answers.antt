@@ -1,5 +1,6 @@
-use Rattle.std.proofs.Common.{◌≡◌, ℕ, ◌+◌, ◌^◌, [], ◌++◌, get_or, subst, arith}
+use Rattle.std.proofs.Common.{◌≡◌, ℕ, ◌+◌, ◌^◌, ◌++◌, subst, arith}
 use Rattle.scan_model.specs.Coverage.{bit_of}
+use Rattle.scan_model.specs.Classes.{class_with}
 use Rattle.fault_universe.specs.BitRows.{row_bits}
 use Rattle.diag_report.specs.BitTally.{tally_over}
 use Rattle.diag_report.proofs.TallySteps.{tally_row_more, IsTallyOf-noted, IsTallyOf-le}
@@ -17,17 +18,17 @@ loop-point-preserved c =
     let k = c.loop-point.point in
     let points = c.args.points in
     record {
-      classes = λ logs good bits stands is_row start.
-          tally_row_more logs good bits w k (get_or c.args.expected.now w []) c.loop-point.tally c.note.new.tally c.class-class.result (c.loop-point.invariant.classes logs good bits stands is_row start) is_row (c.class-class.ensures logs stands) c.in_ok-note.ensures;
+      classes = λ logs bits stands start.
+          tally_row_more (class_with c.args.expected.now logs) bits w k c.loop-point.tally c.note.new.tally c.class-class.result (c.loop-point.invariant.classes logs bits stands start) (c.class-class.ensures logs stands) c.in_ok-note.ensures;
       tally = λ n all.
           IsTallyOf-le points (n + k + 1) (n + (k + 1)) c.note.new.tally (omega arith)
           (IsTallyOf-noted points (n + k) c.loop-point.tally c.note.new.tally c.class-class.result (bit_of w k) c.in_ok-note.ensures (omega arith) (c.loop-point.invariant.tally n all));
     }
 
 pub returns-clause-classes : goal.returns-clause-classes
-returns-clause-classes c = λ logs good bits stands is_row start.
+returns-clause-classes c = λ logs bits stands start.
     let whole : c.loop-point.point ≡ c.args.points = omega arith in
-    subst (λ (n : ℕ). c.loop-point.tally ≡ tally_over logs good (bits ++ row_bits c.args.pattern n)) whole (c.loop-point.invariant.classes logs good bits stands is_row start)
+    subst (λ (n : ℕ). c.loop-point.tally ≡ tally_over (class_with c.args.expected.now logs) (bits ++ row_bits c.args.pattern n)) whole (c.loop-point.invariant.classes logs bits stands start)
 
 pub returns-clause-tally : goal.returns-clause-tally
 returns-clause-tally c = λ n all. IsTallyOf-le c.args.points (n + c.loop-point.point) (n + c.args.points) c.loop-point.tally (omega arith) (c.loop-point.invariant.tally n all)

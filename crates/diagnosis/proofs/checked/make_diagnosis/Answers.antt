@@ -3,11 +3,13 @@ use Rattle.std.specs.Prelude.{All}
 use Rattle.std.specs.Arc.{arc_value}
 use Rattle.std.specs.declared.sync.Arc.{Arc}
 use Rattle.std.proofs.lemmas.Result.{IfOk-weaker}
+use Rattle.scan_model.specs.Lines.{pieces}
 use Rattle.scan_model.specs.MatchCounts.{candidates}
 use Rattle.scan_model.specs.Ranking.{ranked}
 use Rattle.scan_model.specs.ReportText.{report_lines, joined}
 use Rattle.diagnosis.specs.declared.checked.Diagnosis.{Diagnosis}
 use Rattle.diagnosis.specs.Designs.{ReadLogFacts, DesignFacts, StandsOver, facts_of, view_lines, view_report}
+use Rattle.diagnosis.proofs.CutReports.{view_cut}
 use Rattle.diagnosis.proofs.Reports.{view_lines_are}
 use Rattle.diagnosis.proofs.Views.{logs_stand}
 use Rattle.diagnosis.proofs.checked.make_diagnosis.Goals as goal
@@ -33,6 +35,12 @@ returns-clause-report g c =
     let lines = returns-clause-lines g c in
     IfOk-weaker c.diagnosis_of.result (λ (made : Diagnosis). made.report ≡ view_lines c.args.view.now) (λ (made : Diagnosis). joined made.report ≡ view_report c.args.view.now)
     (λ made e. ap joined e) lines
+
+pub returns-clause-cut : goal.returns-clause-cut
+returns-clause-cut g c =
+    let lines = returns-clause-lines g c in
+    IfOk-weaker c.diagnosis_of.result (λ (made : Diagnosis). made.report ≡ view_lines c.args.view.now) (λ (made : Diagnosis). pieces (view_report c.args.view.now) ≡ made.report)
+    (λ made e. view_cut c.args.view.now c.logs.ensures.view ∙ sym e) lines
 
 pub returns-clause-candidates : goal.returns-clause-candidates
 returns-clause-candidates g c =

@@ -1,0 +1,24 @@
+use Rattle.std.proofs.Common.{◌≡◌, ◌+◌, ◌<◌, length, get_or, inl, inr, arith}
+use Rattle.std.proofs.lemmas.Bool.{cases_eq}
+use Rattle.match_counts.specs.Shares.{no_share}
+use Rattle.match_counts.proofs.BlockTables.{set_keeps, set_here, set_within}
+use Rattle.match_counts.proofs.totals.set_shares.Goals as goal
+
+pub loop-share-preserved : goal.loop-share-preserved
+loop-share-preserved c =
+    let i = c.loop-share.share-index in
+    let table = c.loop-share.table in
+    let s = get_or c.args.shares.now i no_share in
+    let inv = c.loop-share.invariant in
+    let inside : s.place < length table = omega (arith, c.requires i no_share c.loop-share-test.true) in
+    record {
+      within = λ truth right before. set_within truth table s.place s.count inside (right i no_share c.loop-share-test.true) (inv.within truth right before);
+      kept = λ truth right p was. set_keeps truth table s.place s.count inside (right i no_share c.loop-share-test.true) p (inv.kept truth right p was);
+      put = λ truth right k lt. elim (cases_eq k i) [
+        | inl same ↦ rw same (set_here truth table s.place s.count inside (right i no_share c.loop-share-test.true))
+        | inr other ↦ set_keeps truth table s.place s.count inside (right i no_share c.loop-share-test.true) (get_or c.args.shares.now k no_share).place (inv.put truth right k (omega arith))
+      ];
+    }
+
+pub returns-clause-put : goal.returns-clause-put
+returns-clause-put c = λ truth right k lt. c.loop-share.invariant.put truth right k (omega arith)

@@ -1,0 +1,55 @@
+-- Counts by place, added up over blocks.
+use Rattle.std.specs.Prelude.{◌≡◌, ◌⊎◌, ℕ, ◌+◌, ◌<◌, ◌≤◌, List, length, sum_by, count_by, slice_index, slice_index_or}
+use Rattle.std.specs.List.{range_with_len}
+use Rattle.scan_model.specs.declared.logs.LogFacts.{LogFacts}
+use Rattle.scan_model.specs.ScanTest.{ScanTest}
+use Rattle.scan_model.specs.Universe.{universe}
+use Rattle.scan_model.specs.Coverage.{bits_of}
+use Rattle.scan_model.specs.MatchCounts.{counts_of}
+use Rattle.match_counts.specs.declared.share.BlockCount.{BlockCount}
+use Rattle.match_counts.specs.declared.share.Total.{Total}
+use Rattle.match_counts.specs.declared.side.Side.{Side}
+use Rattle.match_counts.specs.declared.side.Side.TheVariants.{Failing, Passing}
+use Rattle.match_counts.specs.PointRows.{counts_on}
+use Rattle.match_counts.specs.Shares.{predicted_in, fault_of, no_count}
+
+abbrev pub count_at : List BlockCount → ℕ → BlockCount
+count_at table p = slice_index_or table p no_count
+
+abbrev pub no_total : Total
+no_total = record { tfsf = 0; tpsf = 0 }
+
+abbrev pub total_at : List Total → ℕ → Total
+total_at totals p = slice_index_or totals p no_total
+
+abbrev pub plus : Total → BlockCount → Total
+plus total count = record { tfsf = total.tfsf + count.tfsf; tpsf = total.tpsf + count.tpsf }
+
+pub record IsAtMost (n : ℕ) (total : Total) : Type 0 where
+  pub tfsf : total.tfsf ≤ n
+  pub tpsf : total.tpsf ≤ n
+
+abbrev pub AreTotalsAtMost : ℕ → List Total → Type 0
+AreTotalsAtMost n totals = (p : ℕ) → IsAtMost n (total_at totals p)
+
+-- the table says of each place the truth, or nothing
+abbrev pub IsWithin : (ℕ → BlockCount) → List BlockCount → Type 0
+IsWithin truth table = (p : ℕ) → (count_at table p ≡ truth p) ⊎ (count_at table p ≡ no_count)
+
+-- what the fault at a place explains and mispredicts in the first blocks
+abbrev pub sum_of : ScanTest → List LogFacts → ℕ → ℕ → Total
+sum_of t logs blocks p = record {
+  tfsf = sum_by (predicted_in t logs Failing (fault_of t p)) (range_with_len 0 blocks);
+  tpsf = sum_by (predicted_in t logs Passing (fault_of t p)) (range_with_len 0 blocks);
+}
+
+-- totals of the first blocks: whole at some places, and nowhere more explained than is
+pub record AreSums (t : ScanTest) (logs : List LogFacts) (places : List ℕ) (blocks : ℕ) (totals : List Total) : Type 0 where
+  pub most : (p : ℕ) → (total_at totals p).tfsf ≤ (sum_of t logs blocks p).tfsf
+  pub whole : (i : ℕ) → i < length places → total_at totals (slice_index places i) ≡ sum_of t logs blocks (slice_index places i)
+
+-- totals of all blocks, with the number of Failing bits
+pub record AreTotals (t : ScanTest) (logs : List LogFacts) (bits : ℕ) (totals : List Total) : Type 0 where
+  pub failing : bits ≡ count_by (counts_on t logs Failing) (bits_of t)
+  pub tfsf : (p : ℕ) → p < length (universe t) → (total_at totals p).tfsf ≡ (counts_of t logs (fault_of t p)).tfsf
+  pub tpsf : (p : ℕ) → p < length (universe t) → 1 ≤ (total_at totals p).tfsf → (total_at totals p).tpsf ≡ (counts_of t logs (fault_of t p)).tpsf

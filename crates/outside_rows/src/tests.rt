@@ -1,0 +1,4 @@
+mod exchanges;
+mod files;
+mod keepers;
+mod links;
