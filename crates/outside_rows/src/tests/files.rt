@@ -40,7 +40,7 @@ fn a_file_is_printed(rt: HostRuntime) -> Result<(), Fail> {
         print(alloc, &mut shelf, "b", 4, &mut out),
         Ok(ShelfAnswer::Absent)
     );
-    assert!(rt; out.bytes() == b"text");
+    assert!(rt; out.bytes() == b"text".as_slice());
     Ok(())
 }
 
@@ -57,7 +57,7 @@ fn a_sure_shelf_and_a_sure_sink(rt: HostRuntime) -> Result<(), Fail> {
         print(alloc, &mut shelf, "a", 4, &mut kept),
         Ok(ShelfAnswer::Read)
     );
-    assert!(rt; kept.bytes() == b"text");
+    assert!(rt; kept.bytes() == b"text".as_slice());
     let mut out = SureSink::make(alloc)?;
     assert_eq!(rt;
         print(alloc, &mut shelf, "a", 4, &mut out),

@@ -1,0 +1,15 @@
+use Rattle.std.proofs.Common.{refl, ◌∙◌, cond, ap, Bool}
+use Rattle.std.proofs.lemmas.Bool.{cases_Bool}
+use Rattle.scan_model.specs.Values.{tri_not}
+use Rattle.lane_rows.specs.Lanes.{lane}
+use Rattle.lane_rows.specs.Planes.{held}
+use Rattle.packed_sim.specs.Belongs.{good_at, now_at, observed_at}
+use Rattle.packed_sim.proofs.Belonging.{flip_is}
+use Rattle.packed_sim.proofs.good.PackedGood.flip.Goals as goal
+
+pub returns-clause-shows : goal.returns-clause-shows
+returns-clause-shows g c k j in_points lt captured =
+    flip_is c.args.parts.now c.circuit.ensures.fits c.args.self.now c.requires.good c.args.block j c.args.net k c.pick-flipped.result (lane c.args.lanes j)
+    (good_at c.args.self.now c.args.block j (observed_at c.args.parts.now k)) (now_at c.args.self.now c.force_net.new.scratch c.args.block j (observed_at c.args.parts.now k))
+    c.requires.block lt c.requires.net in_points captured
+    (rw (c.pick-flipped.ensures j lt, c.not.ensures j lt, c.row_of-row.ensures j lt) refl) refl (c.force_net.ensures.values k j in_points lt captured)

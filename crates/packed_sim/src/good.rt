@@ -1,0 +1,13 @@
+use crate::groups::Groups;
+use crate::wiring::Wiring;
+use lane_rows::GoodRows;
+
+/// The fault-free values of all patterns, and what is read off the circuit once: which gates wait for a net, and which
+/// points observe it.
+#[derive(Debug, Drop)]
+pub struct PackedGood {
+    pub(crate) rows: GoodRows,
+    pub(crate) wiring: Wiring,
+    pub(crate) observed: Vec<u32>,
+    pub(crate) points: Groups,
+}

@@ -1,0 +1,153 @@
+ghost use Rattle.std.specs.Prelude.{◌≡◌, ℕ, ◌<◌, length, map, All, IfOk};
+ghost use Rattle.scan_model.specs.ScanTest.{IsPoint, IsFlop, points_of, point_at};
+ghost use Rattle.scan_model.specs.declared.parts.Point.TheVariants as point;
+ghost use Rattle.scan_model.specs.Netlist.{driver_of, pin_at};
+ghost use Rattle.scan_model.specs.Loads.{cell};
+ghost use Rattle.scan_model.specs.Response.{data_pin};
+ghost use Rattle.scan_model.specs.Suspect as suspect;
+ghost use Rattle.packed_sim.specs.Belongs.{BelongsTo, IsScratchOf, AreObserved, points_of_net};
+
+use crate::good::PackedGood;
+use crate::groups::Groups;
+use crate::overlay::Overlay;
+use crate::place_set::PlaceSet;
+use crate::scratch::Scratch;
+use crate::wiring::Wiring;
+use lane_rows::{Block, GoodRows};
+use scan_model::{Circuit, NoMemory, Parts, Point};
+use std::alloc::Global;
+
+fn listed_net(parts: &Parts, chain: u32, pos: u32) -> u32
+    requires { IsPoint parts.now (point.Cell chain pos) }
+    ensures { result ≡ cell parts.now chain pos }
+{
+    parts.chains().as_slice()[chain as usize].cells.as_slice()[pos as usize]
+}
+
+/// The net of a cell.
+pub(crate) fn cell_net(parts: &Parts, chain: u32, pos: u32) -> u32
+    requires { IsPoint parts.now (point.Cell chain pos) }
+    ensures value { result ≡ cell parts.now chain pos }
+    ensures in_range { result < length parts.now.netlist.nets }
+    ensures flop { IsFlop (driver_of parts.now.netlist result) }
+{
+    let _ = parts.chains();
+    let net = listed_net(parts, chain, pos);
+    net
+}
+
+/// Point k, in test order.
+pub(crate) fn point_of(parts: &Parts, k: usize) -> Point
+    requires { k < length (points_of parts.now) }
+    ensures { result ≡ point_at parts.now k }
+{
+    parts.points().as_slice()[k]
+}
+
+/// The net that the data pin of a cell sees.
+fn data_net(circuit: &Circuit, cell: u32) -> u32
+    requires cell { cell < length circuit.now.nets }
+    requires flop { IsFlop (driver_of circuit.now cell) }
+    ensures value { result ≡ (pin_at circuit.now (data_pin circuit.now cell)).net }
+    ensures in_range { result < length circuit.now.nets }
+{
+    let pin = circuit.nets().as_slice()[cell as usize].first_pin;
+    circuit.pins().as_slice()[pin as usize].net
+}
+
+/// The net that a point observes.
+fn net_of_point(parts: &Parts, point: Point) -> u32
+    requires { IsPoint parts.now point }
+    ensures { result ≡ suspect.observed_net parts.now point }
+{
+    match point {
+        Point::Output { place } => parts.circuit().outputs().as_slice()[place as usize],
+        Point::Cell { chain, pos } => data_net(parts.circuit(), cell_net(parts, chain, pos)),
+    }
+}
+
+/// The nets that points observe.
+fn nets_of_points(alloc: Global, parts: &Parts, points: &[Point]) -> Result<Vec<u32>, NoMemory>
+    requires { All (IsPoint parts.now) points.now }
+    ensures { IfOk result (λ nets. nets.items ≡ map (suspect.observed_net parts.now) points.now) }
+{
+    let mut nets = Vec::with_capacity(alloc, points.len())?;
+    for point in points {
+        nets.push(net_of_point(parts, *point))?;
+    }
+    Ok(nets)
+}
+
+/// The nets that the points of a test observe.
+fn observed_nets(alloc: Global, parts: &Parts) -> Result<Vec<u32>, NoMemory>
+    ensures { IfOk result (λ nets. AreObserved parts.now nets.items) }
+{
+    let nets = nets_of_points(alloc, parts, parts.points().as_slice())?;
+    Ok(nets)
+}
+
+impl PackedGood {
+    /// The fault-free values of all patterns, with what counting needs of the circuit. The only error is want of memory.
+    pub fn make(alloc: Global, parts: &Parts) -> Result<PackedGood, NoMemory>
+        ensures { IfOk result (BelongsTo parts.now) }
+    {
+        let observed = observed_nets(alloc, parts)?;
+        let rows = GoodRows::make(alloc, parts)?;
+        let circuit = parts.circuit();
+        let nets = circuit.nets().len();
+        let wiring = Wiring::make(alloc, circuit, &observed)?;
+        let points = Groups::of(alloc, &observed, nets)?;
+        Ok(PackedGood {
+            rows,
+            wiring,
+            observed,
+            points,
+        })
+    }
+
+    pub fn rows(&self) -> &GoodRows
+        ensures { result.now ≡ self.now.rows }
+    {
+        &self.rows
+    }
+
+    /// The blocks of 512 patterns.
+    pub fn blocks(&self) -> &[Block]
+        ensures { result.now ≡ self.now.rows }
+    {
+        self.rows.blocks()
+    }
+
+    /// The points that observe a net, in rising order.
+    pub fn points_of_net(&self, parts: &Parts, net: u32) -> &[u32]
+        requires good { BelongsTo parts.now self.now }
+        requires net { net < length parts.now.netlist.nets }
+        ensures { result.now ≡ points_of_net parts.now net }
+    {
+        let _ = parts;
+        self.points.group(net)
+    }
+
+    /// The net that each point observes.
+    pub fn observed(&self, parts: &Parts) -> &[u32]
+        requires { BelongsTo parts.now self.now }
+        ensures { result.now ≡ map (suspect.observed_net parts.now) (points_of parts.now) }
+    {
+        let _ = parts;
+        &self.observed
+    }
+}
+
+impl Scratch {
+    /// Room for a change of each net. The only error is want of memory.
+    pub fn make(alloc: Global, good: &PackedGood) -> Result<Scratch, NoMemory>
+        ensures { IfOk result (IsScratchOf good.now) }
+    {
+        let nets = good.points.len();
+        Ok(Scratch {
+            overlay: Overlay::make(alloc, nets)?,
+            waiting: PlaceSet::make(alloc, nets)?,
+            moved: PlaceSet::make(alloc, nets)?,
+        })
+    }
+}

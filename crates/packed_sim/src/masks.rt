@@ -1,0 +1,209 @@
+ghost use Rattle.std.specs.Prelude.{◌≡◌, ℕ, ◌+◌, ◌<◌, ◌==◌, true, false, length, slice_index_or, count_by, MatchOption};
+ghost use Rattle.scan_model.specs.declared.circuit.PinPlace.TheVariants as place;
+ghost use Rattle.scan_model.specs.declared.circuit.Driver.TheVariants as driver;
+ghost use Rattle.scan_model.specs.declared.circuit.GateKind.{GateKind};
+ghost use Rattle.scan_model.specs.declared.fault.Fault.TheVariants as fault;
+ghost use Rattle.scan_model.specs.Values.{are_opposite};
+ghost use Rattle.scan_model.specs.Faults.{stuck_value, bridged};
+ghost use Rattle.scan_model.specs.Netlist.{pin_at, driver_of, is_gate};
+ghost use Rattle.scan_model.specs.NetValue.{good_value};
+ghost use Rattle.scan_model.specs.BranchMask as way;
+ghost use Rattle.scan_model.specs.Masks.{mask};
+ghost use Rattle.lane_rows.specs.Lanes.{lane};
+ghost use Rattle.lane_rows.specs.Planes.{held};
+ghost use Rattle.packed_sim.specs.Rows.{no_row};
+ghost use Rattle.lane_rows.specs.GoodRows.{pattern_of};
+ghost use Rattle.packed_sim.specs.Belongs.{BelongsTo, captures};
+ghost use Rattle.packed_sim.specs.Ways.{read_values, senses_of, IsGateOfPin};
+
+use crate::good::PackedGood;
+use lane_rows::{Packed, Row};
+use scan_model::{BridgeKind, Circuit, Driver, GateKind, Parts, PinPlace, Stuck};
+
+/// The lanes in which a row has the opposite of a stuck value.
+fn opposite_of(row: Packed, value: Stuck) -> Row
+    ensures { (j : ℕ) → j < 512 → lane result j ≡ are_opposite (held row j) (stuck_value value) }
+{
+    match value {
+        Stuck::Zero => row.ones(),
+        Stuck::One => row.zeros(),
+    }
+}
+
+fn row_at(values: &[Packed], net: u32) -> Packed
+    requires { net < length values.now }
+    ensures { result ≡ slice_index_or values.now net no_row }
+{
+    values[net as usize]
+}
+
+/// The lanes in which an operand of a gate hides what the others do.
+fn in_the_way(kind: GateKind, row: Packed) -> Row
+    ensures { (j : ℕ) → j < 512 → lane result j ≡ way.in_the_way kind (held row j) }
+{
+    match kind {
+        GateKind::And | GateKind::Nand => row.ones().not(),
+        GateKind::Or | GateKind::Nor => row.zeros().not(),
+        GateKind::Xor | GateKind::Xnor => row.ones().or(row.zeros()).not(),
+        GateKind::Not | GateKind::Buf => Row::none(),
+    }
+}
+
+/// The lanes in which no operand of a gate stands in the way of others, and those in which exactly one does.
+fn ways(circuit: &Circuit, values: &[Packed], kind: GateKind, gate: u32) -> (Row, Row)
+    requires gate { gate < length circuit.now.nets }
+    requires values { length values.now ≡ length circuit.now.nets }
+    ensures none { (j : ℕ) → j < 512 → lane result.0 j ≡ (count_by (way.in_the_way kind) (read_values circuit.now values.now gate j) == 0) }
+    ensures one { (j : ℕ) → j < 512 → lane result.1 j ≡ (count_by (way.in_the_way kind) (read_values circuit.now values.now gate j) == 1) }
+{
+    let mut none = Row::all();
+    let mut one = Row::none();
+    for i in 0..circuit.read_count(gate) {
+        let row = row_at(values, circuit.read_at(gate, i));
+        let hides = in_the_way(kind, row);
+        let free = hides.not();
+        let stays = one.and(free);
+        let comes = none.and(hides);
+        one = stays.or(comes);
+        none = none.and(free);
+    }
+    (none, one)
+}
+
+/// The lanes in which a gate shows a change of one of its operands.
+fn sensed(circuit: &Circuit, values: &[Packed], kind: GateKind, gate: u32, row: Packed) -> Row
+    requires gate { gate < length circuit.now.nets }
+    requires values { length values.now ≡ length circuit.now.nets }
+    ensures { (j : ℕ) → j < 512 → lane result j ≡ senses_of kind (read_values circuit.now values.now gate j) (held row j) }
+{
+    let (none, one) = ways(circuit, values, kind, gate);
+    none.or(one.and(in_the_way(kind, row)))
+}
+
+/// The values that a bridge gives to both its nets, from their own.
+fn joined(kind: BridgeKind, first: Packed, second: Packed) -> Packed
+    ensures { (j : ℕ) → j < 512 → held result j ≡ bridged kind (held first j) (held second j) }
+{
+    match kind {
+        BridgeKind::Dominant => first,
+        BridgeKind::WiredAnd => first.and(second),
+        BridgeKind::WiredOr => first.or(second),
+    }
+}
+
+pub(crate) fn net_of_pin(circuit: &Circuit, pin: u32) -> u32
+    requires { pin < length circuit.now.pins }
+    ensures value { result ≡ (pin_at circuit.now pin).net }
+    ensures in_range { result < length circuit.now.nets }
+{
+    circuit.pins().as_slice()[pin as usize].net
+}
+
+/// The gate of which a pin is an operand, with its kind.
+pub(crate) fn gate_of_pin(circuit: &Circuit, pin: u32) -> Option<(u32, GateKind)>
+    requires { pin < length circuit.now.pins }
+    ensures { MatchOption result ((n i : ℕ) → (pin_at circuit.now pin).place ≡ place.Operand n i → is_gate circuit.now n ≡ false) (λ g. IsGateOfPin circuit.now pin g.0 g.1) }
+{
+    let _ = circuit.nets();
+    match circuit.pins().as_slice()[pin as usize].place {
+        PinPlace::Output { .. } => None,
+        PinPlace::Operand { net, .. } => match circuit.nets().as_slice()[net as usize].driver {
+            Driver::Input | Driver::Flop => None,
+            Driver::Gate(kind) => Some((net, kind)),
+        },
+    }
+}
+
+impl PackedGood {
+    /// The lanes in which a net has the opposite of a stuck value. Of lanes whose patterns don't capture it says nothing.
+    pub fn stuck_mask(&self, parts: &Parts, block: usize, net: u32, value: Stuck) -> Row
+        requires good { BelongsTo parts.now self.now }
+        requires block { block < length self.now.rows }
+        requires net { net < length parts.now.netlist.nets }
+        ensures { (j : ℕ) → j < 512 → captures parts.now (pattern_of block j) ≡ true → lane result j ≡ are_opposite (good_value parts.now (pattern_of block j) net) (stuck_value value) }
+    {
+        let _ = parts.circuit();
+        opposite_of(self.row_of(parts, block, net), value)
+    }
+
+    /// The lanes in which a stuck operand flips the gate that reads it, all else fault-free.
+    fn gate_mask(
+        &self,
+        parts: &Parts,
+        block: usize,
+        pin: u32,
+        gate: (u32, GateKind),
+        value: Stuck,
+    ) -> Row
+        requires good { BelongsTo parts.now self.now }
+        requires block { block < length self.now.rows }
+        requires pin { pin < length parts.now.netlist.pins }
+        requires gate { IsGateOfPin parts.now.netlist pin gate.0 gate.1 }
+        ensures { (j : ℕ) → j < 512 → captures parts.now (pattern_of block j) ≡ true → lane result j ≡ mask parts.now (fault.Branch pin value) (pattern_of block j) gate.0 }
+    {
+        let circuit = parts.circuit();
+        let net = net_of_pin(circuit, pin);
+        let row = self.row_of(parts, block, net);
+        let opposite = opposite_of(row, value);
+        let sensed = sensed(circuit, self.values(block), gate.1, gate.0, row);
+        opposite.and(sensed)
+    }
+
+    /// The lanes in which a stuck operand flips its gate, all else fault-free; no lanes for a pin that is no gate's.
+    pub fn branch_mask(&self, parts: &Parts, block: usize, pin: u32, value: Stuck) -> Row
+        requires good { BelongsTo parts.now self.now }
+        requires block { block < length self.now.rows }
+        requires pin { pin < length parts.now.netlist.pins }
+        ensures { (n i j : ℕ) (kind : GateKind) → (pin_at parts.now.netlist pin).place ≡ place.Operand n i → driver_of parts.now.netlist n ≡ driver.Gate kind → j < 512 → captures parts.now (pattern_of block j) ≡ true
+            → lane result j ≡ mask parts.now (fault.Branch pin value) (pattern_of block j) n }
+    {
+        match gate_of_pin(parts.circuit(), pin) {
+            Some(gate) => self.gate_mask(parts, block, pin, gate, value),
+            None => Row::none(),
+        }
+    }
+
+    /// The values that a bridge gives to both its nets.
+    pub(crate) fn bridged_row(
+        &self,
+        parts: &Parts,
+        block: usize,
+        a: u32,
+        b: u32,
+        kind: BridgeKind,
+    ) -> Packed
+        requires good { BelongsTo parts.now self.now }
+        requires block { block < length self.now.rows }
+        requires a { a < length parts.now.netlist.nets }
+        requires b { b < length parts.now.netlist.nets }
+        ensures { (j : ℕ) → j < 512 → captures parts.now (pattern_of block j) ≡ true → held result j ≡ bridged kind (good_value parts.now (pattern_of block j) a) (good_value parts.now (pattern_of block j) b) }
+    {
+        let _ = parts.circuit();
+        let first = self.row_of(parts, block, a);
+        let second = self.row_of(parts, block, b);
+        joined(kind, first, second)
+    }
+
+    /// The lanes in which a bridge of two nets flips one of them.
+    pub fn bridge_mask(
+        &self,
+        parts: &Parts,
+        block: usize,
+        pair: (u32, u32),
+        kind: BridgeKind,
+        net: u32,
+    ) -> Row
+        requires good { BelongsTo parts.now self.now }
+        requires block { block < length self.now.rows }
+        requires a { pair.0 < length parts.now.netlist.nets }
+        requires b { pair.1 < length parts.now.netlist.nets }
+        requires net { net < length parts.now.netlist.nets }
+        ensures { (j : ℕ) → j < 512 → captures parts.now (pattern_of block j) ≡ true
+            → lane result j ≡ are_opposite (good_value parts.now (pattern_of block j) net) (bridged kind (good_value parts.now (pattern_of block j) pair.0) (good_value parts.now (pattern_of block j) pair.1)) }
+    {
+        let _ = parts.circuit();
+        let bridged = self.bridged_row(parts, block, pair.0, pair.1, kind);
+        let own = self.row_of(parts, block, net);
+        own.opposite(bridged)
+    }
+}

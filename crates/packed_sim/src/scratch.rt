@@ -1,0 +1,136 @@
+ghost use Rattle.std.specs.Prelude.{◌≡◌, ℕ, ◌+◌, ◌<◌, ◌≤◌, ◌^◌, [], Some, true, false, length, All, IfOk, IsTrue, slice_set, slice_index, slice_index_or, ◌==◌, ◌||◌, Bool, count_by};
+ghost use Rattle.std.specs.List.{list_any};
+ghost use Rattle.scan_model.specs.declared.values.Tri.{Tri};
+ghost use Rattle.scan_model.specs.declared.values.Tri.TheVariants.{Unknown};
+ghost use Rattle.scan_model.specs.Netlist.{is_gate};
+ghost use Rattle.scan_model.specs.NetValue.{Forced, net_node, values_of, nothing_forced};
+ghost use Rattle.lane_rows.specs.Planes.{held};
+ghost use Rattle.packed_sim.specs.Places.{has_place, room};
+ghost use Rattle.packed_sim.specs.Rows.{IsClean, row_now};
+ghost use Rattle.packed_sim.specs.Spread.{lane_now, FitsScratch, IsWired, Covers, IsClosed, IsFree, IsWithin, IsOpen, IsSettled, IsSet, IsTurn, HasMoved};
+
+use crate::changed::Changed;
+use crate::overlay::Overlay;
+use crate::place_set::PlaceSet;
+use crate::wiring::Wiring;
+use lane_rows::{Packed, gate_row};
+use scan_model::{Circuit, NoMemory, Steps};
+use std::alloc::Global;
+use std::sync::ledger::Ledger;
+
+/// What a change needs while it spreads: rows of the nets that it touched, and the places of the gates that wait.
+#[derive(Debug, Drop)]
+pub struct Scratch {
+    pub overlay: Overlay,
+    pub waiting: PlaceSet,
+    pub moved: PlaceSet,
+}
+
+/// Lets the gates at some places wait.
+fn wake(waiting: &mut PlaceSet, places: &[u32])
+    requires { All (λ k. k < room waiting.old) places.now }
+    ensures places { (k : ℕ) → has_place waiting.new k ≡ (list_any (λ m. k == m) places.now || has_place waiting.old k) }
+    ensures room { room waiting.new ≡ room waiting.old }
+{
+    for place in places {
+        waiting.insert(*place as usize);
+    }
+}
+
+impl Scratch {
+    /// Gives a net a row, and lets what reads the net wait.
+    pub fn set(&mut self, wiring: &Wiring, net: u32, row: Packed)
+        requires net { net < length self.old.overlay }
+        requires sinks { length self.old.overlay ≤ length wiring.now.sinks }
+        requires places { All (λ k. k < room self.old.waiting) (slice_index_or wiring.now.sinks net []) }
+        requires moved { net < room self.old.moved }
+        ensures { IsSet wiring.now.sinks net row self.old self.new }
+    {
+        self.overlay.write(net, row);
+        self.moved.insert(net as usize);
+        wake(&mut self.waiting, wiring.sinks.group(net));
+    }
+
+    /// Takes the gate at a place out and evaluates it. Where its row is another than before, what reads it waits.
+    fn turn<L: Ledger>(
+        &mut self,
+        circuit: &Circuit,
+        wiring: &Wiring,
+        good: &[Packed],
+        place: usize,
+        steps: &mut Steps<L>,
+    )
+        requires wiring { IsWired circuit.now wiring.now.order.items wiring.now.sinks }
+        requires fits { FitsScratch circuit.now wiring.now.order.items good.now self.old }
+        requires place { place < length wiring.now.order.items }
+        ensures turn { IsTurn circuit.now wiring.now.order.items wiring.now.sinks good.now place self.old self.new }
+        ensures steps { steps.new ≡ steps.old + 1 }
+    {
+        self.waiting.remove(place);
+        let gate = wiring.order[place];
+        let changed = Changed {
+            overlay: &self.overlay,
+            good,
+        };
+        let row = gate_row(&changed, circuit, gate);
+        steps.tick();
+        let before = self.overlay.row(good, gate);
+        let same = row.is_same(before);
+        if !same {
+            self.set(wiring, gate, row);
+        }
+    }
+
+    /// Evaluates what waits and what comes to wait, each gate once at most, until nothing does.
+    pub fn settle<L: Ledger>(
+        &mut self,
+        circuit: &Circuit,
+        wiring: &Wiring,
+        good: &[Packed],
+        steps: &mut Steps<L>,
+    )
+        requires wiring { IsWired circuit.now wiring.now.order.items wiring.now.sinks }
+        requires fits { FitsScratch circuit.now wiring.now.order.items good.now self.old }
+        ensures fits { FitsScratch circuit.now wiring.now.order.items good.now self.new }
+        ensures empty { (k : ℕ) → has_place self.new.waiting k ≡ false }
+        ensures room { room self.new.waiting ≡ room self.old.waiting }
+        ensures leaves { (n : ℕ) → is_gate circuit.now n ≡ false → row_now self.new.overlay good.now n ≡ row_now self.old.overlay good.now n }
+        ensures moved { HasMoved good.now self.old self.new }
+        ensures settled { (live behind : ℕ → Bool) (source : ℕ → Tri) (forced : Forced) (j : ℕ) → j < 512
+            → Covers circuit.now wiring.now.order.items wiring.now.sinks live → IsClosed circuit.now behind → IsFree behind forced → IsWithin wiring.now.order.items behind self.old
+            → IsOpen circuit.now wiring.now.order.items good.now source forced live j self.old → IsSettled circuit.now good.now source forced live j self.new }
+        ensures steps { (behind : ℕ → Bool) → IsClosed circuit.now behind → IsWithin wiring.now.order.items behind self.old → steps.new ≤ steps.old + count_by behind wiring.now.order.items }
+    {
+        let _ = circuit.nets();
+        let mut from = 0;
+        while let Some(place) = self.waiting.next_from(from) {
+            self.turn(circuit, wiring, good, place, steps);
+            from = place + 1;
+        }
+        self.waiting.lower_mark();
+    }
+
+    /// Takes all rows out.
+    pub fn clear(&mut self)
+        ensures len { length self.new.overlay ≡ length self.old.overlay }
+        ensures clean { IsClean self.new.overlay }
+        ensures waiting { self.new.waiting ≡ self.old.waiting }
+        ensures moved { self.new.moved ≡ self.old.moved }
+    {
+        self.overlay.clear();
+    }
+}
+
+fn sent<T: Send>(value: T) -> T {
+    value
+}
+
+fn shared<T: Sync>(value: &T) -> &T {
+    value
+}
+
+/// Wiring can be shared by threads, and a scratch sent to one.
+fn crosses_threads(wiring: &Wiring, scratch: Scratch) -> Scratch {
+    let _ = shared(wiring);
+    sent(scratch)
+}
