@@ -1,6 +1,6 @@
 -- How a run ends, from what its last steps say.
 use Rattle.std.proofs.Common.{◌≡◌, ◌≤◌, ◌<◌, ◌+◌, ◌*◌, ℕ, true, List, [], ◌∷◌, ◌++◌, length, Option, None, Some, refl, sym, ap, subst, ◌∙◌, inl, inr, arith, append_assoc, append-nil}
-use Rattle.std.specs.Prelude.{All, ◌⊎◌, IfSome, IsSome}
+use Rattle.std.specs.Prelude.{All, ◌⊎◌, IfSome, IsSome, unwrap_or}
 use Rattle.std.specs.Option.{is_some}
 use Rattle.std.specs.Io.KnownBytes.{append_known}
 use Rattle.desk_outside.specs.declared.deed.Deed.{Deed}
@@ -8,8 +8,8 @@ use Rattle.desk_outside.specs.Bytes.{AddsBefore, AddsPart}
 use Rattle.desk_outside.specs.Faults.{Rose}
 use Rattle.desk_outside.specs.Cabinets.{CabinetTold, keeper_handed, keeper_home}
 use Rattle.desk_outside.proofs.Parts.{append_known_twice}
-use Rattle.book.specs.declared.StartFault.{StartFault}
-use Rattle.book.specs.declared.StartFault.TheVariants as fault
+use Rattle.book.specs.declared.opening.StartFault.{StartFault}
+use Rattle.book.specs.declared.opening.StartFault.TheVariants as fault
 use Rattle.book.specs.Legal.{spoiled_row}
 use Rattle.book.specs.Changes.{BookFacts}
 use Rattle.desk_serve.specs.declared.ending.Ending.{Ending}
@@ -118,10 +118,6 @@ keeper_rose faults_of (Some k) zero old mid new some none rose on later =
 
 -- ---- a store that was opened
 
-abbrev pub or_else : Option Ending → Ending → Ending
-or_else None last = last
-or_else (Some ending) last = ending
-
 module _ (asked : Asked) (old new : Outside) (untouched : Type 0) (deeds : List Deed) (book : BookFacts) (kept : (told : CabinetTold) → old.cabinet ≡ Some told → new.cabinet ≡ Some (was_kept told asked.store deeds book.deeds book.faults)) where
   were_served : (doors unserved : ℕ) (links : _) → OverBook asked old.street new.street doors unserved links deeds book → WereServed asked old new doors unserved links deeds book.deeds
   were_served doors unserved links over = record { grown = over.grown; faults = book.faults; cabinet = kept; street = over.street }
@@ -131,7 +127,7 @@ module _ (asked : Asked) (old new : Outside) (untouched : Type 0) (deeds : List 
 
   pub opened_ended : (result : Ending) (mid : Option (List ℕ)) (mid_rose last_rose : Type 0) (instead : Option Ending) → (mid_rose → Rose old.sink_faults new.sink_faults) → (last_rose → Rose old.sink_faults new.sink_faults)
       → IsOver asked untouched (Rose old.street_faults new.street_faults) mid_rose old.street new.street old.written mid deeds instead book
-      → Writes (or_else instead (Done (asked.workers * asked.sessions) (length book.deeds))) (line_of (or_else instead (Done (asked.workers * asked.sessions) (length book.deeds)))) result mid new.written last_rose
+      → Writes (unwrap_or instead (Done (asked.workers * asked.sessions) (length book.deeds))) (line_of (unwrap_or instead (Done (asked.workers * asked.sessions) (length book.deeds)))) result mid new.written last_rose
       → HasEnded asked old new untouched result
   opened_ended result mid mid_rose last_rose None on last (over, wrote) writes =
       ends_after asked old new untouched result (Done (asked.workers * asked.sessions) (length book.deeds)) mid last_rose wrote

@@ -56,3 +56,6 @@ are_out port n (Some u) mid silent out t e =
     let is : with_doors_out u port n ≡ t = cc in
     let many : u.out + n ≡ t.out = ap (λ (s : StreetTold). s.out) is in
     (u, refl, omega (arith, many))
+
+pub rose_later : (first before after : ℕ) → first ≤ before → Rose before after → Rose first after
+rose_later first before after later rose = omega (arith, later, rose)

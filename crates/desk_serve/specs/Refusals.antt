@@ -1,6 +1,6 @@
 -- The ending where the store isn't opened.
-use Rattle.book.specs.declared.StartFault.{StartFault}
-use Rattle.book.specs.declared.StartFault.TheVariants as fault
+use Rattle.book.specs.declared.opening.StartFault.{StartFault}
+use Rattle.book.specs.declared.opening.StartFault.TheVariants as fault
 use Rattle.desk_serve.specs.declared.ending.Ending.{Ending}
 use Rattle.desk_serve.specs.declared.ending.Ending.TheVariants.{StoreFault, NoMemory, Spoiled}
 

@@ -4,16 +4,16 @@ use Rattle.std.specs.List.{list_any}
 use Rattle.desk_outside.specs.Doors.{DoorTold}
 use Rattle.desk_outside.specs.Faults.{Rose}
 use Rattle.shared_desk.specs.Seats.{DeskFacts, SeatFacts}
-use Rattle.desk_http.specs.declared.Served.{Served}
+use Rattle.desk_http.specs.declared.sessions.serve.Served.{Served}
 use Rattle.desk_http.specs.DeskSeats.{of_desk, IsSeatOf}
 use Rattle.desk_http.specs.Serving.{Serves, DidSome}
-use Rattle.desk_http.specs.Truth.{IsTrueFor}
+use Rattle.report_cache.specs.Truth.{IsTrueFor, KeptReport}
 use Rattle.desk_serve.specs.declared.ending.Ending.{Ending}
 use Rattle.desk_serve.specs.declared.ending.Ending.TheVariants.{NoMemory, StreetFault}
 use Rattle.desk_serve.specs.Doors.{DoorFacts}
 
 -- a worker with a seat of the desk, and with a cache that is true
-pub record CanWork (desk : DeskFacts) (seat : SeatFacts) (cache : List ℕ) : Type 0 where
+pub record CanWork (desk : DeskFacts) (seat : SeatFacts) (cache : List KeptReport) : Type 0 where
   pub belongs : IsSeatOf seat desk
   pub truth : IsTrueFor cache seat.seen
 
