@@ -1,8 +1,6 @@
 //! Which words are right, and the command that they name.
 mod assigned;
 
-pub use assigned::serving_of;
-
 ghost use Rattle.std.specs.Prelude.{◌≡◌, ◌==◌, ◌<◌, List, map, length, true, IfOk, OnErr, string_bytes, codes};
 ghost use Rattle.std.specs.List.{list_all};
 ghost use Rattle.desk_commands.specs.Words.{is_plain_word, word_at, begins, is_check, is_pack, is_diagnose, is_demo, is_serve, is_count_to, names_page};
@@ -11,6 +9,7 @@ ghost use Rattle.desk_commands.specs.Requests.{TakenFor};
 
 use crate::command::Command;
 use crate::words::assigned::{demo_of, design_files_of, diagnose_of};
+pub use assigned::serving_of;
 use scan_model::NoMemory;
 use std::alloc::Global;
 use text_parts::{is_tag, number_of};

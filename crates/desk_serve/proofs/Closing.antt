@@ -22,11 +22,14 @@ use Rattle.desk_serve.specs.Runs.{Asked, Outside, HasEnded, IsDue, IsWritten, Is
 -- ---- bytes
 
 part_after : (old mid new : Option (List ℕ)) (first line : List ℕ) → mid ≡ append_known old first → AddsPart mid new line → AddsPart old new (first ++ line)
-part_after old mid new first line is (left, p) = (left, record {
-  part = first ++ p.part;
-  cut = ap (λ l. first ++ l) p.cut ∙ sym (append_assoc first p.part left);
-  added = p.added ∙ ap (λ k. append_known k p.part) is ∙ append_known_twice old first p.part;
-})
+part_after old mid new first line is (left, p) = (
+  left,
+  record {
+    part = first ++ p.part;
+    cut = ap (λ l. first ++ l) p.cut ∙ sym (append_assoc first p.part left);
+    added = p.added ∙ ap (λ k. append_known k p.part) is ∙ append_known_twice old first p.part;
+  },
+)
 
 nothing_more : (known : Option (List ℕ)) → append_known known [] ≡ known
 nothing_more None = refl
@@ -57,12 +60,15 @@ module _ (asked : Asked) (old new : Outside) (untouched : Type 0) (result : Endi
     is = subst (λ r. IsDue asked old new untouched r (first_line asked.port ++ line_of due)) (sym same) is;
     wrote = wrote ∙ ap (λ k. append_known k (line_of due)) first ∙ append_known_twice old.written (first_line asked.port) (line_of due);
   }
-  ends_after due mid rose first is (inr (sink, part, cause)) on = inr (sink, record {
-    text = first_line asked.port ++ line_of due;
-    is = inr (due, is);
-    part = part_after old.written mid new.written (first_line asked.port) (line_of due) first part;
-    rose = on cause;
-  })
+  ends_after due mid rose first is (inr (sink, part, cause)) on = inr (
+    sink,
+    record {
+      text = first_line asked.port ++ line_of due;
+      is = inr (due, is);
+      part = part_after old.written mid new.written (first_line asked.port) (line_of due) first part;
+      rose = on cause;
+    },
+  )
 
   -- no line after a part of the first
   pub ends_cut : (mid : Option (List ℕ)) (rose : Type 0) → IsFirstDue asked old new (first_line asked.port) → AddsPart old.written mid (first_line asked.port) → Rose old.sink_faults new.sink_faults → Writes SinkFault [] result mid new.written rose → HasEnded asked old new untouched result

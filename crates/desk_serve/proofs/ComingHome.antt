@@ -33,7 +33,7 @@ home_is d told tells = ap (λ t. record { given = (told_or_fresh t).given; done 
 pub one_more_home : (told : StreetTold) (doors : List DoorFacts) (d : DoorFacts) (told_door : DoorTold) → d.told ≡ Some told_door → door_home (with_doors_home told doors) told_door d.faults ≡ with_doors_home told (doors ++ d ∷ [])
 one_more_home told doors d told_door tells =
     let homes : (told.home ++ map home_of doors) ++ record { given = told_door.given; done = told_door.done; failed = not (d.faults == 0) } ∷ [] ≡ told.home ++ map home_of (doors ++ d ∷ []) =
-        ap (λ h. (told.home ++ map home_of doors) ++ h ∷ []) (home_is d told_door tells) ∙ append_assoc told.home (map home_of doors) (home_of d ∷ []) ∙ ap (λ l. told.home ++ l) (sym (map-append home_of doors (d ∷ []))) in
+    ap (λ h. (told.home ++ map home_of doors) ++ h ∷ []) (home_is d told_door tells) ∙ append_assoc told.home (map home_of doors) (home_of d ∷ []) ∙ ap (λ l. told.home ++ l) (sym (map-append home_of doors (d ∷ []))) in
     let out : (told.out - length doors) - 1 ≡ told.out - length (doors ++ d ∷ []) = omega (arith, length-append doors (d ∷ [])) in
     ap (λ h. record { ports = told.ports; home = h; out = (told.out - length doors) - 1 }) homes ∙ ap (λ n. record { ports = told.ports; home = told.home ++ map home_of (doors ++ d ∷ []); out = n }) out
 

@@ -106,7 +106,7 @@ over asked untouched tells rose_before rose sink_rose street_before street_after
     let s = ok.served in
     let fresh_doors = subst (All IsFreshDoor) (sym s.doors_were) ok.fresh.fresh in
     let with_links = λ (links : DoorHome → Type 0) (all : All IsFreshDoor (map (λ (w : Work). w.door_before) s.works) → All Tells (map (λ (w : Work). w.door_before) s.works) → All links (map home_of (map (λ (w : Work). w.door) s.works))).
-        served_over asked street_before street_after desk seats book some opened is_book tells links after ok.doors doors s.works tell ok.fresh ok.all now s.seats_were s.seats_are s.doors_were s.doors_are s.worked all finished in
+    served_over asked street_before street_after desk seats book some opened is_book tells links after ok.doors doors s.works tell ok.fresh ok.all now s.seats_were s.seats_are s.doors_were s.doors_are s.worked all finished in
     elim (bool_cases (any_failed s.works)) [
       | inl bad ↦
           subst (λ i. IsOver asked untouched rose sink_rose street_before street_after old new (opened_deeds seats) i book) (sym (s.instead_is ∙ ap (λ b. instead_of b (any_unserved s.works)) bad)) (

@@ -56,11 +56,11 @@ door_served desk sessions i before after w limited base is fresh tells worked ow
     let number : w.seat.number ≡ i = did.number ∙ numbered in
     let based : w.seat.desk.base ≡ length before = ap (λ (d : DeskFacts). d.base) worked.stays ∙ base in
     let own_at : mine_of (length before) i after ≡ mine_of (length before) i w.seat.seen =
-        subst (λ n. mine_of (length before) n after ≡ mine_of (length before) n w.seat.seen) number
-        (subst (λ b. mine_of b w.seat.number after ≡ mine_of b w.seat.number w.seat.seen) based own.own) in
+    subst (λ n. mine_of (length before) n after ≡ mine_of (length before) n w.seat.seen) number
+    (subst (λ b. mine_of b w.seat.number after ≡ mine_of b w.seat.number w.seat.seen) based own.own) in
     let gained : mine_of (length before) i w.seat.seen ≡ deeds =
-        subst (λ n. mine_of (length before) n w.seat.seen ≡ deeds) numbered
-        (subst (λ (b : List Deed). mine_of (length b) w.seat_before.number w.seat.seen ≡ deeds) first did.gained) in
+    subst (λ n. mine_of (length before) n w.seat.seen ≡ deeds) numbered
+    (subst (λ (b : List Deed). mine_of (length b) w.seat_before.number w.seat.seen ≡ deeds) first did.gained) in
     let at : Option DoorTold → Type 0 = λ t. IsServedBy max_deeds i before after (record { given = (told_or_fresh t).given; done = (told_or_fresh t).done; failed = has_failed w.door }) faults w.served.unserved in
     let noted : failed w.seat ≡ _ = length-filter (λ k. k == w.seat.number) w.seat.faults in (
       faults,
@@ -76,7 +76,7 @@ door_served desk sessions i before after w limited base is fresh tells worked ow
         faults_are = refl;
       },
       subst (λ n. faults ≤ failed (record { desk = w.seat.desk; number = n; seen = w.seat.seen; faults = w.seat.faults })) (sym did.number)
-      (let grew = did.failures.1 in omega (arith, grew, length-filter (λ k. k == w.seat_before.number) w.seat.faults)),
+          (let grew = did.failures.1 in omega (arith, grew, length-filter (λ k. k == w.seat_before.number) w.seat.faults)),
     )
 
 -- ---- all doors

@@ -21,7 +21,7 @@ nobody seats (deed ∷ deeds) by none =
 own_nothing : (desk : DeskFacts) (before more : List Deed) (i : ℕ) → desk.base ≡ length before → HasOwn (before ++ more) (fresh_seat desk before i) → filter (λ (d : Deed). d.by == i) more ≡ []
 own_nothing desk before more i base own =
     let at : filter (λ (d : Deed). d.by == i) (drop (length before) (before ++ more)) ≡ filter (λ (d : Deed). d.by == i) (drop (length before) before) =
-        subst (λ b. filter (λ (d : Deed). d.by == i) (drop b (before ++ more)) ≡ filter (λ (d : Deed). d.by == i) (drop b before)) base own.own in
+    subst (λ b. filter (λ (d : Deed). d.by == i) (drop b (before ++ more)) ≡ filter (λ (d : Deed). d.by == i) (drop b before)) base own.own in
     sym (ap (filter (λ (d : Deed). d.by == i)) (drop-append_seam before more)) ∙ at ∙ ap (filter (λ (d : Deed). d.by == i)) (drop-length before)
 
 -- where every seat stands as at the opening, the deeds are those of the opening

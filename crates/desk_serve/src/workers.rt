@@ -73,7 +73,10 @@ fn work<R: Threads + Wait + Sync, K: Keeper + Send, D: Door>(
     ensures { HasWorked desk.now sessions (record { seat_before = worker.old.seat; seat = worker.new.seat; door_before = record { told = D.told worker.old.door; faults = D.faults worker.old.door }; door = record { told = D.told worker.new.door; faults = D.faults worker.new.door }; served = worker.new.served }) }
 {
     let Worker {
-        seat, door, cache, ..
+        seat,
+        door,
+        cache,
+        ..
     } = worker;
     let served = serve_door(rt, alloc, desk, seat, cache, door, &mut OpenGate, sessions);
     worker.served = served;

@@ -163,7 +163,10 @@ impl Street for TcpStreet {
 
     fn door(&mut self, port: u16) -> Result<TcpDoor, Failed> {
         if let Ok(listener) = listener(&self.rt, &mut self.bound, port) {
-            return Ok(TcpDoor { listener, faults: 0 });
+            return Ok(TcpDoor {
+                listener,
+                faults: 0,
+            });
         }
         self.faults = self.faults.saturating_add(1);
         Err(Failed)

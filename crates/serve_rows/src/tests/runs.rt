@@ -6,7 +6,9 @@ use scan_model::Rows;
 use std::test::Fail;
 
 const ASK: &[u8] = b"GET /designs/none HTTP/1.1\r\nHost: desk\r\n\r\n";
-const REPLY: &[u8] = b"HTTP/1.1 404 Not Found\r\nContent-Type: text/plain\r\nContent-Length: 8\r\n\r\nrule 83\n";
+
+const REPLY: &[u8] =
+    b"HTTP/1.1 404 Not Found\r\nContent-Type: text/plain\r\nContent-Length: 8\r\n\r\nrule 83\n";
 
 fn one_worker() -> Serving<'static> {
     Serving {
@@ -23,10 +25,26 @@ fn one_connection_is_served(rt: HostRuntime) -> Result<(), Fail> {
     let mut street = MemStreet::make(alloc, only(alloc, door_with(alloc, ASK, 0)?)?)?;
     let mut cabinet = MemCabinet::make(alloc, only(alloc, empty_keeper(alloc, 0)?)?)?;
     let mut out = MemSink::make(alloc, Rows::new(alloc))?;
-    let ending = serve(&rt, alloc, &one_worker(), &mut out, &mut street, &mut cabinet);
-    assert_eq!(rt; ending, Ending::Done { sessions: 1, deeds: 0 });
+    let ending = serve(
+        &rt,
+        alloc,
+        &one_worker(),
+        &mut out,
+        &mut street,
+        &mut cabinet,
+    );
+    assert_eq!(rt;
+        ending,
+        Ending::Done {
+            sessions: 1,
+            deeds: 0
+        }
+    );
     assert_eq!(rt; ending.status(), 0);
-    assert_eq!(rt; out.bytes(), b"serving 8080\nsessions 1 deeds 0\n".as_slice());
+    assert_eq!(rt;
+        out.bytes(),
+        b"serving 8080\nsessions 1 deeds 0\n".as_slice()
+    );
     let [home] = street.home() else {
         return Err(Fail::new("one door comes home"));
     };
@@ -51,8 +69,17 @@ fn two_workers_serve(rt: HostRuntime) -> Result<(), Fail> {
         ..one_worker()
     };
     let ending = serve(&rt, alloc, &asked, &mut out, &mut street, &mut cabinet);
-    assert_eq!(rt; ending, Ending::Done { sessions: 2, deeds: 0 });
-    assert_eq!(rt; out.bytes(), b"serving 8080\nsessions 2 deeds 0\n".as_slice());
+    assert_eq!(rt;
+        ending,
+        Ending::Done {
+            sessions: 2,
+            deeds: 0
+        }
+    );
+    assert_eq!(rt;
+        out.bytes(),
+        b"serving 8080\nsessions 2 deeds 0\n".as_slice()
+    );
     let [first, second] = street.home() else {
         return Err(Fail::new("two doors come home"));
     };
@@ -70,7 +97,14 @@ fn a_street_fails(rt: HostRuntime) -> Result<(), Fail> {
     let mut street = MemStreet::make_failing(alloc, Rows::new(alloc), only(alloc, 1)?)?;
     let mut cabinet = MemCabinet::make(alloc, Rows::new(alloc))?;
     let mut out = MemSink::make(alloc, Rows::new(alloc))?;
-    let ending = serve(&rt, alloc, &one_worker(), &mut out, &mut street, &mut cabinet);
+    let ending = serve(
+        &rt,
+        alloc,
+        &one_worker(),
+        &mut out,
+        &mut street,
+        &mut cabinet,
+    );
     assert_eq!(rt; ending.status(), 10);
     assert_eq!(rt; out.bytes(), b"street fault\n".as_slice());
     assert_eq!(rt; cabinet.home().len(), 1);
@@ -107,7 +141,14 @@ fn a_store_fails(rt: HostRuntime) -> Result<(), Fail> {
     let mut street = MemStreet::make(alloc, Rows::new(alloc))?;
     let mut cabinet = MemCabinet::make(alloc, only(alloc, empty_keeper(alloc, 1)?)?)?;
     let mut out = MemSink::make(alloc, Rows::new(alloc))?;
-    let ending = serve(&rt, alloc, &one_worker(), &mut out, &mut street, &mut cabinet);
+    let ending = serve(
+        &rt,
+        alloc,
+        &one_worker(),
+        &mut out,
+        &mut street,
+        &mut cabinet,
+    );
     assert_eq!(rt; ending.status(), 7);
     assert_eq!(rt; out.bytes(), b"store fault\n".as_slice());
     assert!(rt; street.ports().is_empty());
@@ -121,7 +162,14 @@ fn a_store_is_spoiled(rt: HostRuntime) -> Result<(), Fail> {
     let mut street = MemStreet::make(alloc, Rows::new(alloc))?;
     let mut cabinet = MemCabinet::make(alloc, only(alloc, spoiled_keeper(alloc)?)?)?;
     let mut out = MemSink::make(alloc, Rows::new(alloc))?;
-    let ending = serve(&rt, alloc, &one_worker(), &mut out, &mut street, &mut cabinet);
+    let ending = serve(
+        &rt,
+        alloc,
+        &one_worker(),
+        &mut out,
+        &mut street,
+        &mut cabinet,
+    );
     assert_eq!(rt; ending, Ending::Spoiled { row: 0 });
     assert_eq!(rt; ending.status(), 9);
     assert_eq!(rt; out.bytes(), b"store row 0\n".as_slice());
@@ -135,7 +183,14 @@ fn a_sink_fails(rt: HostRuntime) -> Result<(), Fail> {
     let mut street = MemStreet::make(alloc, Rows::new(alloc))?;
     let mut cabinet = MemCabinet::make(alloc, Rows::new(alloc))?;
     let mut out = MemSink::make_failing(alloc, Rows::new(alloc), only(alloc, 2)?)?;
-    let ending = serve(&rt, alloc, &one_worker(), &mut out, &mut street, &mut cabinet);
+    let ending = serve(
+        &rt,
+        alloc,
+        &one_worker(),
+        &mut out,
+        &mut street,
+        &mut cabinet,
+    );
     assert_eq!(rt; ending.status(), 6);
     assert_eq!(rt; out.bytes(), b"serving 8080\n".as_slice());
     Ok(())

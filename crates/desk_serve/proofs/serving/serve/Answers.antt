@@ -34,12 +34,12 @@ returns-in-Err-start-clause-ended g c =
     (record { written = g.O.Sink.written c.turned_away.new.out; street = g.S.Street.told c.args.street.now; cabinet = g.C.Cabinet.told c.turned_away.new.cabinet; sink_faults = g.O.Sink.faults c.turned_away.new.out; street_faults = g.S.Street.faults c.args.street.now; cabinet_faults = g.C.Cabinet.faults c.turned_away.new.cabinet })
     (c.args.street.now ≡ c.args.street.now) refused.fault c.turned_away.result refl
     (λ told is.
-        let handed = c.in-Ok.ensures.handed told is in
-        unused_home (λ k. g.C.K.Keeper.rows k) (λ k. g.C.K.Keeper.faults k) c.args.asked.now.store.now told mid new rows handed.0 handed.2 handed.1 refused.keeper (g.C.K.Keeper.faults keeper) c.turned_away.ensures.home c.turned_away.ensures.none c.in-Err-start.ensures.same)
+    let handed = c.in-Ok.ensures.handed told is in
+    unused_home (λ k. g.C.K.Keeper.rows k) (λ k. g.C.K.Keeper.faults k) c.args.asked.now.store.now told mid new rows handed.0 handed.2 handed.1 refused.keeper (g.C.K.Keeper.faults keeper) c.turned_away.ensures.home c.turned_away.ensures.none c.in-Err-start.ensures.same)
     (λ row e told is.
-        let handed = c.in-Ok.ensures.handed told is in
-        let home = surely_home (λ k. g.C.K.Keeper.rows k) (λ k. g.C.K.Keeper.faults k) c.args.asked.now.store.now told mid new rows handed.0 handed.2 handed.1 refused.keeper (g.C.K.Keeper.faults keeper) (c.in-Err-start.ensures.home row e) c.turned_away.ensures.home c.in-Err-start.ensures.same in
-        (handed.0, home.0, home.1, c.in-Err-start.ensures.spoiled handed.0 row handed.1 e))
+    let handed = c.in-Ok.ensures.handed told is in
+    let home = surely_home (λ k. g.C.K.Keeper.rows k) (λ k. g.C.K.Keeper.faults k) c.args.asked.now.store.now told mid new rows handed.0 handed.2 handed.1 refused.keeper (g.C.K.Keeper.faults keeper) (c.in-Err-start.ensures.home row e) c.turned_away.ensures.home c.in-Err-start.ensures.same in
+    (handed.0, home.0, home.1, c.in-Err-start.ensures.spoiled handed.0 row handed.1 e))
     (λ e. keeper_rose (λ k. g.C.K.Keeper.faults k) refused.keeper (g.C.K.Keeper.faults keeper) (g.C.Cabinet.faults c.args.cabinet.now) (g.C.Cabinet.faults c.keeper.new.self) (g.C.Cabinet.faults c.turned_away.new.cabinet) (c.in-Err-start.ensures.home_failed e) c.in-Ok.ensures.unfailed (c.in-Err-start.ensures.failed e) c.turned_away.ensures.failed c.in-Ok.ensures.later)
     c.turned_away.ensures.wrote
 
@@ -68,11 +68,11 @@ returns-clause-ended g c =
     (record { written = g.O.Sink.written c.ended-2.new.out; street = g.S.Street.told c.serve_desk-book.new.street; cabinet = g.C.Cabinet.told c.back.new.self; sink_faults = g.O.Sink.faults c.ended-2.new.out; street_faults = g.S.Street.faults c.serve_desk-book.new.street; cabinet_faults = g.C.Cabinet.faults c.back.new.self })
     (c.serve_desk-book.new.street ≡ c.args.street.now) deeds book
     (λ told is.
-        let handed = c.in-Ok.ensures.handed told is in
-        let same : deeds ≡ handed.0 = opened.1 handed.0 handed.1 in
-        let tells : made.0.tells ≡ true = started.tells ∙ ap is_some handed.1 in
-        let kept = c.back.ensures.home (keeper_handed told store handed.0) book.deeds handed.2 (c.close.ensures.rows ∙ c.serve_desk-book.ensures.rows tells) in
-        kept ∙ ap (λ n. Some (keeper_home (keeper_handed told store handed.0) book.deeds n)) c.close.ensures.faults ∙ ap (λ ds. Some (keeper_home (keeper_handed told store ds) book.deeds book.faults)) (sym same))
+    let handed = c.in-Ok.ensures.handed told is in
+    let same : deeds ≡ handed.0 = opened.1 handed.0 handed.1 in
+    let tells : made.0.tells ≡ true = started.tells ∙ ap is_some handed.1 in
+    let kept = c.back.ensures.home (keeper_handed told store handed.0) book.deeds handed.2 (c.close.ensures.rows ∙ c.serve_desk-book.ensures.rows tells) in
+    kept ∙ ap (λ n. Some (keeper_home (keeper_handed told store handed.0) book.deeds n)) c.close.ensures.faults ∙ ap (λ ds. Some (keeper_home (keeper_handed told store ds) book.deeds book.faults)) (sym same))
     c.ended-2.result (g.O.Sink.written c.serve_desk-book.new.out) (Rose (g.O.Sink.faults c.args.out.now) (g.O.Sink.faults c.serve_desk-book.new.out)) (Rose (g.O.Sink.faults c.serve_desk-book.new.out) (g.O.Sink.faults c.ended-2.new.out)) instead
     (λ r. rose_still _ _ _ r c.ended-2.ensures.later) (λ r. rose_later _ _ _ c.serve_desk-book.ensures.sink_later r) c.serve_desk-book.ensures.over
     (subst (λ e. Writes e (line_of e) c.ended-2.result (g.O.Sink.written c.serve_desk-book.new.out) (g.O.Sink.written c.ended-2.new.out) (Rose (g.O.Sink.faults c.serve_desk-book.new.out) (g.O.Sink.faults c.ended-2.new.out))) due c.ended-2.ensures.wrote)
