@@ -3,8 +3,8 @@ use Rattle.std.proofs.Common.{◌≡◌, ℕ, List, Option, Some, None, Bool, tr
 use Rattle.std.specs.Prelude.{option_and_then, if◌then◌else◌, slice_get}
 use Rattle.matchit.specs.Seek.{first}
 use Rattle.scan_model.specs.Words.{is_tag}
-use Rattle.desk_http.specs.declared.resource.Resource.{Resource}
-use Rattle.desk_http.specs.declared.resource.Resource.TheVariants as resource
+use Rattle.desk_http.specs.declared.routes.resource.Resource.{Resource}
+use Rattle.desk_http.specs.declared.routes.resource.Resource.TheVariants as resource
 use Rattle.desk_http.specs.declared.routes.Route.{Route}
 use Rattle.desk_http.specs.declared.routes.Route.TheVariants as route
 use Rattle.desk_http.specs.Routes.{routes}

@@ -10,7 +10,7 @@ use Rattle.scan_model.specs.Words.{is_tag}
 use Rattle.serde_json.specs.Data.{unsigned, negative, float, Data, null, boolean, number, string, array, object, Members}
 use Rattle.serde_json.specs.Find.{get_member}
 use Rattle.serde_json.specs.Read.{read}
-use Rattle.desk_http.specs.declared.signoff.SignBody.{SignBody}
+use Rattle.desk_http.specs.declared.answers.signoff.SignBody.{SignBody}
 use Rattle.desk_http.specs.SignBodies.{members_len, IsSign, IsSignBody}
 use Rattle.desk_http.specs.Answering.{ReadsSign}
 

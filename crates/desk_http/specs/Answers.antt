@@ -9,13 +9,13 @@ use Rattle.book.specs.declared.answers.PutFault.{PutFault}
 use Rattle.book.specs.declared.answers.PutFault.TheVariants as put_fault
 use Rattle.book.specs.declared.answers.LookFault.{LookFault}
 use Rattle.book.specs.declared.answers.LookFault.TheVariants as look_fault
-use Rattle.desk_http.specs.declared.status.Status.{Status}
-use Rattle.desk_http.specs.declared.status.Status.TheVariants as status
-use Rattle.desk_http.specs.declared.methods.Methods.{Methods}
-use Rattle.desk_http.specs.declared.bodies.TextKind.{TextKind}
-use Rattle.desk_http.specs.declared.bodies.TextKind.TheVariants as kind
-use Rattle.desk_http.specs.declared.bodies.Refusal.{Refusal}
-use Rattle.desk_http.specs.declared.bodies.Refusal.TheVariants as refusal
+use Rattle.desk_http.specs.declared.reply.status.Status.{Status}
+use Rattle.desk_http.specs.declared.reply.status.Status.TheVariants as status
+use Rattle.desk_http.specs.declared.routes.methods.Methods.{Methods}
+use Rattle.desk_http.specs.declared.reply.bodies.TextKind.{TextKind}
+use Rattle.desk_http.specs.declared.reply.bodies.TextKind.TheVariants as kind
+use Rattle.desk_http.specs.declared.reply.bodies.Refusal.{Refusal}
+use Rattle.desk_http.specs.declared.reply.bodies.Refusal.TheVariants as refusal
 use Rattle.desk_http.specs.Statuses.{refusal_status}
 use Rattle.desk_http.specs.Bodies.{refusal_body, unknown_revision_body, unknown_sign_body, name_taken_body, digest_differs_body, full_body, text_fault_body, keeper_fault_body, no_memory_body}
 

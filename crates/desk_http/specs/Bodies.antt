@@ -3,10 +3,10 @@ use Rattle.std.specs.Prelude.{ℕ, List, [], ◌∷◌, ◌++◌, decimal, codes
 use Rattle.hex.specs.Hex.{encode_lower}
 use Rattle.scan_model.specs.ReportText.{line}
 use Rattle.text_parts.specs.declared.fault.TextFault.{TextFault}
-use Rattle.desk_http.specs.declared.bodies.TextKind.{TextKind}
-use Rattle.desk_http.specs.declared.bodies.TextKind.TheVariants as kind
-use Rattle.desk_http.specs.declared.bodies.Refusal.{Refusal}
-use Rattle.desk_http.specs.declared.bodies.Refusal.TheVariants as refusal
+use Rattle.desk_http.specs.declared.reply.bodies.TextKind.{TextKind}
+use Rattle.desk_http.specs.declared.reply.bodies.TextKind.TheVariants as kind
+use Rattle.desk_http.specs.declared.reply.bodies.Refusal.{Refusal}
+use Rattle.desk_http.specs.declared.reply.bodies.Refusal.TheVariants as refusal
 
 -- a line of words and a number
 abbrev pub number_line : List ℕ → ℕ → List ℕ

@@ -5,8 +5,8 @@ use Rattle.std.specs.List.{list_all, list_any, slice_split}
 use Rattle.std.specs.Str.{bytes_eq, str_eq_ignore_ascii_case}
 use Rattle.httparse.specs.Grammar.{RequestHead, ReadsRequest, field_value, trim_ows}
 use Rattle.scan_model.specs.Words.{is_digit, is_tag_byte, digits_number}
-use Rattle.desk_http.specs.declared.method.Method.{Method}
-use Rattle.desk_http.specs.declared.method.Method.TheVariants as method
+use Rattle.desk_http.specs.declared.head.method.Method.{Method}
+use Rattle.desk_http.specs.declared.head.method.Method.TheVariants as method
 use Rattle.desk_http.specs.declared.head.HeadFault.{HeadFault}
 use Rattle.desk_http.specs.declared.head.HeadFault.TheVariants as fault
 

@@ -1,9 +1,9 @@
 -- The methods of a route, of which a list goes into an Allow field (RFC 9110, section 10.2.1).
 use Rattle.std.specs.Prelude.{ℕ, Bool, true, false, List, codes}
-use Rattle.desk_http.specs.declared.method.Method.{Method}
-use Rattle.desk_http.specs.declared.method.Method.TheVariants as method
-use Rattle.desk_http.specs.declared.methods.Methods.{Methods}
-use Rattle.desk_http.specs.declared.methods.Methods.TheVariants as methods
+use Rattle.desk_http.specs.declared.head.method.Method.{Method}
+use Rattle.desk_http.specs.declared.head.method.Method.TheVariants as method
+use Rattle.desk_http.specs.declared.routes.methods.Methods.{Methods}
+use Rattle.desk_http.specs.declared.routes.methods.Methods.TheVariants as methods
 
 abbrev pub methods_text : Methods → List ℕ
 methods_text methods.Get = codes "GET"

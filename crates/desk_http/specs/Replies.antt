@@ -1,7 +1,7 @@
 -- The bytes of replies (RFC 9112): the lines of a head, each with CR LF behind it, an empty line, and the body.
 use Rattle.std.specs.Prelude.{ℕ, Bool, true, false, List, [], ◌++◌, length, decimal, codes, Option, Some, None}
-use Rattle.desk_http.specs.declared.status.Status.{Status}
-use Rattle.desk_http.specs.declared.methods.Methods.{Methods}
+use Rattle.desk_http.specs.declared.reply.status.Status.{Status}
+use Rattle.desk_http.specs.declared.routes.methods.Methods.{Methods}
 use Rattle.desk_http.specs.Statuses.{digits, phrase}
 use Rattle.desk_http.specs.Methods.{methods_text}
 

@@ -5,7 +5,7 @@ use Rattle.serde_json.specs.Data.{Data, number, unsigned, string, object, Member
 use Rattle.serde_json.specs.Find.{get_member}
 use Rattle.serde_json.specs.Read.{read}
 use Rattle.scan_model.specs.Words.{is_tag}
-use Rattle.desk_http.specs.declared.signoff.SignBody.{SignBody}
+use Rattle.desk_http.specs.declared.answers.signoff.SignBody.{SignBody}
 
 abbrev pub members_len : Members → ℕ
 members_len no_members = 0

@@ -1,9 +1,9 @@
 -- The statuses of replies: RFC 9110, section 15, with 431 of RFC 6585 and 507 of RFC 4918.
 use Rattle.std.specs.Prelude.{ℕ, List, codes}
-use Rattle.desk_http.specs.declared.status.Status.{Status}
-use Rattle.desk_http.specs.declared.status.Status.TheVariants as status
-use Rattle.desk_http.specs.declared.bodies.Refusal.{Refusal}
-use Rattle.desk_http.specs.declared.bodies.Refusal.TheVariants as refusal
+use Rattle.desk_http.specs.declared.reply.status.Status.{Status}
+use Rattle.desk_http.specs.declared.reply.status.Status.TheVariants as status
+use Rattle.desk_http.specs.declared.reply.bodies.Refusal.{Refusal}
+use Rattle.desk_http.specs.declared.reply.bodies.Refusal.TheVariants as refusal
 
 abbrev pub digits : Status → List ℕ
 digits status.Ok = codes "200"

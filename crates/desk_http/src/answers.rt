@@ -1,11 +1,14 @@
-//! What a request is answered over a book.
-ghost use Rattle.std.specs.Prelude.{◌≡◌, true, Option, Some};
+//! What a request is answered over a seat.
+
+pub(crate) mod signoff;
+
+ghost use Rattle.std.specs.Prelude.{List};
 ghost use Rattle.std.specs.Str.{IsAscii};
-ghost use Rattle.desk_http.specs.Answers.{Answer};
-ghost use Rattle.desk_http.specs.declared.signoff.SignBody.{SignBody};
+ghost use Rattle.desk_outside.specs.declared.deed.Deed.{Deed};
+ghost use Rattle.report_cache.specs.Truth.{IsTrueFor};
+ghost use Rattle.desk_http.specs.Seats.{IsPrefix};
 ghost use Rattle.desk_http.specs.Resources.{HasTags};
-ghost use Rattle.desk_http.specs.RouteAnswers.{answer_at};
-ghost use Rattle.desk_http.specs.Answering.{IsAnswer, Answered, ReadsSign, has_sign};
+ghost use Rattle.desk_http.specs.Answering.{IsAnswer, IsAnswerAt, Answered};
 
 use self::designs::{get_design, get_fails, put_design};
 use self::dies::{get_page, get_report, post_log};
@@ -14,73 +17,84 @@ use self::signs::{get_sign, post_sign};
 mod designs;
 mod dies;
 mod signs;
-#[cfg(test)]
-mod tests;
 
-use crate::bodies::Refusal;
-use crate::method::Method;
-use crate::resource::Resource;
-use crate::response::{Response, Unanswered};
+use crate::head::method::Method;
+use crate::reply::bodies::Refusal;
+use crate::reply::response::{Response, Unanswered};
 use crate::routes::Routes;
-use book::Book;
-use desk_outside::Keeper;
+use crate::routes::resource::Resource;
+use crate::sessions::seat::SeatAt;
+use desk_outside::Gate;
+use report_cache::ReportCache;
 use std::alloc::Global;
+use std::thread::Threads;
 
-/// What a request is answered over a book. What is done carries the number of the one who asked. Its response takes no
-/// memory once it was done.
-pub fn answer<R, K: Keeper>(
+/// What a request is answered over a seat, at some deeds that begin with those that it had seen. What is done carries its
+/// number. The response takes no memory once it was done.
+pub fn answer<R: Threads + Sync, D, S: SeatAt<R, D>, G: Gate>(
     rt: &R,
     alloc: Global,
     routes: &Routes,
-    book: &mut Book<K>,
-    by: u32,
+    desk: &D,
+    seat: &mut S,
+    cache: &mut ReportCache,
+    gate: &mut G,
     target: &str,
     method: Method,
     body: &[u8],
 ) -> Result<Response, Unanswered>
-    requires { IsAscii target.now }
-    ensures { (answer : Answer) × IsAnswer book.old.limit book.old.deeds target.now method body.now answer × Answered answer by result book.old book.new }
+    requires ascii { IsAscii target.now }
+    requires belongs { S.belongs seat.old desk.now }
+    requires cache { IsTrueFor cache.old (S.facts seat.old desk.now).seen }
+    ensures stays { S.belongs seat.new desk.now }
+    ensures cache { (later : List Deed) → IsPrefix (S.facts seat.new desk.now).seen later → IsTrueFor cache.old later → IsTrueFor cache.new later }
+    ensures answered { let s = S.facts seat.old desk.now in
+        Answered (λ deeds answer. IsAnswer s.limit deeds target.now method body.now answer) result s (S.facts seat.new desk.now) }
 {
-    // Each answer keeps what the book says of itself.
-    let _deeds = book.deeds();
     let Some(resource) = routes.resource(alloc, target)? else {
         return Ok(Response::refused(Refusal::NoRoute));
     };
     if !resource.methods().allows(method) {
         return Ok(Response::other_method(resource.methods()));
     }
-    answer_at(rt, alloc, book, by, &resource, method, body)
+    answer_at(rt, alloc, desk, seat, cache, gate, &resource, method, body)
 }
 
 // What it is answered at a resource that has the method.
-fn answer_at<R, K: Keeper>(
+fn answer_at<R: Threads + Sync, D, S: SeatAt<R, D>, G: Gate>(
     rt: &R,
     alloc: Global,
-    book: &mut Book<K>,
-    by: u32,
+    desk: &D,
+    seat: &mut S,
+    cache: &mut ReportCache,
+    gate: &mut G,
     resource: &Resource,
     method: Method,
     body: &[u8],
 ) -> Result<Response, Unanswered>
     requires tags { HasTags resource.now }
-    ensures { (sign : Option SignBody) × (has_sign (Some resource.now) method ≡ true → ReadsSign body.now sign)
-        × Answered (answer_at book.old.limit book.old.deeds resource.now method body.now sign) by result book.old book.new }
+    requires belongs { S.belongs seat.old desk.now }
+    requires cache { IsTrueFor cache.old (S.facts seat.old desk.now).seen }
+    ensures stays { S.belongs seat.new desk.now }
+    ensures cache { (later : List Deed) → IsPrefix (S.facts seat.new desk.now).seen later → IsTrueFor cache.old later → IsTrueFor cache.new later }
+    ensures answered { let s = S.facts seat.old desk.now in
+        Answered (λ deeds answer. IsAnswerAt s.limit deeds resource.now method body.now answer) result s (S.facts seat.new desk.now) }
 {
-    // Each answer keeps what the book says of itself.
-    let _deeds = book.deeds();
     match resource {
         Resource::Design { design } => match method {
-            Method::Put => put_design(alloc, book, by, design.as_slice(), body),
-            _ => Ok(get_design(alloc, book, design.as_slice())?),
+            Method::Put => put_design(rt, alloc, desk, seat, gate, design.as_slice(), body),
+            _ => Ok(get_design(rt, alloc, desk, seat, design.as_slice())?),
         },
         Resource::Fails { design, fault } => {
-            Ok(get_fails(alloc, book, design.as_slice(), *fault)?)
+            Ok(get_fails(rt, alloc, desk, seat, design.as_slice(), *fault)?)
         }
         Resource::Logs { design, die } => {
-            post_log(alloc, book, by, design.as_slice(), die.as_slice(), body)
+            let (design, die) = (design.as_slice(), die.as_slice());
+            post_log(rt, alloc, desk, seat, gate, design, die, body)
         }
         Resource::LastReport { design, die } => {
-            Ok(get_report(rt, alloc, book, design.as_slice(), die.as_slice(), None)?)
+            let (design, die) = (design.as_slice(), die.as_slice());
+            Ok(get_report(rt, alloc, desk, seat, cache, design, die, None)?)
         }
         Resource::Report {
             design,
@@ -88,7 +102,8 @@ fn answer_at<R, K: Keeper>(
             revision,
         } => {
             let revision = Some(u64::from(*revision));
-            Ok(get_report(rt, alloc, book, design.as_slice(), die.as_slice(), revision)?)
+            let (design, die) = (design.as_slice(), die.as_slice());
+            Ok(get_report(rt, alloc, desk, seat, cache, design, die, revision)?)
         }
         Resource::Page {
             design,
@@ -97,18 +112,12 @@ fn answer_at<R, K: Keeper>(
             line,
         } => {
             let (revision, line) = (u64::from(*revision), u64::from(*line));
-            Ok(get_page(
-                rt,
-                alloc,
-                book,
-                design.as_slice(),
-                die.as_slice(),
-                revision,
-                line,
-            )?)
+            let (design, die) = (design.as_slice(), die.as_slice());
+            Ok(get_page(rt, alloc, desk, seat, cache, design, die, revision, line)?)
         }
         Resource::Signs { design, die } => {
-            post_sign(rt, alloc, book, by, design.as_slice(), die.as_slice(), body)
+            let (design, die) = (design.as_slice(), die.as_slice());
+            post_sign(rt, alloc, desk, seat, cache, gate, design, die, body)
         }
         Resource::Sign {
             design,
@@ -116,7 +125,7 @@ fn answer_at<R, K: Keeper>(
             number,
         } => {
             let number = u64::from(*number);
-            Ok(get_sign(book, design.as_slice(), die.as_slice(), number)?)
+            Ok(get_sign(rt, desk, seat, design.as_slice(), die.as_slice(), number)?)
         }
     }
 }

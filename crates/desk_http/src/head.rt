@@ -1,6 +1,12 @@
 //! Heads of requests.
 
-use crate::method::Method;
+pub(crate) mod checks;
+pub(crate) mod fields;
+pub(crate) mod head_end;
+pub(crate) mod method;
+pub(crate) mod values;
+
+use crate::head::method::Method;
 use httparse::spans::Span;
 
 /// Why a head is refused before a route is looked for.

@@ -1,4 +1,8 @@
 //! The routes of the desk, and which of them a target takes.
+
+pub(crate) mod methods;
+pub(crate) mod resource;
+
 ghost use Rattle.std.specs.Prelude.{◌≡◌, IfOk};
 ghost use Rattle.desk_http.specs.Routes.{routes};
 

@@ -1,14 +1,16 @@
 //! Requests on designs.
-ghost use Rattle.std.specs.Prelude.{◌≡◌, true, IfOk};
+ghost use Rattle.std.specs.Prelude.{◌≡◌, [], true, IfOk};
 ghost use Rattle.scan_model.specs.Words.{is_tag};
 ghost use Rattle.desk_http.specs.RouteAnswers.{design_put, design_get, fails_get, predicted};
-ghost use Rattle.desk_http.specs.Answering.{Answered, response_of};
+ghost use Rattle.desk_http.specs.Seats.{Did};
+ghost use Rattle.desk_http.specs.Answering.{AnsweredBy, response_of};
 
-use crate::bodies::{design_body, design_head, unknown_fault_body};
-use crate::response::{Body, Response, Unanswered, kind_of, refused_look, refused_put};
-use crate::status::Status;
-use book::{Book, BundleFault, Put, read_bundle};
-use desk_outside::Keeper;
+use crate::reply::bodies::{design_body, design_head, unknown_fault_body};
+use crate::reply::response::{Body, Response, Unanswered, kind_of, refused_look, refused_put};
+use crate::reply::status::Status;
+use crate::sessions::seat::SeatAt;
+use book::{BundleFault, Put, read_bundle};
+use desk_outside::Gate;
 use diag_report::{fails_text, summary_text};
 use fault_universe::universe_len;
 use scan_model::{Name, NoMemory};
@@ -16,18 +18,21 @@ use std::alloc::Global;
 use std::sync::Arc;
 
 /// A bundle is put under a name.
-pub(super) fn put_design<K: Keeper>(
+pub(super) fn put_design<R, D, S: SeatAt<R, D>, G: Gate>(
+    rt: &R,
     alloc: Global,
-    book: &mut Book<K>,
-    by: u32,
+    desk: &D,
+    seat: &mut S,
+    gate: &mut G,
     name: &[u8],
     text: &[u8],
 ) -> Result<Response, Unanswered>
-    requires { is_tag name.now ≡ true }
-    ensures { Answered (design_put book.old.limit book.old.deeds name.now text.now) by result book.old book.new }
+    requires tag { is_tag name.now ≡ true }
+    requires belongs { S.belongs seat.old desk.now }
+    ensures stays { S.belongs seat.new desk.now }
+    ensures answered { let s = S.facts seat.old desk.now in
+        AnsweredBy (λ deeds. design_put s.limit deeds name.now text.now) result s (S.facts seat.new desk.now) }
 {
-    // Each answer keeps what the book says of itself.
-    let _deeds = book.deeds();
     let design = match read_bundle(alloc, name, text) {
         Ok(design) => design,
         Err(BundleFault::Text { section, fault }) => {
@@ -36,8 +41,11 @@ pub(super) fn put_design<K: Keeper>(
         Err(BundleFault::NoMemory) => return Err(Unanswered::NoMemory),
     };
     let body = design_body(name, design.digest());
-    let design = Arc::new(alloc, design).map_err(|_| Unanswered::NoMemory)?;
-    match book.put_design(by, &design) {
+    let Ok(design) = Arc::new(alloc, design) else {
+        return Err(Unanswered::NoMemory);
+    };
+    gate.pass();
+    match seat.put_design(rt, desk, &design) {
         Ok(Put::Created { .. }) => Ok(Response::short(Status::Created, body)),
         Ok(Put::Same { .. }) => Ok(Response::short(Status::Ok, body)),
         Err(fault) => refused_put(fault),
@@ -45,15 +53,20 @@ pub(super) fn put_design<K: Keeper>(
 }
 
 /// The digest of a design's bundle, and its summary.
-pub(super) fn get_design<K: Keeper>(
+pub(super) fn get_design<R, D, S: SeatAt<R, D>>(
+    rt: &R,
     alloc: Global,
-    book: &Book<K>,
+    desk: &D,
+    seat: &mut S,
     name: &[u8],
 ) -> Result<Response, NoMemory>
-    requires { is_tag name.now ≡ true }
-    ensures { IfOk result (λ r. r ≡ response_of (design_get book.now.deeds name.now)) }
+    requires tag { is_tag name.now ≡ true }
+    requires belongs { S.belongs seat.old desk.now }
+    ensures stays { S.belongs seat.new desk.now }
+    ensures did { Did [] 0 (S.facts seat.old desk.now) (S.facts seat.new desk.now) }
+    ensures made { IfOk result (λ r. r ≡ response_of (design_get (S.facts seat.new desk.now).seen name.now)) }
 {
-    let design = match book.look_design(name) {
+    let design = match seat.look_design(rt, desk, name) {
         Ok(design) => design,
         Err(fault) => return refused_look(fault),
     };
@@ -64,16 +77,21 @@ pub(super) fn get_design<K: Keeper>(
 }
 
 /// The log that a fault of the design predicts.
-pub(super) fn get_fails<K: Keeper>(
+pub(super) fn get_fails<R, D, S: SeatAt<R, D>>(
+    rt: &R,
     alloc: Global,
-    book: &Book<K>,
+    desk: &D,
+    seat: &mut S,
     name: &[u8],
     fault: u32,
 ) -> Result<Response, NoMemory>
-    requires { is_tag name.now ≡ true }
-    ensures { IfOk result (λ r. r ≡ response_of (fails_get book.now.deeds predicted name.now fault)) }
+    requires tag { is_tag name.now ≡ true }
+    requires belongs { S.belongs seat.old desk.now }
+    ensures stays { S.belongs seat.new desk.now }
+    ensures did { Did [] 0 (S.facts seat.old desk.now) (S.facts seat.new desk.now) }
+    ensures made { IfOk result (λ r. r ≡ response_of (fails_get (S.facts seat.new desk.now).seen predicted name.now fault)) }
 {
-    let design = match book.look_design(name) {
+    let design = match seat.look_design(rt, desk, name) {
         Ok(design) => design,
         Err(fault) => return refused_look(fault),
     };

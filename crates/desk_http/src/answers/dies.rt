@@ -1,46 +1,58 @@
 //! Requests on the logs and reports of dies.
-ghost use Rattle.std.specs.Prelude.{◌≡◌, true, IfOk};
+ghost use Rattle.std.specs.Prelude.{◌≡◌, [], List, true, IfOk};
 ghost use Rattle.scan_model.specs.Words.{is_tag};
+ghost use Rattle.report_cache.specs.Truth.{IsTrueFor};
 ghost use Rattle.desk_http.specs.RouteAnswers.{log_post, report_get, page_get};
-ghost use Rattle.desk_http.specs.Answering.{Answered, response_of};
+ghost use Rattle.desk_outside.specs.declared.deed.Deed.{Deed};
+ghost use Rattle.desk_http.specs.Seats.{IsPrefix, Did};
+ghost use Rattle.desk_http.specs.Answering.{AnsweredBy, response_of};
 
-use crate::bodies::{TextKind, log_body, unknown_line_body};
-use crate::response::{Body, Response, Unanswered, refused_look, refused_put};
-use crate::status::Status;
-use book::{Book, Put, log_of, make_report};
-use desk_outside::Keeper;
+use crate::reply::bodies::{TextKind, log_body, unknown_line_body};
+use crate::reply::response::{Body, Response, Unanswered, refused_look, refused_put};
+use crate::reply::status::Status;
+use crate::sessions::seat::SeatAt;
+use book::{Put, log_of};
+use desk_outside::Gate;
+use report_cache::ReportCache;
 use scan_model::{Name, NoMemory};
 use std::alloc::Global;
 use std::sync::Arc;
+use std::thread::Threads;
 use text_parts::ReadFault;
 
 /// A log of a die is posted.
-pub(super) fn post_log<K: Keeper>(
+pub(super) fn post_log<R, D, S: SeatAt<R, D>, G: Gate>(
+    rt: &R,
     alloc: Global,
-    book: &mut Book<K>,
-    by: u32,
+    desk: &D,
+    seat: &mut S,
+    gate: &mut G,
     design: &[u8],
     die: &[u8],
     text: &[u8],
 ) -> Result<Response, Unanswered>
-    requires { is_tag die.now ≡ true }
-    ensures { Answered (log_post book.old.limit book.old.deeds design.now die.now text.now) by result book.old book.new }
+    requires tag { is_tag die.now ≡ true }
+    requires belongs { S.belongs seat.old desk.now }
+    ensures stays { S.belongs seat.new desk.now }
+    ensures answered { let s = S.facts seat.old desk.now in
+        AnsweredBy (λ deeds. log_post s.limit deeds design.now die.now text.now) result s (S.facts seat.new desk.now) }
 {
-    // Each answer keeps what the book says of itself.
-    let _deeds = book.deeds();
-    let design = match book.look_design(design) {
+    let design = match seat.look_design(rt, desk, design) {
         Ok(design) => design,
         Err(fault) => return Ok(refused_look(fault)?),
     };
-    // The log stands in the book by what its design says of itself.
+    // The log stands at the deeds by what its design says of itself.
     let _name = design.name();
     let log = match log_of(alloc, &design, die, text) {
         Ok(log) => log,
         Err(ReadFault::Text(fault)) => return Ok(Response::unprocessable(TextKind::Log, fault)),
         Err(ReadFault::NoMemory) => return Err(Unanswered::NoMemory),
     };
-    let log = Arc::new(alloc, log).map_err(|_| Unanswered::NoMemory)?;
-    match book.put_log(by, &log) {
+    let Ok(log) = Arc::new(alloc, log) else {
+        return Err(Unanswered::NoMemory);
+    };
+    gate.pass();
+    match seat.put_log(rt, desk, &log) {
         Ok(Put::Created { number }) => Ok(Response::short(Status::Created, log_body(number))),
         Ok(Put::Same { number }) => Ok(Response::short(Status::Ok, log_body(number))),
         Err(fault) => refused_put(fault),
@@ -48,42 +60,56 @@ pub(super) fn post_log<K: Keeper>(
 }
 
 /// The report of a die at a revision, or at its last.
-pub(super) fn get_report<R, K: Keeper>(
+pub(super) fn get_report<R: Threads + Sync, D, S: SeatAt<R, D>>(
     rt: &R,
     alloc: Global,
-    book: &Book<K>,
+    desk: &D,
+    seat: &mut S,
+    cache: &mut ReportCache,
     design: &[u8],
     die: &[u8],
     revision: Option<u64>,
 ) -> Result<Response, NoMemory>
-    ensures { IfOk result (λ r. r ≡ response_of (report_get book.now.deeds design.now die.now revision)) }
+    requires belongs { S.belongs seat.old desk.now }
+    requires cache { IsTrueFor cache.old (S.facts seat.old desk.now).seen }
+    ensures stays { S.belongs seat.new desk.now }
+    ensures cache { (later : List Deed) → IsPrefix (S.facts seat.new desk.now).seen later → IsTrueFor cache.old later → IsTrueFor cache.new later }
+    ensures did { Did [] 0 (S.facts seat.old desk.now) (S.facts seat.new desk.now) }
+    ensures made { IfOk result (λ r. r ≡ response_of (report_get (S.facts seat.new desk.now).seen design.now die.now revision)) }
 {
-    let view = match book.look_die(design, die, revision) {
+    let view = match seat.look_die(rt, desk, design, die, revision) {
         Ok(view) => view,
         Err(fault) => return refused_look(fault),
     };
-    let report = make_report(rt, alloc, &view)?;
+    let report = cache.report(rt, alloc, &view)?;
     Ok(Response::plain(Status::Ok, Body::report(report)))
 }
 
 /// A page of such a report, from a line on.
-pub(super) fn get_page<R, K: Keeper>(
+pub(super) fn get_page<R: Threads + Sync, D, S: SeatAt<R, D>>(
     rt: &R,
     alloc: Global,
-    book: &Book<K>,
+    desk: &D,
+    seat: &mut S,
+    cache: &mut ReportCache,
     design: &[u8],
     die: &[u8],
     revision: u64,
     line: u64,
 ) -> Result<Response, NoMemory>
-    ensures { IfOk result (λ r. r ≡ response_of (page_get book.now.deeds design.now die.now revision line)) }
+    requires belongs { S.belongs seat.old desk.now }
+    requires cache { IsTrueFor cache.old (S.facts seat.old desk.now).seen }
+    ensures stays { S.belongs seat.new desk.now }
+    ensures cache { (later : List Deed) → IsPrefix (S.facts seat.new desk.now).seen later → IsTrueFor cache.old later → IsTrueFor cache.new later }
+    ensures did { Did [] 0 (S.facts seat.old desk.now) (S.facts seat.new desk.now) }
+    ensures made { IfOk result (λ r. r ≡ response_of (page_get (S.facts seat.new desk.now).seen design.now die.now revision line)) }
 {
-    let view = match book.look_die(design, die, Some(revision)) {
+    let view = match seat.look_die(rt, desk, design, die, Some(revision)) {
         Ok(view) => view,
         Err(fault) => return refused_look(fault),
     };
-    let report = make_report(rt, alloc, &view)?;
-    match report.page(line) {
+    let report = cache.report(rt, alloc, &view)?;
+    match report.report().page(line) {
         Ok(page) => {
             let text = Name::copy_of(alloc, page)?;
             Ok(Response::plain(Status::Ok, Body::text(text)))

@@ -1,36 +1,47 @@
 //! Requests on sign-offs.
-ghost use Rattle.std.specs.Prelude.{◌≡◌, true, IfOk, Option, Some};
+ghost use Rattle.std.specs.Prelude.{◌≡◌, [], true, List, IfOk, Option, Some};
+ghost use Rattle.desk_outside.specs.declared.deed.Deed.{Deed};
+ghost use Rattle.report_cache.specs.Truth.{IsTrueFor};
 ghost use Rattle.scan_model.specs.Words.{is_tag};
-ghost use Rattle.desk_http.specs.declared.signoff.SignBody.{SignBody};
+ghost use Rattle.desk_http.specs.declared.answers.signoff.SignBody.{SignBody};
 ghost use Rattle.desk_http.specs.RouteAnswers.{sign_post, sign_get};
-ghost use Rattle.desk_http.specs.Answering.{Answered, ReadsSign, response_of};
+ghost use Rattle.desk_http.specs.Seats.{IsPrefix, Did};
+ghost use Rattle.desk_http.specs.Answering.{Answered, AnsweredBy, ReadsSign, response_of};
 
-use crate::bodies::{TextKind, sign_off_body, sign_off_line};
-use crate::response::{Response, Unanswered, refused_look, refused_put};
-use crate::signoff::{BodyFault, SignBody, sign_body};
-use crate::status::Status;
-use book::{Book, Put, check_report};
-use desk_outside::Keeper;
+use crate::answers::signoff::{BodyFault, SignBody, sign_body};
+use crate::reply::bodies::{TextKind, sign_off_body, sign_off_line};
+use crate::reply::response::{Response, Unanswered, refused_look, refused_put};
+use crate::reply::status::Status;
+use crate::sessions::seat::SeatAt;
+use book::{Checked, Put};
+use desk_outside::Gate;
+use report_cache::ReportCache;
 use scan_model::NoMemory;
 use std::alloc::Global;
+use std::thread::Threads;
 use text_parts::TextFault;
 
 /// The report of a die is signed.
-pub(super) fn post_sign<R, K: Keeper>(
+pub(super) fn post_sign<R: Threads + Sync, D, S: SeatAt<R, D>, G: Gate>(
     rt: &R,
     alloc: Global,
-    book: &mut Book<K>,
-    by: u32,
+    desk: &D,
+    seat: &mut S,
+    cache: &mut ReportCache,
+    gate: &mut G,
     design: &[u8],
     die: &[u8],
     body: &[u8],
 ) -> Result<Response, Unanswered>
-    ensures { (sign : Option SignBody) × ReadsSign body.now sign × Answered (sign_post book.old.limit book.old.deeds design.now die.now sign) by result book.old book.new }
+    requires belongs { S.belongs seat.old desk.now }
+    requires cache { IsTrueFor cache.old (S.facts seat.old desk.now).seen }
+    ensures stays { S.belongs seat.new desk.now }
+    ensures cache { (later : List Deed) → IsPrefix (S.facts seat.new desk.now).seen later → IsTrueFor cache.old later → IsTrueFor cache.new later }
+    ensures answered { let s = S.facts seat.old desk.now in
+        Answered (λ deeds answer. (sign : Option SignBody) × ReadsSign body.now sign × (answer ≡ sign_post s.limit deeds design.now die.now sign)) result s (S.facts seat.new desk.now) }
 {
-    // Each answer keeps what the book says of itself.
-    let _deeds = book.deeds();
     match sign_body(alloc, body) {
-        Ok(sign) => put_sign(rt, alloc, book, by, design, die, &sign),
+        Ok(sign) => put_sign(rt, alloc, desk, seat, cache, gate, design, die, &sign),
         Err(BodyFault::NotASign) => {
             let fault = TextFault { line: 1, rule: 91 };
             Ok(Response::unprocessable(TextKind::SignOff, fault))
@@ -40,28 +51,35 @@ pub(super) fn post_sign<R, K: Keeper>(
 }
 
 // The same with a body that was read.
-fn put_sign<R, K: Keeper>(
+fn put_sign<R: Threads + Sync, D, S: SeatAt<R, D>, G: Gate>(
     rt: &R,
     alloc: Global,
-    book: &mut Book<K>,
-    by: u32,
+    desk: &D,
+    seat: &mut S,
+    cache: &mut ReportCache,
+    gate: &mut G,
     design: &[u8],
     die: &[u8],
     sign: &SignBody,
 ) -> Result<Response, Unanswered>
-    requires { is_tag sign.now.signer ≡ true }
-    ensures { Answered (sign_post book.old.limit book.old.deeds design.now die.now (Some sign.now)) by result book.old book.new }
+    requires tag { is_tag sign.now.signer ≡ true }
+    requires belongs { S.belongs seat.old desk.now }
+    requires cache { IsTrueFor cache.old (S.facts seat.old desk.now).seen }
+    ensures stays { S.belongs seat.new desk.now }
+    ensures cache { (later : List Deed) → IsPrefix (S.facts seat.new desk.now).seen later → IsTrueFor cache.old later → IsTrueFor cache.new later }
+    ensures answered { let s = S.facts seat.old desk.now in
+        AnsweredBy (λ deeds. sign_post s.limit deeds design.now die.now (Some sign.now)) result s (S.facts seat.new desk.now) }
 {
-    // Each answer keeps what the book says of itself.
-    let _deeds = book.deeds();
-    let view = match book.look_die(design, die, Some(sign.revision)) {
+    let view = match seat.look_die(rt, desk, design, die, Some(sign.revision)) {
         Ok(view) => view,
         Err(fault) => return Ok(refused_look(fault)?),
     };
     // The report's digest is the die's by what the view says of itself.
     let _revision = view.revision();
-    let checked = check_report(rt, alloc, &view)?;
-    match book.sign(by, &checked, &sign.signer, &sign.digest) {
+    let report = cache.report(rt, alloc, &view)?;
+    let checked = Checked::by_digest(view, *report.digest());
+    gate.pass();
+    match seat.sign(rt, desk, &checked, &sign.signer, &sign.digest) {
         Ok(Put::Created { number }) => Ok(Response::short(Status::Created, sign_off_line(number))),
         Ok(Put::Same { number }) => Ok(Response::short(Status::Ok, sign_off_line(number))),
         Err(fault) => refused_put(fault),
@@ -69,20 +87,25 @@ fn put_sign<R, K: Keeper>(
 }
 
 /// A sign-off of a die, by its number from 1.
-pub(super) fn get_sign<K: Keeper>(
-    book: &Book<K>,
+pub(super) fn get_sign<R, D, S: SeatAt<R, D>>(
+    rt: &R,
+    desk: &D,
+    seat: &mut S,
     design: &[u8],
     die: &[u8],
     number: u64,
 ) -> Result<Response, NoMemory>
-    ensures { IfOk result (λ r. r ≡ response_of (sign_get book.now.deeds design.now die.now number)) }
+    requires { S.belongs seat.old desk.now }
+    ensures stays { S.belongs seat.new desk.now }
+    ensures did { Did [] 0 (S.facts seat.old desk.now) (S.facts seat.new desk.now) }
+    ensures made { IfOk result (λ r. r ≡ response_of (sign_get (S.facts seat.new desk.now).seen design.now die.now number)) }
 {
-    // The signers are tags, since the deeds of a book are legal.
-    let _deeds = book.deeds();
-    let sign = match book.look_sign(design, die, number) {
+    let sign = match seat.look_sign(rt, desk, design, die, number) {
         Ok(sign) => sign,
         Err(fault) => return refused_look(fault),
     };
+    // The signers are tags, since the deeds are legal.
+    let _mark = seat.mark(desk);
     let body = sign_off_body(number, sign.revision, sign.signer.as_slice(), &sign.digest);
     Ok(Response::short(Status::Ok, body))
 }

@@ -1,0 +1,9 @@
+-- Kept reports that are true for what a seat had seen are true for what it sees later.
+use Rattle.std.proofs.Common.{List, sym, subst}
+use Rattle.desk_outside.specs.declared.deed.Deed.{Deed}
+use Rattle.report_cache.specs.Truth.{KeptReport, IsTrueFor}
+use Rattle.report_cache.proofs.Longer.{true_longer}
+use Rattle.desk_http.specs.Seats.{IsPrefix}
+
+pub true_after : (cache : List KeptReport) (deeds later : List Deed) → IsPrefix deeds later → IsTrueFor cache deeds → IsTrueFor cache later
+true_after cache deeds later p is = subst (IsTrueFor cache) (sym p.1) (true_longer cache deeds p.0 is)

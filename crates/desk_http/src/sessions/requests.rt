@@ -1,0 +1,463 @@
+//! A session: the requests of a connection, one after another, each with its reply.
+ghost use Rattle.std.specs.Prelude.{◌≡◌, ◌+◌, ◌<◌, ◌≤◌, ◌==◌, ◌||◌, ◌++◌, [], ℕ, List, Bool, true, false, length, drop, slice_range, Option, Some, None, OnOk, OnErr, IfOk, vec_len};
+ghost use Rattle.std.specs.Io.KnownBytes.{prepend_known, append_known};
+ghost use Rattle.std.specs.Str.{IsAscii};
+ghost use Rattle.book.specs.Legal.{is_legal};
+ghost use Rattle.desk_outside.specs.declared.deed.Deed.{Deed};
+ghost use Rattle.desk_outside.specs.Faults.{Rose};
+ghost use Rattle.desk_outside.specs.Bytes.{AddsPart};
+ghost use Rattle.report_cache.specs.Truth.{IsTrueFor};
+ghost use Rattle.desk_http.specs.declared.sessions.requests.SessionEnd.{SessionEnd};
+ghost use Rattle.desk_http.specs.declared.reply.status.Status.TheVariants as status;
+ghost use Rattle.desk_http.specs.Bodies.{refusal_body, no_memory_body};
+ghost use Rattle.desk_http.specs.Statuses.{refusal_status};
+ghost use Rattle.desk_http.specs.Replies.{reply_text};
+ghost use Rattle.desk_http.specs.Answering.{IsAnswer};
+ghost use Rattle.desk_http.specs.Seats.{IsPrefix};
+ghost use Rattle.desk_http.specs.Sessions.{IsSession, Rise, head_refusal, interim_if};
+ghost use Rattle.desk_http.specs.Turns.{Replied, Responds, Takes};
+ghost use Rattle.desk_http.specs.Sees.{Sees, IsHeadIn};
+ghost use Rattle.desk_http.specs.Items.{item_limit};
+ghost use Rattle.httparse.specs.Spans.{span_bytes};
+ghost use Rattle.desk_http.specs.declared.head.HeadSeen.TheVariants as seen;
+
+use crate::answers::answer;
+use crate::head::method::Method;
+use crate::head::{Head, HeadFault};
+use crate::incoming::inbox::Inbox;
+use crate::incoming::{BodyRead, HeadRead, read_head, read_to};
+use crate::reply::bodies::Refusal;
+use crate::reply::response::{Response, Unanswered};
+use crate::reply::{Reply, interim, keeper_fault, no_memory};
+use crate::routes::Routes;
+use crate::sessions::marks::{ITEM_LIMIT, Marks};
+use crate::sessions::seat::SeatAt;
+use desk_outside::{Failed, Gate, Link, send_all};
+use report_cache::ReportCache;
+use scan_model::{NoMemory, Rows};
+use std::alloc::Global;
+use std::thread::Threads;
+
+// The most bytes that one read takes.
+const PIECE: usize = 65_536;
+
+/// How a session ended.
+#[derive(Clone, Copy, Debug, PartialEq, Eq)]
+pub enum SessionEnd {
+    /// A reply that closes was sent.
+    Closed,
+    /// The input ended between messages.
+    Ended,
+    /// The input ended within a message.
+    Cut,
+    /// The connection failed, and its count of faults rose.
+    LinkFault,
+    /// There was no memory to begin with: nothing was read or sent.
+    NoMemory,
+}
+
+/// How a session ended, with a mark for each final reply: the number of deeds at which it was given.
+#[derive(Debug, Drop)]
+pub struct SessionNote {
+    pub end: SessionEnd,
+    pub marks: Rows<u64>,
+}
+
+// How a turn ended: the mark of its final reply, where its sending began, and how the session ended, if it did.
+#[derive(Clone, Copy, Debug, PartialEq, Eq)]
+struct TurnEnd {
+    mark: Option<u64>,
+    end: Option<SessionEnd>,
+}
+
+impl TurnEnd {
+    // With no final reply.
+    fn silent(end: SessionEnd) -> TurnEnd
+        ensures mark { result.mark ≡ None }
+        ensures end { result.end ≡ Some end }
+    {
+        TurnEnd {
+            mark: None,
+            end: Some(end),
+        }
+    }
+}
+
+// Sends a final reply, of which two parts are given.
+fn send_reply<L: Link>(link: &mut L, head: &[u8], body: &[u8], closes: bool) -> Option<SessionEnd>
+    ensures sent { Replied result closes (head.now ++ body.now) (L.sent link.old) (L.sent link.new) }
+    ensures left { L.left link.new ≡ L.left link.old }
+    ensures later { L.faults link.old ≤ L.faults link.new }
+    ensures failed { result ≡ Some SessionEnd.LinkFault → Rose (L.faults link.old) (L.faults link.new) }
+{
+    match send_all(link, head) {
+        Ok(()) => {}
+        Err(Failed) => return Some(SessionEnd::LinkFault),
+    }
+    match send_all(link, body) {
+        Ok(()) => if closes {
+            Some(SessionEnd::Closed)
+        } else {
+            None
+        },
+        Err(Failed) => Some(SessionEnd::LinkFault),
+    }
+}
+
+// Sends a final reply that is given whole.
+fn send_fixed<L: Link>(link: &mut L, reply: &[u8], closes: bool) -> Option<SessionEnd>
+    ensures sent { Replied result closes reply.now (L.sent link.old) (L.sent link.new) }
+    ensures left { L.left link.new ≡ L.left link.old }
+    ensures later { L.faults link.old ≤ L.faults link.new }
+    ensures failed { result ≡ Some SessionEnd.LinkFault → Rose (L.faults link.old) (L.faults link.new) }
+{
+    send_reply(link, reply, b"", closes)
+}
+
+// Sends a response.
+fn send_response<L: Link>(link: &mut L, response: &Response, closes: bool) -> Option<SessionEnd>
+    ensures sent { Replied result closes (reply_text response.now.status response.now.methods closes response.now.body) (L.sent link.old) (L.sent link.new) }
+    ensures left { L.left link.new ≡ L.left link.old }
+    ensures later { L.faults link.old ≤ L.faults link.new }
+    ensures failed { result ≡ Some SessionEnd.LinkFault → Rose (L.faults link.old) (L.faults link.new) }
+{
+    let body = response.body.as_slice();
+    let reply = Reply {
+        status: response.status,
+        methods: response.methods,
+        closes,
+        length: body.len(),
+    };
+    send_reply(link, reply.head().as_slice(), body, closes)
+}
+
+// Sends that memory ran out, which closes.
+fn send_no_memory<L: Link>(link: &mut L) -> Option<SessionEnd>
+    ensures sent { Replied result true (reply_text status.NoMemory None true no_memory_body) (L.sent link.old) (L.sent link.new) }
+    ensures left { L.left link.new ≡ L.left link.old }
+    ensures later { L.faults link.old ≤ L.faults link.new }
+    ensures failed { result ≡ Some SessionEnd.LinkFault → Rose (L.faults link.old) (L.faults link.new) }
+{
+    send_fixed(link, no_memory(), true)
+}
+
+// Sends the refusal of a head, which closes.
+fn send_refusal<L: Link>(link: &mut L, fault: HeadFault) -> Option<SessionEnd>
+    ensures sent { let refusal = head_refusal fault in
+        Replied result true (reply_text (refusal_status refusal) None true (refusal_body refusal)) (L.sent link.old) (L.sent link.new) }
+    ensures left { L.left link.new ≡ L.left link.old }
+    ensures later { L.faults link.old ≤ L.faults link.new }
+    ensures failed { result ≡ Some SessionEnd.LinkFault → Rose (L.faults link.old) (L.faults link.new) }
+{
+    send_response(link, &Response::refused(refusal_of(fault)), true)
+}
+
+fn refusal_of(fault: HeadFault) -> Refusal
+    ensures { result ≡ head_refusal fault }
+{
+    match fault {
+        HeadFault::BadRequest => Refusal::BadRequest,
+        HeadFault::LengthRequired => Refusal::LengthRequired,
+        HeadFault::TooLarge => Refusal::TooLarge,
+        HeadFault::HeadTooLarge => Refusal::HeadTooLarge,
+        HeadFault::TransferEncoding => Refusal::TransferEncoding,
+    }
+}
+
+// Answers a request, and sends its final reply.
+fn respond<R: Threads + Sync, D, S: SeatAt<R, D>, G: Gate, L: Link>(
+    rt: &R,
+    alloc: Global,
+    routes: &Routes,
+    desk: &D,
+    seat: &mut S,
+    cache: &mut ReportCache,
+    gate: &mut G,
+    link: &mut L,
+    target: &str,
+    method: Method,
+    body: &[u8],
+    closes: bool,
+) -> TurnEnd
+    requires ascii { IsAscii target.now }
+    requires belongs { S.belongs seat.old desk.now }
+    requires cache { IsTrueFor cache.old (S.facts seat.old desk.now).seen }
+    ensures stays { S.belongs seat.new desk.now }
+    ensures cache { (later : List Deed) → IsPrefix (S.facts seat.new desk.now).seen later → IsTrueFor cache.old later → IsTrueFor cache.new later }
+    ensures responds { let s = S.facts seat.old desk.now in
+        Responds (λ deeds answer. IsAnswer s.limit deeds target.now method body.now answer) closes result.mark result.end s (S.facts seat.new desk.now) (L.sent link.old) (L.sent link.new) }
+    ensures left { L.left link.new ≡ L.left link.old }
+    ensures later { L.faults link.old ≤ L.faults link.new }
+    ensures failed { result.end ≡ Some SessionEnd.LinkFault → Rose (L.faults link.old) (L.faults link.new) }
+{
+    let came = answer(
+        rt, alloc, routes, desk, seat, cache, gate, target, method, body,
+    );
+    let mark = Some(seat.mark(desk));
+    let end = match came {
+        Ok(response) => send_response(link, &response, closes),
+        Err(Unanswered::KeeperFault) => send_fixed(link, keeper_fault(closes), closes),
+        Err(Unanswered::NoMemory) => send_no_memory(link),
+    };
+    TurnEnd { mark, end }
+}
+
+// Sends the interim reply where it is asked for.
+fn invite<L: Link>(link: &mut L, awaits: bool) -> Result<(), Failed>
+    ensures all { OnOk result (L.sent link.new ≡ append_known (L.sent link.old) (interim_if awaits)) }
+    ensures part { OnErr result ((awaits ≡ true) × AddsPart (L.sent link.old) (L.sent link.new) (interim_if awaits)) }
+    ensures left { L.left link.new ≡ L.left link.old }
+    ensures later { L.faults link.old ≤ L.faults link.new }
+    ensures failed { OnErr result (Rose (L.faults link.old) (L.faults link.new)) }
+{
+    if awaits {
+        return send_all(link, interim());
+    }
+    Ok(())
+}
+
+// Answers the request that came whole at the front of the inbox, and takes it off.
+fn respond_to_front<R: Threads + Sync, D, S: SeatAt<R, D>, G: Gate, L: Link>(
+    rt: &R,
+    alloc: Global,
+    routes: &Routes,
+    desk: &D,
+    seat: &mut S,
+    cache: &mut ReportCache,
+    gate: &mut G,
+    link: &mut L,
+    inbox: &mut Inbox,
+    head: Head,
+    closes: bool,
+) -> TurnEnd
+    requires head { IsHeadIn inbox.old head }
+    requires whole { head.length + head.body ≤ length inbox.old }
+    requires belongs { S.belongs seat.old desk.now }
+    requires cache { IsTrueFor cache.old (S.facts seat.old desk.now).seen }
+    ensures stays { S.belongs seat.new desk.now }
+    ensures cache { (later : List Deed) → IsPrefix (S.facts seat.new desk.now).seen later → IsTrueFor cache.old later → IsTrueFor cache.new later }
+    ensures responds { let s = S.facts seat.old desk.now in
+        Responds (λ deeds answer. IsAnswer s.limit deeds (span_bytes inbox.old head.target) head.method (slice_range inbox.old head.length (head.length + head.body)) answer)
+        closes result.mark result.end s (S.facts seat.new desk.now) (L.sent link.old) (L.sent link.new) }
+    ensures used { inbox.new ≡ drop (head.length + head.body) inbox.old }
+    ensures left { L.left link.new ≡ L.left link.old }
+    ensures later { L.faults link.old ≤ L.faults link.new }
+    ensures failed { result.end ≡ Some SessionEnd.LinkFault → Rose (L.faults link.old) (L.faults link.new) }
+{
+    let bytes = inbox.bytes();
+    let Ok(target) = str::from_utf8(&bytes[head.target.start..head.target.end]) else {
+        unreachable!()
+    };
+    let body = &bytes[head.length..head.length + head.body];
+    let turn = respond(
+        rt,
+        alloc,
+        routes,
+        desk,
+        seat,
+        cache,
+        gate,
+        link,
+        target,
+        head.method,
+        body,
+        closes,
+    );
+    inbox.use_up(head.length + head.body);
+    turn
+}
+
+// Whether the reply to a request behind so many items closes.
+fn closes_behind(before: usize, asked: bool) -> bool
+    requires { before < item_limit }
+    ensures { result ≡ asked || (before + 1 == item_limit) }
+{
+    asked || before + 1 == ITEM_LIMIT
+}
+
+// Reads the body of a request whose head is at the front of the inbox, and answers it.
+fn take_request<R: Threads + Sync, D, S: SeatAt<R, D>, G: Gate, L: Link>(
+    rt: &R,
+    alloc: Global,
+    routes: &Routes,
+    desk: &D,
+    seat: &mut S,
+    cache: &mut ReportCache,
+    gate: &mut G,
+    link: &mut L,
+    inbox: &mut Inbox,
+    piece: &mut [u8],
+    head: Head,
+    before: usize,
+) -> TurnEnd
+    requires head { Sees inbox.old (seen.Whole head) }
+    requires piece { 0 < length piece.old }
+    requires before { before < item_limit }
+    requires belongs { S.belongs seat.old desk.now }
+    requires cache { IsTrueFor cache.old (S.facts seat.old desk.now).seen }
+    ensures stays { S.belongs seat.new desk.now }
+    ensures cache { (later : List Deed) → IsPrefix (S.facts seat.new desk.now).seen later → IsTrueFor cache.old later → IsTrueFor cache.new later }
+    ensures takes { Takes before result.mark result.end (S.facts seat.old desk.now) (S.facts seat.new desk.now)
+        (prepend_known inbox.old (L.left link.old)) (prepend_known inbox.new (L.left link.new)) (L.sent link.old) (L.sent link.new) }
+    ensures later { L.faults link.old ≤ L.faults link.new }
+    ensures failed { result.end ≡ Some SessionEnd.LinkFault → Rose (L.faults link.old) (L.faults link.new) }
+{
+    match invite(link, head.awaits) {
+        Ok(()) => {}
+        Err(Failed) => return TurnEnd::silent(SessionEnd::LinkFault),
+    }
+    // The bytes that wait are fewer than 2^63.
+    let _waiting = inbox.bytes();
+    match read_to(inbox, link, piece, head.length + head.body) {
+        BodyRead::Whole => {}
+        BodyRead::End => return TurnEnd::silent(SessionEnd::Cut),
+        BodyRead::LinkFault => return TurnEnd::silent(SessionEnd::LinkFault),
+        BodyRead::NoMemory => {
+            let mark = Some(seat.mark(desk));
+            return TurnEnd {
+                mark,
+                end: send_no_memory(link),
+            };
+        }
+    }
+    let closes = closes_behind(before, head.closes);
+    respond_to_front(
+        rt, alloc, routes, desk, seat, cache, gate, link, inbox, head, closes,
+    )
+}
+
+// Reads what comes next, and answers it.
+fn take_turn<R: Threads + Sync, D, S: SeatAt<R, D>, G: Gate, L: Link>(
+    rt: &R,
+    alloc: Global,
+    routes: &Routes,
+    desk: &D,
+    seat: &mut S,
+    cache: &mut ReportCache,
+    gate: &mut G,
+    link: &mut L,
+    inbox: &mut Inbox,
+    piece: &mut [u8],
+    before: usize,
+) -> TurnEnd
+    requires piece { 0 < length piece.old }
+    requires before { before < item_limit }
+    requires belongs { S.belongs seat.old desk.now }
+    requires cache { IsTrueFor cache.old (S.facts seat.old desk.now).seen }
+    ensures stays { S.belongs seat.new desk.now }
+    ensures cache { (later : List Deed) → IsPrefix (S.facts seat.new desk.now).seen later → IsTrueFor cache.old later → IsTrueFor cache.new later }
+    ensures takes { Takes before result.mark result.end (S.facts seat.old desk.now) (S.facts seat.new desk.now)
+        (prepend_known inbox.old (L.left link.old)) (prepend_known inbox.new (L.left link.new)) (L.sent link.old) (L.sent link.new) }
+    ensures later { L.faults link.old ≤ L.faults link.new }
+    ensures failed { result.end ≡ Some SessionEnd.LinkFault → Rose (L.faults link.old) (L.faults link.new) }
+{
+    match read_head(inbox, link, piece) {
+        HeadRead::Refused(fault) => {
+            let mark = Some(seat.mark(desk));
+            TurnEnd {
+                mark,
+                end: send_refusal(link, fault),
+            }
+        }
+        HeadRead::Whole(head) => {
+            take_request(
+                rt, alloc, routes, desk, seat, cache, gate, link, inbox, piece, head, before,
+            )
+        }
+        HeadRead::End if inbox.bytes().is_empty() => TurnEnd::silent(SessionEnd::Ended),
+        HeadRead::End => TurnEnd::silent(SessionEnd::Cut),
+        HeadRead::LinkFault => TurnEnd::silent(SessionEnd::LinkFault),
+        HeadRead::NoMemory => {
+            let mark = Some(seat.mark(desk));
+            TurnEnd {
+                mark,
+                end: send_no_memory(link),
+            }
+        }
+    }
+}
+
+// What a session works with: the routes, what came and isn't used yet, a piece that comes, and the marks.
+#[derive(Drop)]
+struct Room {
+    routes: Routes,
+    inbox: Inbox,
+    piece: Vec<u8>,
+    marks: Marks,
+}
+
+impl Room {
+    fn make(alloc: Global) -> Result<Room, NoMemory>
+        ensures inbox { IfOk result (λ room. room.inbox ≡ []) }
+        ensures piece { IfOk result (λ room. vec_len room.piece ≡ 65536) }
+        ensures marks { IfOk result (λ room. room.marks ≡ []) }
+    {
+        Ok(Room {
+            routes: Routes::make(alloc)?,
+            inbox: Inbox::make(alloc)?,
+            piece: vec![in alloc; 0; PIECE]?,
+            marks: Marks::make(alloc)?,
+        })
+    }
+}
+
+/// Serves the requests of a connection over a seat, until a reply closes, the input ends or the connection fails.
+pub fn session_at<R: Threads + Sync, D, S: SeatAt<R, D>, L: Link, G: Gate>(
+    rt: &R,
+    alloc: Global,
+    desk: &D,
+    seat: &mut S,
+    cache: &mut ReportCache,
+    link: &mut L,
+    gate: &mut G,
+) -> SessionNote
+    requires belongs { S.belongs seat.old desk.now }
+    requires cache { IsTrueFor cache.old (S.facts seat.old desk.now).seen }
+    ensures stays { S.belongs seat.new desk.now }
+    ensures cache { IsTrueFor cache.new (S.facts seat.new desk.now).seen }
+    ensures legal { is_legal (S.facts seat.new desk.now).limit (S.facts seat.new desk.now).seen ≡ true }
+    ensures session { IsSession result.end result.marks (S.facts seat.old desk.now) (S.facts seat.new desk.now) (L.left link.old) (L.sent link.old) (L.sent link.new) }
+    ensures marks { Rise (length (S.facts seat.old desk.now).seen) result.marks (length (S.facts seat.new desk.now).seen) }
+    ensures nothing { result.end ≡ SessionEnd.NoMemory → (link.new ≡ link.old) × (seat.new ≡ seat.old) }
+    ensures later { L.faults link.old ≤ L.faults link.new }
+    ensures failed { result.end ≡ SessionEnd.LinkFault → Rose (L.faults link.old) (L.faults link.new) }
+{
+    // The deeds that it has seen are legal.
+    let _mark = seat.mark(desk);
+    let Ok(room) = Room::make(alloc) else {
+        return SessionNote {
+            end: SessionEnd::NoMemory,
+            marks: Rows::new(alloc),
+        };
+    };
+    let Room {
+        routes,
+        mut inbox,
+        mut piece,
+        mut marks,
+    } = room;
+    let mut before = 0;
+    loop {
+        let turn = take_turn(
+            rt,
+            alloc,
+            &routes,
+            desk,
+            seat,
+            cache,
+            gate,
+            link,
+            &mut inbox,
+            piece.as_mut_slice(),
+            before,
+        );
+        marks.add(turn.mark);
+        if let Some(end) = turn.end {
+            return SessionNote {
+                end,
+                marks: marks.into_rows(),
+            };
+        }
+        before += 1;
+    }
+}

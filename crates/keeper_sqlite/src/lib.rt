@@ -1,0 +1,13 @@
+//! Deeds in a database file: a keeper and a cabinet over `sqlite`. They meet their traits and tell nothing of what the file holds.
+#![tactic(auto)]
+
+mod cabinet;
+mod keeper;
+mod reading;
+mod sending;
+mod tables;
+mod writing;
+
+pub use cabinet::SqliteCabinet;
+pub use keeper::SqliteKeeper;
+pub use sending::keeper_is_sent;

@@ -1,0 +1,32 @@
+//! The tables of a store. The number of a deed, from 0, runs over the three together.
+use sqlite::{Alter, Connection, Error, params};
+
+const TABLES: &str = "CREATE TABLE IF NOT EXISTS designs (n INTEGER PRIMARY KEY, seat INTEGER NOT NULL, name BLOB NOT NULL, body BLOB NOT NULL);
+CREATE TABLE IF NOT EXISTS logs (n INTEGER PRIMARY KEY, seat INTEGER NOT NULL, design BLOB NOT NULL, die BLOB NOT NULL, body BLOB NOT NULL);
+CREATE TABLE IF NOT EXISTS signoffs (n INTEGER PRIMARY KEY, seat INTEGER NOT NULL, design BLOB NOT NULL, die BLOB NOT NULL, revision INTEGER NOT NULL, signer BLOB NOT NULL, digest BLOB NOT NULL)";
+
+/// Makes the tables that aren't there.
+pub fn make_tables<S: Alter>(conn: &mut Connection<S>) -> Result<(), Error> {
+    conn.execute_batch(TABLES)
+}
+
+// The greatest number of a table, by its query.
+fn greatest<S: Alter>(conn: &mut Connection<S>, query: &str) -> Result<Option<i64>, Error> {
+    let rows = conn.query_all(query, params![])?;
+    match rows.first() {
+        Some(row) => row.get::<Option<i64>>(0),
+        None => Ok(None),
+    }
+}
+
+/// The number that the next deed takes: one more than the greatest.
+pub fn next_number<S: Alter>(conn: &mut Connection<S>) -> Result<i64, Error> {
+    let designs = greatest(conn, "SELECT max(n) FROM designs")?;
+    let logs = greatest(conn, "SELECT max(n) FROM logs")?;
+    let signs = greatest(conn, "SELECT max(n) FROM signoffs")?;
+    Ok(designs
+        .unwrap_or(-1)
+        .max(logs.unwrap_or(-1))
+        .max(signs.unwrap_or(-1))
+        .saturating_add(1))
+}

@@ -1,0 +1,3 @@
+mod changed;
+mod deeds;
+mod kept;
