@@ -45,10 +45,11 @@ fn make_whole<R>(rt: &R, alloc: Global, view: &DieView) -> Result<Arc<WholeRepor
 }
 
 impl ReportCache {
-    /// A cache for so many reports, one at least.
+    /// A cache for so many reports, one at least. It keeps none, and so is true for each list of deeds.
     pub fn make(alloc: Global, entries: usize) -> Result<ReportCache, NoMemory>
         requires { 1 ≤ entries }
-        ensures { IfOk result (λ cache. cache ≡ []) }
+        ensures empty { IfOk result (λ cache. cache ≡ []) }
+        ensures fresh { IfOk result (λ cache. (deeds : List Deed) → IsTrueFor cache deeds) }
     {
         let Some(entries) = NonZeroUsize::new(entries) else {
             unreachable!()
