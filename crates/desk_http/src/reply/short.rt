@@ -32,7 +32,8 @@ impl Short {
         self.bytes.as_slice()
     }
 
-    pub(crate) fn new() -> Short
+    /// No bytes.
+    pub fn new() -> Short
         ensures { result ≡ [] }
     {
         Short {
@@ -40,8 +41,8 @@ impl Short {
         }
     }
 
-    // Adds bytes, for which there is room.
-    pub(crate) fn add(&mut self, part: &[u8])
+    /// Adds bytes, for which there is room.
+    pub fn add(&mut self, part: &[u8])
         requires { length self.old + length part.now ≤ 256 }
         ensures { self.new ≡ self.old ++ part.now }
     {
@@ -50,8 +51,8 @@ impl Short {
         };
     }
 
-    // Adds the digits of a number, which are 20 at most.
-    pub(crate) fn add_number(&mut self, number: u64)
+    /// Adds the decimal digits of a number, which are 20 at most.
+    pub fn add_number(&mut self, number: u64)
         requires { length self.old + 20 ≤ 256 }
         ensures digits { self.new ≡ self.old ++ decimal number }
         ensures grown { length self.new ≤ length self.old + 20 }
