@@ -35,7 +35,11 @@ impl Model for ReportCache {
 }
 
 // The report of a die, made anew.
-fn make_whole<R: Threads + Sync>(rt: &R, alloc: Global, view: &DieView) -> Result<Arc<WholeReport>, NoMemory>
+fn make_whole<R: Threads + Sync>(
+    rt: &R,
+    alloc: Global,
+    view: &DieView,
+) -> Result<Arc<WholeReport>, NoMemory>
     ensures { IfOk result (λ report. arc_value report ≡ view_lines view.now) }
 {
     let report = WholeReport::of(make_report(rt, alloc, view)?);
