@@ -40,7 +40,7 @@ wait_for_the_port() {
 }
 
 cd "$top/examples/day" || exit 1
-"$program" serve "$port" 1 13 "$work/store" >"$work/lines" &
+"$program" serve "$port" 1 15 "$work/store" >"$work/lines" &
 serving=$!
 wait_for_the_port
 ask put-design --upload-file pack.expected "$desk/designs/block"
@@ -63,6 +63,8 @@ ask post-signoff --data-binary "$sign" "$die/signoffs"
 ask get-signoff "$die/signoffs/1"
 # Two requests over one connection.
 ask get-twice "$die/signoffs/1" "$die/signoffs/1"
+ask get-design "$desk/designs/block"
+ask get-fails "$desk/designs/block/faults/211/fails"
 ask get-none "$desk/designs/none"
 ask delete-design --request DELETE "$desk/designs/block"
 wait "$serving" || {
