@@ -40,7 +40,7 @@ wait_for_the_port() {
 }
 
 cd "$top/examples/day" || exit 1
-"$program" serve "$port" 1 15 "$work/store" >"$work/lines" &
+timeout 120 "$program" serve "$port" 1 15 "$work/store" >"$work/lines" &
 serving=$!
 wait_for_the_port
 ask put-design --upload-file pack.expected "$desk/designs/block"
