@@ -84,4 +84,4 @@ home_is told left sent faults =
 
 -- what a seat did, and then did
 pub did_some_on : (a b c : SeatFacts) → DidSome a b → DidSome b c → DidSome a c
-did_some_on a b c (xs, j, did) (ys, k, then) = (xs ++ ys, j + k, did_on xs ys j k a b c did then)
+did_some_on a b c (xs, j, first) (ys, k, second) = (xs ++ ys, j + k, did_on xs ys j k a b c first second)

@@ -75,12 +75,12 @@ module _ (deeds : List Deed) where
   put_true cache key report is one = all_true (put_entries same_key cache key report) (λ entry at. elim (Contains-put_entries same_key cache key report entry at) [
     | inl there ↦ each_true cache.entries is entry there
     | inr put ↦
-      let lines : arc_value entry.1 ≡ arc_value report = ap (λ (r : Arc (List (List ℕ)) Global). arc_value r) put.0 in
-      let under : report_for entry.0 (arc_value report) ≡ report_for key (arc_value report) = elim put.1 [
-        | inl e ↦ ap (λ (k : ReportKey). report_for k (arc_value report)) e
-        | inr w ↦ for_same_key key entry.0 (arc_value report) w.2
-      ] in
-      subst (IsReportIn deeds) (sym (ap (report_for entry.0) lines ∙ under)) one
+        let lines : arc_value entry.1 ≡ arc_value report = ap (λ (r : Arc (List (List ℕ)) Global). arc_value r) put.0 in
+        let under : report_for entry.0 (arc_value report) ≡ report_for key (arc_value report) = elim put.1 [
+          | inl e ↦ ap (λ (k : ReportKey). report_for k (arc_value report)) e
+          | inr w ↦ for_same_key key entry.0 (arc_value report) w.2
+        ] in
+        subst (IsReportIn deeds) (sym (ap (report_for entry.0) lines ∙ under)) one
   ])
 
   -- a report is put, or there is no memory for it

@@ -15,6 +15,7 @@ use std::alloc::Global;
 use std::marker::Model;
 use std::num::NonZeroUsize;
 use std::sync::Arc;
+use std::thread::Threads;
 
 /// Whole reports, each kept for its design, die and revision; the one that was used longest ago goes first. Contracts see
 /// what is kept.
@@ -34,7 +35,11 @@ impl Model for ReportCache {
 }
 
 // The report of a die, made anew.
-fn make_whole<R>(rt: &R, alloc: Global, view: &DieView) -> Result<Arc<WholeReport>, NoMemory>
+fn make_whole<R: Threads + Sync>(
+    rt: &R,
+    alloc: Global,
+    view: &DieView,
+) -> Result<Arc<WholeReport>, NoMemory>
     ensures { IfOk result (λ report. arc_value report ≡ view_lines view.now) }
 {
     let report = WholeReport::of(make_report(rt, alloc, view)?);
@@ -45,10 +50,11 @@ fn make_whole<R>(rt: &R, alloc: Global, view: &DieView) -> Result<Arc<WholeRepor
 }
 
 impl ReportCache {
-    /// A cache for so many reports, one at least.
+    /// A cache for so many reports, one at least. It keeps none, and so is true for each list of deeds.
     pub fn make(alloc: Global, entries: usize) -> Result<ReportCache, NoMemory>
         requires { 1 ≤ entries }
-        ensures { IfOk result (λ cache. cache ≡ []) }
+        ensures empty { IfOk result (λ cache. cache ≡ []) }
+        ensures fresh { IfOk result (λ cache. (deeds : List Deed) → IsTrueFor cache deeds) }
     {
         let Some(entries) = NonZeroUsize::new(entries) else {
             unreachable!()
@@ -87,7 +93,7 @@ impl ReportCache {
 
     /// The report of a die, which is made where it isn't kept. Where memory is too short to keep it, it is answered all the
     /// same.
-    pub fn report<R>(
+    pub fn report<R: Threads + Sync>(
         &mut self,
         rt: &R,
         alloc: Global,

@@ -14,6 +14,7 @@ mod bodies;
 mod byte_link;
 mod gates;
 mod heads;
+mod hostile;
 mod incoming;
 mod pages;
 mod replies;

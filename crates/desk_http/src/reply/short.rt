@@ -32,7 +32,7 @@ impl Short {
         self.bytes.as_slice()
     }
 
-    /// An empty text.
+    /// No bytes.
     pub fn new() -> Short
         ensures { result ≡ [] }
     {
@@ -51,7 +51,7 @@ impl Short {
         };
     }
 
-    /// Adds the digits of a number, which are 20 at most.
+    /// Adds the decimal digits of a number, which are 20 at most.
     pub fn add_number(&mut self, number: u64)
         requires { length self.old + 20 ≤ 256 }
         ensures digits { self.new ≡ self.old ++ decimal number }

@@ -7,6 +7,7 @@ use Rattle.desk_http.specs.Turns.{Takes}
 use Rattle.desk_http.proofs.SessionSteps.{SoFar, begins, goes_on, ends_session, no_session, still_few, marks_few}
 use Rattle.desk_outside.specs.declared.deed.Deed.{Deed}
 use Rattle.desk_http.proofs.SeatSteps.{prefix_same}
+use Rattle.desk_http.proofs.KeptReports.{true_after}
 use Rattle.desk_http.proofs.SessionLaws.{marks_rise}
 use Rattle.desk_http.proofs.sessions.requests.session_at.Goals as goal
 
