@@ -78,7 +78,10 @@ fn sign_of(row: &Row) -> Result<Deed, ReadStop> {
 
 // The design deed of a number.
 fn design_at<S: Alter>(conn: &mut Connection<S>, n: i64) -> Result<Option<Deed>, ReadStop> {
-    let rows = conn.query_all("SELECT seat, name, body FROM designs WHERE n = ?1", params![n])?;
+    let rows = conn.query_all(
+        "SELECT seat, name, body FROM designs WHERE n = ?1",
+        params![n],
+    )?;
     match rows.first() {
         Some(row) => Ok(Some(design_of(row)?)),
         None => Ok(None),
@@ -87,7 +90,10 @@ fn design_at<S: Alter>(conn: &mut Connection<S>, n: i64) -> Result<Option<Deed>,
 
 // The log deed of a number.
 fn log_at<S: Alter>(conn: &mut Connection<S>, n: i64) -> Result<Option<Deed>, ReadStop> {
-    let rows = conn.query_all("SELECT seat, design, die, body FROM logs WHERE n = ?1", params![n])?;
+    let rows = conn.query_all(
+        "SELECT seat, design, die, body FROM logs WHERE n = ?1",
+        params![n],
+    )?;
     match rows.first() {
         Some(row) => Ok(Some(log_of(row)?)),
         None => Ok(None),

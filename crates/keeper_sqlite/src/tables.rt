@@ -1,7 +1,8 @@
 //! The tables of a store. The number of a deed, from 0, runs over the three together.
 use sqlite::{Alter, Connection, Error, params};
 
-const TABLES: &str = "CREATE TABLE IF NOT EXISTS designs (n INTEGER PRIMARY KEY, seat INTEGER NOT NULL, name BLOB NOT NULL, body BLOB NOT NULL);
+const TABLES: &str =
+    "CREATE TABLE IF NOT EXISTS designs (n INTEGER PRIMARY KEY, seat INTEGER NOT NULL, name BLOB NOT NULL, body BLOB NOT NULL);
 CREATE TABLE IF NOT EXISTS logs (n INTEGER PRIMARY KEY, seat INTEGER NOT NULL, design BLOB NOT NULL, die BLOB NOT NULL, body BLOB NOT NULL);
 CREATE TABLE IF NOT EXISTS signoffs (n INTEGER PRIMARY KEY, seat INTEGER NOT NULL, design BLOB NOT NULL, die BLOB NOT NULL, revision INTEGER NOT NULL, signer BLOB NOT NULL, digest BLOB NOT NULL)";
 
@@ -24,9 +25,11 @@ pub fn next_number<S: Alter>(conn: &mut Connection<S>) -> Result<i64, Error> {
     let designs = greatest(conn, "SELECT max(n) FROM designs")?;
     let logs = greatest(conn, "SELECT max(n) FROM logs")?;
     let signs = greatest(conn, "SELECT max(n) FROM signoffs")?;
-    Ok(designs
-        .unwrap_or(-1)
-        .max(logs.unwrap_or(-1))
-        .max(signs.unwrap_or(-1))
-        .saturating_add(1))
+    Ok(
+        designs
+            .unwrap_or(-1)
+            .max(logs.unwrap_or(-1))
+            .max(signs.unwrap_or(-1))
+            .saturating_add(1),
+    )
 }

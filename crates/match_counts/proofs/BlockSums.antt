@@ -93,7 +93,7 @@ branch_nets t p v w point = by_place (pin_at t.netlist p).place refl
     by_place (place.Output k) at = inl (ap (place_nets t) at)
     by_place (place.Operand n i) at = by_driver n i at (driver_of t.netlist n) refl
 
--- Theorem 1's alternatives exclude each other
+-- The ways in which a fault of the logic predicts a fail exclude each other
 pub alternatives_add : (t : ScanTest) (f : Fault) (w k : ℕ) → IsLogic f → tick (list_any (λ n. mask t f w n && flip_shows t w n k) (touched_nets t f) || straight t f w k) ≡ sum_by (λ n. tick (mask t f w n && flip_shows t w n k)) (touched_nets t f) + tick (straight t f w k)
 alternatives_add t (fault.Stem m v) w k logic = single_sum (λ n. mask t (fault.Stem m v) w n && flip_shows t w n k) m
 alternatives_add t (fault.Bridge a b kind) w k logic = pair_sum (λ n. mask t (fault.Bridge a b kind) w n && flip_shows t w n k) a b

@@ -57,34 +57,15 @@ module _ (t : ScanTest) (sound : IsScanTest t) (g : PackedGood) (belongs : Belon
         | inr gone ↦ ap (λ (b : Bool). (b && same_kind Capture kind) && x) gone ∙ sym (ap (λ (b : Bool). b && P) gone)
       ]
 
-  pub outside_word : (s : Scratch) (word k i : ℕ) → 64 * word < length t.patterns → k < length (points_of t) → i < 64 → IsOutside h (point_at t k) → IsLoaded t g (word / 8) h c K s
-      → (captures t (64 * word + i) && are_opposite (good_at g (word / 8) (64 * (word % 8) + i) (observed_at t k)) (now_at g s (word / 8) (64 * (word % 8) + i) (observed_at t k)))
-      ≡ (ltb (64 * word + i) (length t.patterns) && predicts_fail t (fault.Cell h c K) (bit_of (64 * word + i) k))
-  outside_word s word k i lt in_points i_lt outside loaded =
-      let b = word / 8 in
-      let j = 64 * (word % 8) + i in
+  pub outside_lane : (s : Scratch) (b j k : ℕ) → b < length g.rows → k < length (points_of t) → j < 512 → IsOutside h (point_at t k) → IsLoaded t g b h c K s
+      → (captures t (pattern_of b j) && are_opposite (good_at g b j (observed_at t k)) (now_at g s b j (observed_at t k))) ≡ (ltb (pattern_of b j) (length t.patterns) && predicts_fail t (fault.Cell h c K) (bit_of (pattern_of b j) k))
+  outside_lane s b j k block_lt in_points lane_lt outside loaded =
       let w = pattern_of b j in
       let o = observed_at t k in
-      let same : w ≡ 64 * word + i = pattern_is word i in
       let o_lt = observed_in_range t sound g belongs k in_points in
-      outside_bit (64 * word + i) k in_points outside (are_opposite (good_at g b j o) (now_at g s b j o)) (λ captured.
-      let captured_w : captures t w ≡ true = ap (captures t) same ∙ captured in
-      ap (λ (v : Tri). are_opposite v (now_at g s b j o)) (good_is t sound g belongs b j o (block_inside t g word belongs lt) (lane_inside word i i_lt) o_lt captured_w)
-      ∙ ap (are_opposite (good_value t w o)) (loaded.nets belongs.wired.live belongs.wired.covers belongs.wired.up o j o_lt (observed_live t sound g belongs k in_points) (lane_inside word i i_lt) captured_w)
-      ∙ ap (λ (z : ℕ). are_opposite (good_value t z o) (net_value t (Some (fault.Cell h c K)) z o)) same)
-
-  -- a position of the chain
-  pub own_bit : (w k i : ℕ) → k < length (points_of t) → point_at t k ≡ Cell h i → (there x : Bool) → there ≡ ltb w (length t.patterns)
-      → (w < length t.patterns → x ≡ are_opposite (observed t None w (Cell h i)) (observed t (Some (fault.Cell h c K)) w (Cell h i)))
-      → (there && x) ≡ (ltb w (length t.patterns) && predicts_fail t (fault.Cell h c K) (bit_of w k))
-  own_bit w k i lt at there x there_is shows =
-      let f = fault.Cell h c K in
-      let P = predicts_fail t f (bit_of w k) in
-      elim (cases_Bool (ltb w (length t.patterns))) [
-        | inl yes' ↦ ap (λ (b : Bool). b && x) (there_is ∙ yes') ∙ shows (ltb-true w (length t.patterns) yes')
-            ∙ sym (ap (λ (b : Bool). b && P) yes' ∙ predicts_fail-is t sound f w k lt ∙ ap (λ (p : Point). are_opposite (observed t None w p) (observed t (Some f) w p)) at)
-        | inr no' ↦ ap (λ (b : Bool). b && x) (there_is ∙ no') ∙ sym (ap (λ (b : Bool). b && P) no')
-      ]
+      outside_bit w k in_points outside (are_opposite (good_at g b j o) (now_at g s b j o)) (λ captured.
+      ap (λ (v : Tri). are_opposite v (now_at g s b j o)) (good_is t sound g belongs b j o block_lt lane_lt o_lt captured)
+      ∙ ap (are_opposite (good_value t w o)) (loaded.nets belongs.wired.live belongs.wired.covers belongs.wired.up o j o_lt (observed_live t sound g belongs k in_points) lane_lt captured))
 
 pub both_kinds : (there : Bool) (k : PatternKind) → ((there && same_kind Capture k) || (there && same_kind Shift k)) ≡ there
 both_kinds true Capture = refl

@@ -60,34 +60,62 @@ impl PackedGood {
         Packed::pick(capture, captured, loaded)
     }
 
-    /// The patterns of a word in which a position of the faulty chain shows the opposite of its expected value.
-    fn position_word(
+    /// The lanes in which a position of a loaded chain shows the opposite of its expected value.
+    fn position_row(
         &self,
         parts: &Parts,
         scratch: &Scratch,
+        block: usize,
         behind: (u32, u32),
         kind: CellKind,
-        word: u32,
         at: u32,
-    ) -> u64
+    ) -> Row
         requires good { BelongsTo parts.now self.now }
+        requires block { block < length self.now.rows }
         requires chain { behind.0 < length parts.now.chains }
-        requires loaded { IsLoaded parts.now self.now (word / 8) behind.0 behind.1 kind scratch.now }
-        requires word { 64 * word < length parts.now.patterns }
+        requires loaded { IsLoaded parts.now self.now block behind.0 behind.1 kind scratch.now }
         requires at { at < length (chain_at parts.now behind.0).cells }
-        ensures { (i : ℕ) → i < 64 → (bit_at result i == 1) ≡ (nat_lt (64 * word + i) (length parts.now.patterns)
-            && are_opposite (observed parts.now None (64 * word + i) (point.Cell behind.0 at)) (observed parts.now (Some (fault.Cell behind.0 behind.1 kind)) (64 * word + i) (point.Cell behind.0 at))) }
+        ensures { (j : ℕ) → j < 512 → lane result j ≡ (nat_lt (pattern_of block j) (length parts.now.patterns)
+            && are_opposite (observed parts.now None (pattern_of block j) (point.Cell behind.0 at)) (observed parts.now (Some (fault.Cell behind.0 behind.1 kind)) (pattern_of block j) (point.Cell behind.0 at))) }
     {
-        let block = word as usize / 8;
         let expected = self.expected_row(parts, block, behind.0, at);
         let shown = self.shown(parts, scratch, block, behind, kind, at);
         let differs = expected.opposite(shown);
         let there = self.patterns(parts, block);
-        let lanes = there.and(differs);
-        lanes.word(word as usize % 8)
+        there.and(differs)
     }
 
-    /// The fails of a fault of a shift path at one point.
+    /// The lanes in which a fault of a shift path predicts a fail at point k, over the chain loaded as under it.
+    pub fn predicted_row(
+        &self,
+        parts: &Parts,
+        scratch: &Scratch,
+        block: usize,
+        behind: (u32, u32),
+        kind: CellKind,
+        k: usize,
+    ) -> Row
+        requires good { BelongsTo parts.now self.now }
+        requires block { block < length self.now.rows }
+        requires chain { behind.0 < length parts.now.chains }
+        requires loaded { IsLoaded parts.now self.now block behind.0 behind.1 kind scratch.now }
+        requires point { k < length (points_of parts.now) }
+        ensures { (j : ℕ) → j < 512 → lane result j ≡ (nat_lt (pattern_of block j) (length parts.now.patterns) && predicts_fail parts.now (fault.Cell behind.0 behind.1 kind) (bit_of (pattern_of block j) k)) }
+    {
+        let _ = parts.chains();
+        let point = point_of(parts, k);
+        match position_in(point, behind.0) {
+            Some(at) => self.position_row(parts, scratch, block, behind, kind, at),
+            None => {
+                let net = self.observed[k];
+                let differs = self.difference(parts, scratch, block, net);
+                let capture = self.capture(block);
+                capture.and(differs)
+            }
+        }
+    }
+
+    /// The fails of a fault of a shift path at one point, in the patterns of a word.
     fn point_word(
         &self,
         parts: &Parts,
@@ -104,15 +132,8 @@ impl PackedGood {
         requires point { k < length (points_of parts.now) }
         ensures { (i : ℕ) → i < 64 → (bit_at result i == 1) ≡ (nat_lt (64 * word + i) (length parts.now.patterns) && predicts_fail parts.now (fault.Cell behind.0 behind.1 kind) (bit_of (64 * word + i) k)) }
     {
-        let _ = parts.chains();
-        let point = point_of(parts, k);
-        match position_in(point, behind.0) {
-            Some(at) => self.position_word(parts, scratch, behind, kind, word, at),
-            None => {
-                let net = self.observed[k];
-                self.difference_word(parts, scratch, word, net)
-            }
-        }
+        let row = self.predicted_row(parts, scratch, word as usize / 8, behind, kind, k);
+        row.word(word as usize % 8)
     }
 
     /// The fails of a fault of a shift path.

@@ -55,6 +55,11 @@ fn a_seat_past_u32_is_a_fault(rt: HostRuntime) -> Result<(), Fail> {
 
 #[test]
 fn a_number_in_two_tables_is_a_fault(rt: HostRuntime) -> Result<(), Fail> {
-    assert!(rt; is_faulty(&rt, "INSERT INTO logs (n, seat, design, die, body) VALUES (0, 1, x'41', x'42', x'43')")?);
+    assert!(rt;
+        is_faulty(
+            &rt,
+            "INSERT INTO logs (n, seat, design, die, body) VALUES (0, 1, x'41', x'42', x'43')"
+        )?
+    );
     Ok(())
 }

@@ -1,54 +1,18 @@
-use Rattle.std.proofs.Common.{◌≡◌, ◌&&◌, ◌+◌, ◌*◌, ◌/◌, ◌%◌, ◌<◌, ℕ, Bool, ltb, length, get_or, None, Some, ap, sym, subst, ◌∙◌, arith}
-use Rattle.std.proofs.lemmas.List.{get_or_read}
-use Rattle.scan_model.specs.declared.parts.Point.{Point}
-use Rattle.scan_model.specs.declared.parts.Point.TheVariants.{Cell}
+use Rattle.std.proofs.Common.{◌&&◌, ◌+◌, ◌*◌, ◌%◌, ℕ, ltb, length, ap, ◌∙◌}
 use Rattle.scan_model.specs.declared.fault.Fault.TheVariants as fault
-use Rattle.scan_model.specs.Values.{are_opposite}
-use Rattle.scan_model.specs.ScanTest.{IsPoint, points_of, point_at}
-use Rattle.scan_model.specs.Response.{observed}
-use Rattle.scan_model.proofs.counting.Shown.{point_at-IsPoint, predicts_fail-is}
-use Rattle.scan_model.proofs.counting.ChainSteps.{IsOutside}
-use Rattle.packed_sim.specs.Belongs.{captures, good_at, now_at, observed_at}
-use Rattle.packed_sim.proofs.Belonging.{observed_is, observed_len, observed_in_range}
-use Rattle.packed_sim.proofs.ChainBits.{outside_word}
+use Rattle.scan_model.specs.Coverage.{bit_of}
+use Rattle.scan_model.specs.Response.{predicts_fail}
+use Rattle.packed_sim.proofs.FaultBits.{pattern_is, lane_inside, block_inside}
 use Rattle.packed_sim.proofs.good.PackedGood.point_word.Goals as goal
 
-pub position_word-requires-clause-at : goal.position_word-requires-clause-at
-position_word-requires-clause-at c =
-    let t = c.args.parts.now in
-    let at : point_at t c.args.k ≡ Cell c.args.behind.0 c.in-Some.at = sym c.point_of-point.ensures ∙ c.in-Some.ensures in
-    let is_point : IsPoint t (Cell c.args.behind.0 c.in-Some.at) = subst (IsPoint t) at (point_at-IsPoint t c.chains.ensures.fits c.args.k c.requires.point) in
-    is_point.1
+pub predicted_row-row-requires-clause-block : goal.predicted_row-row-requires-clause-block
+predicted_row-row-requires-clause-block c = block_inside c.args.parts.now c.args.self.now c.args.word c.requires.good c.requires.word
 
-pub returns-in-Some : goal.returns-in-Some
-returns-in-Some c i i_lt =
+pub returns : goal.returns
+returns c i i_lt =
     let t = c.args.parts.now in
-    let w = 64 * c.args.word + i in
-    let f = fault.Cell c.args.behind.0 c.args.behind.1 c.args.kind in
-    let at : point_at t c.args.k ≡ Cell c.args.behind.0 c.in-Some.at = sym c.point_of-point.ensures ∙ c.in-Some.ensures in
-    c.position_word.ensures i i_lt
-    ∙ ap (λ (b : Bool). ltb w (length t.patterns) && b) (sym (predicts_fail-is t c.chains.ensures.fits f w c.args.k c.requires.point ∙ ap (λ (p : Point). are_opposite (observed t None w p) (observed t (Some f) w p)) at))
-
-pub difference_word-requires-clause-scratch : goal.difference_word-requires-clause-scratch
-difference_word-requires-clause-scratch c = c.requires.loaded.inside
-
-pub difference_word-requires-clause-net : goal.difference_word-requires-clause-net
-difference_word-requires-clause-net c =
-    let t = c.args.parts.now in
-    let g = c.args.self.now in
-    let k = c.args.k in
-    let read : c.index-net.result.now ≡ get_or g.observed.items k 0 = get_or_read g.observed.items k c.index-net.result.now (omega (arith, observed_len t c.chains.ensures.fits g c.requires.good, c.requires.point)) c.index-net.ensures 0 in
-    omega (arith, read, observed_is t c.chains.ensures.fits g c.requires.good k c.requires.point, observed_in_range t c.chains.ensures.fits g c.requires.good k c.requires.point)
-
-pub returns-in-None : goal.returns-in-None
-returns-in-None c i i_lt =
-    let t = c.args.parts.now in
-    let g = c.args.self.now in
-    let k = c.args.k in
     let word = c.args.word in
-    let read : c.index-net.result.now ≡ get_or g.observed.items k 0 = get_or_read g.observed.items k c.index-net.result.now (omega (arith, observed_len t c.chains.ensures.fits g c.requires.good, c.requires.point)) c.index-net.ensures 0 in
-    let net_is : c.index-net.result.now ≡ observed_at t k = read ∙ observed_is t c.chains.ensures.fits g c.requires.good k c.requires.point in
-    let outside : IsOutside c.args.behind.0 (point_at t k) = subst (IsOutside c.args.behind.0) c.point_of-point.ensures c.in-None.ensures in
-    c.difference_word.ensures i i_lt
-    ∙ ap (λ (n : ℕ). captures t (64 * word + i) && are_opposite (good_at g (word / 8) (64 * (word % 8) + i) n) (now_at g c.args.scratch.now (word / 8) (64 * (word % 8) + i) n)) net_is
-    ∙ outside_word t c.chains.ensures.fits g c.requires.good c.args.behind.0 c.args.behind.1 c.args.kind c.args.scratch.now word k i c.requires.word c.requires.point i_lt outside c.requires.loaded
+    let f = fault.Cell c.args.behind.0 c.args.behind.1 c.args.kind in
+    c.word.ensures i i_lt
+    ∙ c.predicted_row-row.ensures (64 * (word % 8) + i) (lane_inside word i i_lt)
+    ∙ ap (λ (w : ℕ). ltb w (length t.patterns) && predicts_fail t f (bit_of w c.args.k)) (pattern_is word i)

@@ -1,0 +1,5 @@
+//! Worked rows of tracing back and counting, whose answers are known from outside.
+#![tactic(auto)]
+
+#[cfg(test)]
+mod tests;

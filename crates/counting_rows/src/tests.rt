@@ -1,0 +1,4 @@
+mod designs;
+mod fails;
+mod plain;
+mod suspects;
