@@ -1,12 +1,16 @@
 -- What a run of `serve` says by its exit status.
-use Rattle.std.proofs.Common.{◌≡◌, ◌≢◌, ◌∙◌, ℕ, Bool, true, false, List, refl, sym, ap, subst, inl, inr, arith, true≢false}
-use Rattle.std.specs.Prelude.{◌||◌, ◌⊎◌}
+use Rattle.std.proofs.Common.{◌≡◌, ◌≢◌, ◌≤◌, ◌∙◌, ℕ, Bool, true, false, List, Option, Some, None, ◌==◌, codes, length, eqb-true, refl, sym, ap, subst, inl, inr, arith, true≢false}
+use Rattle.std.specs.Prelude.{◌||◌, ◌&&◌, ◌⊎◌, nat_le}
+use Rattle.std.specs.List.{list_all}
+use Rattle.std.proofs.lemmas.Bool.{leb-true}
+use Rattle.scan_model.specs.Words.{number_of}
 use Rattle.desk_outside.specs.Faults.{Rose}
 use Rattle.desk_serve.specs.declared.ending.Ending.{Ending}
 use Rattle.desk_serve.specs.declared.ending.Ending.TheVariants.{Done, SinkFault, StoreFault, NoMemory, Spoiled, StreetFault}
 use Rattle.desk_serve.specs.Lines.{status_of}
 use Rattle.desk_serve.specs.Runs.{Asked, Outside, HasEnded, HasRun, IsWritten}
-use Rattle.desk_commands.specs.Words.{are_right, is_serve, names_page}
+use Rattle.desk_commands.specs.Ending.{Ends, IsOfPage}
+use Rattle.desk_commands.specs.Words.{are_right, begins, is_count_to, is_plain_word, is_serve, names_page, number_at, word_at}
 
 -- the statuses of files and words are none of `serve`
 other_status : (ending : Ending) → (status_of ending ≢ 2) × (status_of ending ≢ 5)
@@ -80,3 +84,41 @@ serve_is_right words e = rw e refl
 
 pub page_is_right : (words : List (List ℕ)) → is_serve words ≡ false → are_right words ≡ names_page words
 page_is_right words e = rw e refl
+
+-- ---- the words of `serve`
+
+both : (a b : Bool) → (a && b) ≡ true → (a ≡ true) × (b ≡ true)
+both true b e = (refl, e)
+both false b e = absurd (true≢false (sym e))
+
+pub serve_count : (words : List (List ℕ)) → is_serve words ≡ true → length words ≡ 5
+serve_count words e = eqb-true (length words) 5 (both _ _ e).0
+
+pub serve_plain : (words : List (List ℕ)) → is_serve words ≡ true → list_all is_plain_word words ≡ true
+serve_plain words e = (both _ _ (both _ _ (both _ _ e).1).0).0
+
+count_of : (words : List (List ℕ)) (place most : ℕ) → is_count_to most (number_of (word_at words place)) ≡ true → (1 ≤ number_at words place) × (number_at words place ≤ most)
+count_of words place most is = go (number_of (word_at words place)) refl is
+  where
+    go : (o : Option ℕ) → number_of (word_at words place) ≡ o → is_count_to most o ≡ true → (1 ≤ number_at words place) × (number_at words place ≤ most)
+    go None named e = absurd (true≢false (sym e))
+    go (Some n) named e = let ends = both (nat_le 1 n) (nat_le n most) e in rw named (leb-true 1 n ends.0, leb-true n most ends.1)
+
+pub serve_workers : (words : List (List ℕ)) → is_serve words ≡ true → (1 ≤ number_at words 2) × (number_at words 2 ≤ 64)
+serve_workers words e =
+    let counts = both (begins (codes "serve") words) _ (both (length words == 5) _ e).1 in
+    let others = both (is_count_to 65535 (number_of (word_at words 1))) _ counts.1 in
+    count_of words 2 64 (both (is_count_to 64 (number_of (word_at words 2))) _ others.1).0
+
+-- ---- a page
+
+-- the status of a page stays one, or is that of a sink that failed
+pub ends_of_page : (status : ℕ) (text : List ℕ) (result : ℕ) (old new : Option (List ℕ)) (rose : Type 0) → IsOfPage status → Ends status text result old new rose → IsOfPage result
+ends_of_page status text result old new rose of_page (inl (is, wrote)) = subst IsOfPage (sym is) of_page
+ends_of_page status text result old new rose of_page (inr (is, part, cause)) = subst IsOfPage (sym is) (omega arith, omega arith, omega arith)
+
+pub of_2 : IsOfPage 2
+of_2 = (omega arith, omega arith, omega arith)
+
+pub of_8 : IsOfPage 8
+of_8 = (omega arith, omega arith, omega arith)
