@@ -10,6 +10,8 @@ use Rattle.clap.specs.Walk.{Walk, finished, nothing_held, walk_from}
 use Rattle.clap.proofs.OnLiterals.{clap_on_literals}
 use Rattle.scan_model.specs.Words.{number_of}
 use Rattle.desk_commands.specs.Words.{is_plain_word, names_from, number_at, request_of, word_at}
+use Rattle.desk_serve.specs.Runs.{Asked}
+use Rattle.desk_commands.specs.Requests.{asked_by}
 use Rattle.desk_commands.specs.Assigned.{of_files, diagnose, demo, serve, names_in, request_in, text_of}
 use Rattle.desk_commands.proofs.PlainWords.{plain_rows, rows_taken, taken}
 
@@ -100,6 +102,12 @@ sessions_taken p w s n = refl
 store_taken : (p w s n : Text) → text_of (codes "store") (rows_taken (built serve).top.rules (p ∷ w ∷ s ∷ n ∷ [])) ≡ n
 unfolding clap_on_literals
 store_taken p w s n = refl
+
+pub asked_is : (port workers sessions : ℕ) (store : Text) (words : List Text) → port ≡ number_at words 1 → workers ≡ number_at words 2 → sessions ≡ number_at words 3 → store ≡ word_at words 4
+    → record { port = port; workers = workers; sessions = sessions; store = store } ≡ asked_by words
+asked_is port workers sessions store words p w s n =
+    let of : ℕ → ℕ → ℕ → Text → Asked = λ a b c d. record { port = a; workers = b; sessions = c; store = d } in
+    ap (λ a. of a workers sessions store) p ∙ ap (λ b. of (number_at words 1) b sessions store) w ∙ ap (λ c. of (number_at words 1) (number_at words 2) c store) s ∙ ap (of (number_at words 1) (number_at words 2) (number_at words 3)) n
 
 pub serve_assigned : (words : List Text) → length words ≡ 5 → list_all is_plain_word words ≡ true
     → (text_of (codes "port") (matches_of serve words) ≡ word_at words 1) × (text_of (codes "workers") (matches_of serve words) ≡ word_at words 2) × (text_of (codes "sessions") (matches_of serve words) ≡ word_at words 3)

@@ -3,11 +3,11 @@ ghost use Rattle.std.specs.Prelude.{◌≡◌, ◌≤◌, ◌⊎◌, ℕ, List, 
 ghost use Rattle.desk_outside.specs.declared.shelf.File.{File};
 ghost use Rattle.std.specs.Io.KnownBytes.{append_known};
 ghost use Rattle.desk_outside.specs.Faults.{Rose};
-ghost use Rattle.desk_commands.specs.Words.{are_right, is_serve};
+ghost use Rattle.desk_commands.specs.Words.{are_right, is_serve, names_page};
 ghost use Rattle.desk_commands.specs.Requests.{asked_by};
 ghost use Rattle.desk_serve.specs.Runs.{HasRun};
 ghost use Rattle.desk_commands.specs.Commands.{work};
-ghost use Rattle.desk_commands.specs.Ending.{Ran, Ends};
+ghost use Rattle.desk_commands.specs.Ending.{Ran, Ends, IsOfPage};
 
 use crate::commands::page_of_command;
 use crate::words::{command_of, is_serve, serving_of};
@@ -53,6 +53,38 @@ where
     match serving_of(alloc, words) {
         Ok(asked) => serve(rt, alloc, &asked, out, street, cabinet).status(),
         Err(NoMemory) => ended(out, Ending::NoMemory).status(),
+    }
+}
+
+// What a command comes to that has a page: it reads the files that the words name, and writes its page.
+fn run_page<R: Threads + Sync, F: Shelf, O: Sink>(
+    rt: &R,
+    alloc: Global,
+    words: &[String],
+    shelf: &mut F,
+    out: &mut O,
+) -> u8
+    ensures told { (held : List File) → F.files shelf.old ≡ Some held
+        → Ran (work (map string_bytes words.now) held) (Rose (F.faults shelf.old) (F.faults shelf.new)) (Rose (O.faults out.old) (O.faults out.new))
+        result (O.written out.old) (O.written out.new) }
+    ensures wrong { names_page (map string_bytes words.now) ≡ false → (result ≡ 2) ⊎ (result ≡ 6) }
+    ensures right { result ≡ 2 → names_page (map string_bytes words.now) ≡ false }
+    ensures shelf_fault { result ≡ 5 → Rose (F.faults shelf.old) (F.faults shelf.new) }
+    ensures sink_fault { result ≡ 6 → Rose (O.faults out.old) (O.faults out.new) }
+    ensures memory { result ≡ 8 → O.written out.new ≡ append_known (O.written out.old) (codes "memory\n") }
+    ensures misunderstood { result ≡ 2 → O.written out.new ≡ append_known (O.written out.old) (codes "words not understood\n") }
+    ensures not_serving { IsOfPage result }
+    ensures shelf_later { F.faults shelf.old ≤ F.faults shelf.new }
+    ensures sink_later { O.faults out.old ≤ O.faults out.new }
+{
+    let command = match command_of(alloc, words) {
+        Ok(Some(command)) => command,
+        Ok(None) => return finish(out, 2, b"words not understood\n"),
+        Err(NoMemory) => return finish(out, 8, b"memory\n"),
+    };
+    match page_of_command(rt, alloc, shelf, &command) {
+        Ok(page) => finish(out, page.status, page.text.as_slice()),
+        Err(NoMemory) => finish(out, 8, b"memory\n"),
     }
 }
 
@@ -104,13 +136,5 @@ where
     if is_serve(words) {
         return run_serve(rt, alloc, words, out, street, cabinet);
     }
-    let command = match command_of(alloc, words) {
-        Ok(Some(command)) => command,
-        Ok(None) => return finish(out, 2, b"words not understood\n"),
-        Err(NoMemory) => return finish(out, 8, b"memory\n"),
-    };
-    match page_of_command(rt, alloc, shelf, &command) {
-        Ok(page) => finish(out, page.status, page.text.as_slice()),
-        Err(NoMemory) => finish(out, 8, b"memory\n"),
-    }
+    run_page(rt, alloc, words, shelf, out)
 }

@@ -5,7 +5,7 @@ use Rattle.clap.specs.Words.{with_rule}
 use Rattle.desk_serve.specs.Runs.{Asked}
 use Rattle.desk_commands.specs.Words.{number_at, word_at}
 use Rattle.desk_commands.specs.Assigned.{serve, text_of}
-use Rattle.desk_commands.proofs.Assigned.{serve_assigned, serve_is_simple, found_by, number_named}
+use Rattle.desk_commands.proofs.Assigned.{asked_is, serve_assigned, serve_is_simple, found_by, number_named}
 use Rattle.desk_commands.proofs.words.assigned.serving_of.Goals as goal
 
 pub returns : goal.returns
@@ -22,4 +22,4 @@ returns c =
     let workers_are = number_named words 2 _ (ap number_of (sym (ap (text_of (codes "workers")) rows ∙ named.1)) ∙ c.in_ok-number_in.ensures) in
     let sessions_are = number_named words 3 _ (ap number_of (sym (ap (text_of (codes "sessions")) rows ∙ named.2)) ∙ c.in_ok-number_in-2.ensures) in
     let store_is = c.in_ok-text_of.ensures ∙ ap (text_of (codes "store")) rows ∙ named.3 in
-    cc (port_is, workers_are, sessions_are, store_is)
+    asked_is _ _ _ _ words port_is workers_are sessions_are store_is
