@@ -260,7 +260,5 @@ the_library_answers
 make_calls
 the_little_memory
 the_full_device
-runs=$((runs + 1))
-"$top/examples/http.sh" "$program" || wrong=$((wrong + 1))
 echo "$runs examples, $wrong wrong"
 [ "$wrong" -eq 0 ]

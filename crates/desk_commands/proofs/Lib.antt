@@ -16,4 +16,3 @@ pub mod Assigned
 pub mod Requests
 pub mod ReadLogs
 pub mod Runs
-pub mod Served

@@ -65,7 +65,3 @@ module _ (seed blocks : ℕ) where
 
   pub demo_not_memory : (made : Result Page NoMemory) → IfOk made (λ page. page.status ≡ (demo_output seed blocks).status) → IfOk made (λ page. page.status ≢ 8)
   demo_not_memory = never 8 (omega arith) (omega arith)
-
-  pub demo_not_serving : (made : Result Page NoMemory) → IfOk made (λ page. page.status ≡ (demo_output seed blocks).status) → IfOk made (λ page. IsOfPage page.status)
-  demo_not_serving (Ok page) is = (never 7 (omega arith) (omega arith) (Ok page) is, never 9 (omega arith) (omega arith) (Ok page) is, never 10 (omega arith) (omega arith) (Ok page) is)
-  demo_not_serving (Err e) is = tt

@@ -1,2 +1,1 @@
 mod outside;
-mod street;

@@ -52,25 +52,3 @@ fn a_packed_design_reads_back(rt: HostRuntime) -> Result<(), Fail> {
     assert_eq!(rt; summary.as_slice(), SUMMARY);
     Ok(())
 }
-
-// The street has no connections: each that is asked for has nothing left.
-#[test]
-fn a_port_is_served(rt: HostRuntime) -> Result<(), Fail> {
-    let (status, text) = ran_after(&rt, "serve", &["8080", "2", "3", "desk"])?;
-    assert_eq!(rt; status, 0);
-    assert_eq!(rt;
-        text.as_slice(),
-        b"serving 8080\nsessions 6 deeds 0\n".as_slice()
-    );
-    for wrong in [
-        &["0", "1", "1", "desk"],
-        &["65536", "1", "1", "desk"],
-        &["8080", "65", "1", "desk"],
-        &["8080", "1", "1000001", "desk"],
-        &["8080", "1", "1", "-desk"],
-    ] {
-        let (status, _) = ran_after(&rt, "serve", wrong)?;
-        assert_eq!(rt; status, 2);
-    }
-    Ok(())
-}

@@ -1,7 +1,7 @@
 //! Runs over memory.
 use super::files::files_in_memory;
 use desk_commands::run;
-use desk_outside::{File, MemCabinet, MemShelf, MemSink, MemStreet, are_distinct};
+use desk_outside::{File, MemShelf, MemSink, are_distinct};
 use scan_model::Rows;
 use std::alloc::{AllocError, Global};
 use std::test::Fail;
@@ -39,16 +39,6 @@ pub fn ran_over(
     let failing_writes = Rows::from_vec(Vec::from_slice(alloc, failing_writes)?);
     let mut shelf = MemShelf::make_failing(alloc, held, failing_reads)?;
     let mut sink = MemSink::make_failing(alloc, Rows::new(alloc), failing_writes)?;
-    let mut street = MemStreet::make(alloc, Rows::new(alloc))?;
-    let mut cabinet = MemCabinet::make(alloc, Rows::new(alloc))?;
-    let status = run(
-        rt,
-        alloc,
-        &words,
-        &mut shelf,
-        &mut sink,
-        &mut street,
-        &mut cabinet,
-    );
+    let status = run(rt, alloc, &words, &mut shelf, &mut sink);
     Ok((status, Vec::from_slice(alloc, sink.bytes())?))
 }

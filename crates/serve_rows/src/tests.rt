@@ -1,2 +1,0 @@
-mod outsides;
-mod runs;
