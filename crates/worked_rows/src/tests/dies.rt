@@ -1,33 +1,33 @@
 //! A die with one log.
 ghost use Rattle.std.specs.Prelude.{◌≡◌, true};
-ghost use Rattle.std.specs.Arc.{arc_value};
 ghost use Rattle.scan_model.specs.Words.{is_tag};
-ghost use Rattle.diagnosis.specs.Designs.{IsLogOf};
 
 use diag_report::Report;
-use diagnosis::{Design, DieView, ReadLog, log_of, make_report};
+use diagnosis::{Design, DieView, log_of, make_report};
 use scan_model::{Name, NoMemory};
 use std::alloc::Global;
 use std::sync::Arc;
 
-/// The report of one log of the die.
+/// The report of a die over one log, which must be one of the design and the die.
 pub(crate) fn report_over<R>(
     rt: &R,
     alloc: Global,
     design: &Arc<Design>,
     die: &[u8],
-    log: ReadLog,
+    text: &[u8],
 ) -> Result<Report, NoMemory>
-    requires die { is_tag die.now ≡ true }
-    requires log { IsLogOf (arc_value design.now) die.now log }
+    requires { is_tag die.now ≡ true }
 {
-    let die = Name::copy_of(alloc, die)?;
-    let mut view = DieView::make(alloc, Arc::try_clone(design)?, die)?;
+    let Ok(log) = log_of(alloc, design, die, text) else {
+        return Err(NoMemory);
+    };
+    let name = Name::copy_of(alloc, die)?;
+    let mut view = DieView::make(alloc, Arc::try_clone(design)?, name)?;
     view.add(Arc::new(alloc, log)?)?;
     make_report(rt, alloc, &view)
 }
 
-/// The same of a log of the die D1 that stands in a text.
+/// The same of a log of the die D1.
 pub(crate) fn report<R>(
     rt: &R,
     alloc: Global,
@@ -35,8 +35,5 @@ pub(crate) fn report<R>(
     log: &[u8],
 ) -> Result<Report, NoMemory> {
     let design = Arc::new(alloc, design)?;
-    match log_of(alloc, &design, b"D1", log) {
-        Ok(log) => report_over(rt, alloc, &design, b"D1", log),
-        Err(_) => Err(NoMemory),
-    }
+    report_over(rt, alloc, &design, b"D1", log)
 }

@@ -51,14 +51,14 @@ fn explains_itself<R>(
     design: &Arc<Design>,
     place: u32,
 ) -> Result<bool, NoMemory> {
-    let Some(log) = predicted(alloc, design, place)? else {
+    let Some(text) = predicted(alloc, design, place)? else {
         return Ok(false);
     };
-    let Ok(log) = log_of(alloc, design, b"D1", log.as_slice()) else {
+    let Ok(log) = log_of(alloc, design, b"D1", text.as_slice()) else {
         return Ok(false);
     };
     let words = own_words(alloc, place, log.facts().fails.len())?;
-    let report = report_over(rt, alloc, design, b"D1", log)?;
+    let report = report_over(rt, alloc, design, b"D1", text.as_slice())?;
     Ok(has(&report, &words))
 }
 
