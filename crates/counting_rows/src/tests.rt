@@ -1,4 +1,3 @@
 mod designs;
 mod fails;
 mod plain;
-mod suspects;
