@@ -1,7 +1,6 @@
 -- What the numbers kept of a chain tell.
-use Rattle.std.proofs.Common.{◌≡◌, ◌⊎◌, ℕ, zero, suc, ◌+◌, ◌-◌, ◌<◌, ◌≤◌, Bool, true, false, not, eqb, ltb, leb, ◌&&◌, ◌||◌, List, [], ◌∷◌, ◌++◌, length, get_or, set, drop, Option, Some, None, refl, sym, ap, subst, ◌∙◌, inl, inr, arith}
-use Rattle.std.specs.Prelude.{Contains}
-use Rattle.std.specs.List.{list_any, range_with_len}
+use Rattle.std.proofs.Common.{◌≡◌, ◌⊎◌, ℕ, ◌+◌, ◌-◌, ◌<◌, ◌≤◌, Bool, true, false, not, ltb, leb, ◌&&◌, ◌||◌, List, [], length, get_or, set, drop, Option, Some, None, refl, sym, ap, subst, ◌∙◌, inl, inr, arith}
+use Rattle.std.specs.List.{list_any}
 use Rattle.std.proofs.lemmas.Bool.{cases_Bool, cases_eq, cases_lt, both_ways, or_cases, or_left, or_right, and_parts, and_from, lt-ltb, ltb-true, le-leb, leb-true, eq-eqb, ne_eqb}
 use Rattle.std.proofs.lemmas.List.{get_or_default, get_or-drop, length-drop, get_or-set_same, get_or-set_other}
 use Rattle.std.proofs.lemmas.List.Folds.{list_any_at}
@@ -9,7 +8,7 @@ use Rattle.scan_model.proofs.FanSweeps.{any_found}
 use Rattle.lane_rows.specs.Lanes.{lane}
 use Rattle.back_trace.specs.Fails.{Tells}
 use Rattle.scan_model.specs.declared.parts.Point.{Point}
-use Rattle.scan_model.specs.declared.parts.Point.TheVariants.{Output, Cell}
+use Rattle.scan_model.specs.declared.parts.Point.TheVariants.{Cell}
 use Rattle.back_trace.specs.Traces.{lane_at, is_shifted_through, is_from, IsLastReached}
 use Rattle.back_trace.proofs.Ranges.{search_below}
 

@@ -1,8 +1,8 @@
 -- Which lanes of a block explain a failing bit, fault by fault.
-use Rattle.std.proofs.Common.{◌≡◌, ◌⊎◌, ℕ, ◌+◌, ◌<◌, ◌≤◌, Bool, true, false, ltb, nat_lt, ◌&&◌, ◌||◌, List, [], length, get_or, drop, Option, refl, sym, ap, subst, ◌∙◌, inl, inr, arith}
+use Rattle.std.proofs.Common.{◌≡◌, ℕ, ◌+◌, ◌<◌, Bool, true, false, nat_lt, ◌&&◌, ◌||◌, List, length, get_or, drop, refl, sym, ap, subst, ◌∙◌, inl, inr, arith}
 use Rattle.std.specs.Prelude.{Contains, All}
-use Rattle.std.specs.List.{list_any, range_with_len}
-use Rattle.std.proofs.lemmas.Bool.{cases_Bool, both_ways, or_cases, or_left, or_right, and_parts, and_from, lt-ltb, ltb-true}
+use Rattle.std.specs.List.{list_any}
+use Rattle.std.proofs.lemmas.Bool.{cases_Bool, or_cases, or_left, or_right, and_parts, and_from, lt-ltb, ltb-true}
 use Rattle.std.proofs.lemmas.List.{get_or_default, get_or-drop, length-drop}
 use Rattle.scan_model.specs.declared.parts.PatternKind.{PatternKind}
 use Rattle.scan_model.specs.declared.parts.PatternKind.TheVariants.{Capture, Shift}
@@ -18,7 +18,7 @@ use Rattle.scan_model.specs.declared.fault.BridgeKind.{BridgeKind}
 use Rattle.scan_model.specs.Faults.{bridged}
 use Rattle.scan_model.specs.Masks.{IsLogic}
 use Rattle.scan_model.specs.declared.circuit.Driver.{Driver}
-use Rattle.scan_model.specs.declared.circuit.Driver.TheVariants.{Input, Flop, Gate}
+use Rattle.scan_model.specs.declared.circuit.Driver.TheVariants.{Input}
 use Rattle.scan_model.specs.declared.circuit.PinPlace.{PinPlace}
 use Rattle.scan_model.specs.declared.circuit.PinPlace.TheVariants as place
 use Rattle.scan_model.specs.Netlist.{IsPlacedAt, driver_of}
@@ -28,7 +28,7 @@ use Rattle.lane_rows.specs.declared.block.Block.{Block}
 use Rattle.lane_rows.specs.Lanes.{lane}
 use Rattle.lane_rows.specs.Sources.{lane_values}
 use Rattle.lane_rows.specs.GoodRows.{same_kind, pattern_of, AreBlockRows}
-use Rattle.back_trace.specs.Fails.{any_fail, fails_at, explains_in, IsWithin, Tells}
+use Rattle.back_trace.specs.Fails.{any_fail, fails_at, explains_in, IsWithin}
 use Rattle.back_trace.specs.Traces.{lane_at, is_shifted_through, IsPlaceIn}
 use Rattle.back_trace.proofs.Ranges.{any_at, any_there, any_none}
 

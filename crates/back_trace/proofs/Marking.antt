@@ -1,5 +1,5 @@
 -- The faults that are marked after each block, and the list of the suspects.
-use Rattle.std.proofs.Common.{◌≡◌, ◌⊎◌, ℕ, zero, suc, ◌+◌, ◌*◌, ◌-◌, ◌/◌, ◌<◌, ◌≤◌, Bool, true, false, nat_lt, ltb, ◌&&◌, ◌||◌, List, [], ◌∷◌, ◌++◌, length, map, get_or, set, Option, Some, Result, Ok, Err, refl, sym, ap, subst, ◌∙◌, inl, inr, arith}
+use Rattle.std.proofs.Common.{◌≡◌, ℕ, suc, ◌+◌, ◌*◌, ◌-◌, ◌/◌, ◌<◌, Bool, true, false, nat_lt, ◌&&◌, ◌||◌, List, [], ◌∷◌, length, map, get_or, set, Some, Result, Ok, Err, refl, sym, ap, subst, ◌∙◌, inl, inr, arith}
 use Rattle.std.specs.Prelude.{Contains, flat_map, filter, slice_get, IfOk}
 use Rattle.std.specs.List.{list_any, range_with_len, enumerate_from}
 use Rattle.std.proofs.lemmas.Bool.{cases_Bool, cases_lt, cases_eq, both_ways, and_parts, and_from, lt-ltb, le-ltb, ltb-true}
@@ -13,7 +13,7 @@ use Rattle.scan_model.specs.Marks.{is_marked}
 use Rattle.scan_model.specs.Walks.{IsEvaluationOrder}
 use Rattle.scan_model.specs.ScanTest.{ScanTest, IsScanTest, pattern_at, points_of, point_at}
 use Rattle.scan_model.specs.Universe.{universe}
-use Rattle.scan_model.specs.Coverage.{bit_of, bits_of}
+use Rattle.scan_model.specs.Coverage.{bit_of}
 use Rattle.scan_model.specs.declared.values.Tri.{Tri}
 use Rattle.scan_model.specs.ChainShift.{value_at}
 use Rattle.scan_model.specs.Response.{expected_rows}

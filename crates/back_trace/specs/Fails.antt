@@ -1,5 +1,5 @@
 -- The failing bits of a block of 512 patterns, as a row of lanes for each point, and what can explain them.
-use Rattle.std.specs.Prelude.{◌≡◌, ℕ, ◌+◌, ◌*◌, ◌<◌, List, [], length, Bool, true, ◌&&◌, nat_lt, slice_index_or}
+use Rattle.std.specs.Prelude.{◌≡◌, ℕ, ◌<◌, List, [], length, Bool, true, ◌&&◌, nat_lt, slice_index_or}
 use Rattle.std.specs.List.{range_with_len, list_any}
 use Rattle.scan_model.specs.declared.values.Tri.{Tri}
 use Rattle.scan_model.specs.declared.parts.Point.{Point}

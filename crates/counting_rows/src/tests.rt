@@ -1,3 +1,4 @@
 mod designs;
 mod fails;
 mod plain;
+mod steps;

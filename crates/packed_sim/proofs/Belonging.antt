@@ -1,16 +1,14 @@
 -- What is known of a scratch and of rows that belong to a test.
-use Rattle.std.proofs.Common.{◌≡◌, ℕ, zero, suc, ◌+◌, ◌*◌, ◌<◌, ◌≤◌, Bool, true, false, cond, eqb, ltb, ◌&&◌, ◌||◌, List, [], ◌∷◌, length, map, get_or, Option, None, Some, unwrap_or, ◌≢◌, refl, sym, ap, subst, ◌∙◌, inl, inr, arith}
-use Rattle.std.specs.Prelude.{filter, count_by, is_some}
-use Rattle.std.specs.List.{list_any, range_with_len}
-use Rattle.std.proofs.lemmas.Bool.{cases_Bool, both_ways, and_parts, and_from, ltb-true}
+use Rattle.std.proofs.Common.{◌≡◌, ℕ, ◌<◌, ◌≤◌, Bool, true, false, cond, ltb, ◌&&◌, List, length, get_or, Option, None, Some, unwrap_or, ◌≢◌, refl, sym, ap, ◌∙◌, arith}
+use Rattle.std.specs.Prelude.{count_by, is_some}
+use Rattle.std.specs.List.{list_any}
+use Rattle.std.proofs.lemmas.Bool.{both_ways, and_parts, ltb-true}
 use Rattle.std.proofs.lemmas.List.{length-map, get_or-map}
 use Rattle.std.proofs.lemmas.List.FromFn.{length-range_with_len}
 use Rattle.std.proofs.lemmas.List.Sums.{count_by-le-length}
 use Rattle.scan_model.specs.declared.values.Tri.{Tri}
-use Rattle.scan_model.specs.declared.values.Tri.TheVariants.{Unknown}
 use Rattle.scan_model.specs.declared.parts.PatternKind.{PatternKind}
 use Rattle.scan_model.specs.declared.parts.PatternKind.TheVariants.{Capture, Shift}
-use Rattle.scan_model.specs.declared.parts.Point.{Point}
 use Rattle.scan_model.specs.declared.parts.Point.TheVariants.{Output}
 use Rattle.scan_model.specs.Values.{are_opposite, tri_not}
 use Rattle.scan_model.specs.Netlist.{Netlist, is_gate, net_numbers}
@@ -23,15 +21,14 @@ use Rattle.scan_model.specs.Force.{force}
 use Rattle.scan_model.specs.Masks.{flipped, flip_shows}
 use Rattle.scan_model.proofs.counting.Shown.{not_opposite_itself, observed_net-in_range, point_at-IsPoint}
 use Rattle.scan_model.proofs.counting.Masks.{force_shows}
-use Rattle.lane_rows.specs.Lanes.{lane}
 use Rattle.lane_rows.specs.Planes.{Planes, held}
-use Rattle.lane_rows.specs.GoodRows.{AreBlockRows, pattern_of, same_kind}
+use Rattle.lane_rows.specs.GoodRows.{pattern_of, same_kind}
 use Rattle.packed_sim.specs.declared.good.PackedGood.{PackedGood}
 use Rattle.packed_sim.specs.declared.scratch.Scratch.{Scratch}
 use Rattle.packed_sim.specs.Places.{has_place, room}
 use Rattle.packed_sim.specs.Rows.{no_row}
 use Rattle.packed_sim.specs.Spread.{FitsScratch, IsForced, AreGood, is_behind}
-use Rattle.packed_sim.specs.Belongs.{BelongsTo, IsScratchIn, IsScratchOf, block_at, good_at, now_at, observed_at, captures, has_own_row, gates_behind}
+use Rattle.packed_sim.specs.Belongs.{BelongsTo, IsScratchIn, block_at, good_at, now_at, observed_at, captures, has_own_row, gates_behind}
 use Rattle.packed_sim.proofs.Once.{counted_once}
 
 pub order_short : (c : Netlist) (order : List ℕ) → IsEvaluationOrder c order → length order ≤ length c.nets

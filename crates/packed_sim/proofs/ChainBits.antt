@@ -1,18 +1,16 @@
 -- The bits of a word at which a fault of a shift path predicts a fail.
-use Rattle.std.proofs.Common.{◌≡◌, ◌⊎◌, ℕ, ◌+◌, ◌*◌, ◌/◌, ◌%◌, ◌<◌, Bool, true, false, cond, ltb, ◌&&◌, ◌||◌, List, [], length, None, Some, refl, sym, ap, ◌∙◌, inl, inr, arith}
-use Rattle.std.proofs.lemmas.Bool.{cases_Bool, ltb-true, lt-ltb}
+use Rattle.std.proofs.Common.{◌≡◌, ℕ, ◌<◌, Bool, true, false, cond, ltb, ◌&&◌, ◌||◌, length, None, Some, refl, sym, ap, ◌∙◌, inl, inr}
+use Rattle.std.proofs.lemmas.Bool.{cases_Bool, lt-ltb}
 use Rattle.scan_model.specs.declared.values.Tri.{Tri}
 use Rattle.scan_model.specs.declared.parts.PatternKind.{PatternKind}
 use Rattle.scan_model.specs.declared.parts.PatternKind.TheVariants.{Capture, Shift}
-use Rattle.scan_model.specs.declared.parts.Point.{Point}
 use Rattle.scan_model.specs.declared.parts.Point.TheVariants.{Cell}
 use Rattle.scan_model.specs.declared.fault.CellKind.{CellKind}
 use Rattle.scan_model.specs.declared.fault.Fault.TheVariants as fault
 use Rattle.scan_model.specs.Values.{are_opposite}
-use Rattle.scan_model.specs.Walks.{IsEvaluationOrder}
 use Rattle.scan_model.specs.ScanTest.{ScanTest, IsScanTest, IsPoint, chain_at, pattern_at, points_of, point_at}
 use Rattle.scan_model.specs.ChainShift.{value_at}
-use Rattle.scan_model.specs.Loads.{load, cell}
+use Rattle.scan_model.specs.Loads.{cell}
 use Rattle.scan_model.specs.NetValue.{good_value, net_value}
 use Rattle.scan_model.specs.Coverage.{bit_of}
 use Rattle.scan_model.specs.Response.{predicts_fail, observed}
@@ -26,9 +24,9 @@ use Rattle.packed_sim.specs.declared.good.PackedGood.{PackedGood}
 use Rattle.packed_sim.specs.declared.scratch.Scratch.{Scratch}
 use Rattle.packed_sim.specs.Belongs.{BelongsTo, good_at, now_at, observed_at, captures}
 use Rattle.packed_sim.specs.Loaded.{IsLoaded}
-use Rattle.packed_sim.proofs.Belonging.{captures_there, captures_kind, good_is, observed_in_range, observed_live}
+use Rattle.packed_sim.proofs.Belonging.{good_is, observed_in_range, observed_live}
 use Rattle.packed_sim.proofs.Loading.{good_load}
-use Rattle.packed_sim.proofs.FaultBits.{pattern_is, lane_inside, block_inside, kinds, and_false}
+use Rattle.packed_sim.proofs.FaultBits.{kinds, and_false}
 
 module _ (t : ScanTest) (sound : IsScanTest t) (g : PackedGood) (belongs : BelongsTo t g) (h c : ℕ) (K : CellKind) where
   -- a point outside the chain shows its net where the pattern captures, and nothing where it only shifts

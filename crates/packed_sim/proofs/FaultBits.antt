@@ -1,14 +1,13 @@
 -- The bits of a word at which a fault predicts a fail, from the values that its lanes have now.
-use Rattle.std.proofs.Common.{◌≡◌, ◌⊎◌, ℕ, zero, suc, ◌+◌, ◌*◌, ◌/◌, ◌%◌, ◌<◌, ◌≤◌, Bool, true, false, cond, eqb, ltb, ◌&&◌, ◌||◌, List, [], ◌∷◌, length, get_or, set, Option, None, Some, unwrap_or, refl, sym, ap, subst, ◌∙◌, inl, inr, arith}
+use Rattle.std.proofs.Common.{◌≡◌, ◌⊎◌, ℕ, ◌+◌, ◌*◌, ◌/◌, ◌%◌, ◌<◌, Bool, true, false, cond, eqb, ltb, ◌&&◌, ◌||◌, List, [], ◌∷◌, length, get_or, set, Option, None, Some, unwrap_or, refl, sym, ap, ◌∙◌, inl, inr, arith}
 use Rattle.std.specs.Prelude.{Contains}
 use Rattle.std.specs.List.{list_any}
-use Rattle.std.proofs.lemmas.Bool.{cases_Bool, cases_eq, both_ways, eq-eqb}
+use Rattle.std.proofs.lemmas.Bool.{cases_Bool, cases_eq, both_ways}
 use Rattle.std.proofs.lemmas.List.{get_or-set_same, get_or-set_other}
 use Rattle.std.specs.Int.{bit_at}
 use Rattle.scan_model.specs.declared.values.Tri.{Tri}
 use Rattle.scan_model.specs.declared.circuit.Driver.{Driver}
 use Rattle.scan_model.specs.declared.circuit.Driver.TheVariants as driver
-use Rattle.scan_model.specs.declared.circuit.GateKind.{GateKind}
 use Rattle.scan_model.specs.declared.circuit.PinPlace.{PinPlace}
 use Rattle.scan_model.specs.declared.circuit.PinPlace.TheVariants as place
 use Rattle.scan_model.specs.declared.parts.PatternKind.{PatternKind}
@@ -23,8 +22,8 @@ use Rattle.scan_model.specs.Faults.{stuck_value, bridged, forced_pin}
 use Rattle.scan_model.specs.Netlist.{is_gate, is_gate_driver, driver_of, pin_at}
 use Rattle.scan_model.specs.Walks.{IsEvaluationOrder}
 use Rattle.scan_model.specs.Cone.{in_fan_in}
-use Rattle.scan_model.specs.ScanTest.{ScanTest, IsScanTest, IsPoint, pattern_at, points_of, point_at}
-use Rattle.scan_model.specs.NetValue.{Forced, values_of, source_of, good_value, net_value}
+use Rattle.scan_model.specs.ScanTest.{ScanTest, IsScanTest, pattern_at, points_of, point_at}
+use Rattle.scan_model.specs.NetValue.{values_of, source_of, good_value, net_value}
 use Rattle.scan_model.specs.Universe.{universe}
 use Rattle.scan_model.specs.Coverage.{bit_of}
 use Rattle.scan_model.specs.Response.{predicts_fail, observed}
@@ -38,9 +37,8 @@ use Rattle.scan_model.proofs.counting.Masks.{masks-capture, masks-shift}
 use Rattle.lane_rows.specs.Planes.{Planes, held}
 use Rattle.lane_rows.specs.GoodRows.{pattern_of, same_kind}
 use Rattle.packed_sim.specs.declared.good.PackedGood.{PackedGood}
-use Rattle.packed_sim.specs.declared.scratch.Scratch.{Scratch}
 use Rattle.packed_sim.specs.Spread.{AreApart}
-use Rattle.packed_sim.specs.Belongs.{BelongsTo, good_at, now_at, observed_at, captures}
+use Rattle.packed_sim.specs.Belongs.{BelongsTo, good_at, observed_at, captures}
 use Rattle.packed_sim.proofs.Belonging.{captures_kind, good_is, observed_in_range}
 use Rattle.packed_sim.proofs.Forcing.{two_of}
 

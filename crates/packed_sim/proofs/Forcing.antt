@@ -1,21 +1,19 @@
 -- One net forced in a clean scratch, or two.
-use Rattle.std.proofs.Common.{◌≡◌, ◌≢◌, ◌⊎◌, ℕ, zero, suc, ◌<◌, ◌≤◌, Bool, true, false, cond, eqb, ◌||◌, List, [], ◌∷◌, length, Option, Some, None, get_or, refl, sym, ap, subst, ◌∙◌, inl, inr, unwrap_or, arith}
-use Rattle.std.specs.Prelude.{Contains, count_by}
-use Rattle.std.specs.List.{list_any}
-use Rattle.std.proofs.lemmas.Bool.{both_ways, eq-eqb, ne_eqb, eqb-true, or_cases, or_left, or_right}
+use Rattle.std.proofs.Common.{◌≡◌, ◌⊎◌, ℕ, zero, suc, ◌<◌, Bool, true, false, cond, eqb, ◌||◌, List, [], ◌∷◌, length, Some, None, get_or, refl, sym, ap, ◌∙◌, inl, inr, unwrap_or, arith}
+use Rattle.std.specs.Prelude.{Contains}
+use Rattle.std.proofs.lemmas.Bool.{both_ways, eq-eqb, ne_eqb, or_right}
 use Rattle.std.proofs.lemmas.List.Elements.{Contains-get_or}
 use Rattle.scan_model.specs.declared.values.Tri.{Tri}
-use Rattle.scan_model.specs.Netlist.{Netlist, IsNetlist, is_gate, driver_of}
+use Rattle.scan_model.specs.Netlist.{Netlist, IsNetlist, driver_of}
 use Rattle.scan_model.specs.Walks.{IsEvaluationOrder}
-use Rattle.scan_model.specs.Cone.{in_fan_in}
-use Rattle.scan_model.specs.NetValue.{Forced, driven, net_node, values_of, nothing_forced}
+use Rattle.scan_model.specs.NetValue.{Forced, driven, nothing_forced}
 use Rattle.scan_model.specs.Force.{force}
 use Rattle.scan_model.proofs.counting.OneSite.{force_two}
 use Rattle.lane_rows.specs.Planes.{Planes, held}
 use Rattle.packed_sim.specs.declared.scratch.Scratch.{Scratch}
 use Rattle.packed_sim.specs.Places.{has_place, room}
 use Rattle.packed_sim.specs.Rows.{IsClean}
-use Rattle.packed_sim.specs.Spread.{lane_now, sinks_of, IsWired, Covers, FitsScratch, IsWithin, IsOpen, IsSettled, IsSet, LeadsUp, AreGood, AreApart, IsFree, IsClosed, IsForced, is_behind}
+use Rattle.packed_sim.specs.Spread.{lane_now, sinks_of, IsWired, Covers, FitsScratch, IsWithin, IsOpen, IsSettled, IsSet, AreGood, AreApart, IsFree, IsClosed, IsForced, is_behind}
 use Rattle.packed_sim.proofs.Spreading.{live_values, behind_closed, behind_free, set_fits, set_within, set_keeps_open, clean_open, same_node}
 
 -- ---- one net or two

@@ -1,9 +1,8 @@
 -- A chain loaded cell by cell, from the last position down, and what its positions then show.
-use Rattle.std.proofs.Common.{◌≡◌, ◌≢◌, ◌⊎◌, ℕ, zero, suc, ◌+◌, ◌-◌, ◌<◌, ◌≤◌, Bool, true, false, cond, eqb, ◌&&◌, ◌||◌, List, [], ◌∷◌, length, map, get_or, set, drop, ltb, Option, None, Some, unwrap_or, refl, sym, ap, subst, ◌∙◌, inl, inr, arith}
+use Rattle.std.proofs.Common.{◌≡◌, ℕ, ◌+◌, ◌-◌, ◌<◌, ◌≤◌, Bool, true, false, cond, ◌&&◌, List, [], length, get_or, drop, ltb, Option, None, Some, unwrap_or, refl, sym, ap, subst, ◌∙◌, inl, inr, arith}
 use Rattle.std.specs.Prelude.{Contains}
-use Rattle.std.specs.List.{list_any}
 use mathlib.Core.Path.{fun_ext}
-use Rattle.std.proofs.lemmas.Bool.{cases_Bool, cases_eq, cases_lt, both_ways, lt-ltb}
+use Rattle.std.proofs.lemmas.Bool.{cases_eq, cases_lt, both_ways, lt-ltb}
 use Rattle.std.proofs.lemmas.List.{get_or-drop, length-drop, length-map, get_or_default, get_or_past}
 use Rattle.std.proofs.lemmas.List.FromFn.{length-map-range_with_len}
 use Rattle.scan_model.specs.declared.values.Tri.{Tri}
@@ -17,13 +16,12 @@ use Rattle.scan_model.specs.declared.parts.Point.{Point}
 use Rattle.scan_model.specs.declared.parts.Point.TheVariants.{Cell}
 use Rattle.scan_model.specs.declared.parts.PatternKind.{PatternKind}
 use Rattle.scan_model.specs.declared.parts.PatternKind.TheVariants.{Capture, Shift}
-use Rattle.scan_model.specs.Netlist.{Netlist, IsNetlist, is_gate, reads, driver_of}
+use Rattle.scan_model.specs.Netlist.{Netlist, IsNetlist, is_gate, driver_of}
 use Rattle.scan_model.specs.Walks.{IsEvaluationOrder}
-use Rattle.scan_model.specs.Cone.{in_fan_in}
-use Rattle.scan_model.specs.ScanTest.{ScanTest, IsScanTest, IsFlop, chain_at, no_chain, pattern_at, no_pattern, points_of, point_at}
-use Rattle.scan_model.specs.ChainShift.{value_at, passed, loaded_at, load_with, unload_passes, unloaded_at}
+use Rattle.scan_model.specs.ScanTest.{ScanTest, IsScanTest, IsFlop, chain_at, no_chain, pattern_at, no_pattern}
+use Rattle.scan_model.specs.ChainShift.{value_at, passed, loaded_at, load_with, unload_passes}
 use Rattle.scan_model.specs.Loads.{load, cell}
-use Rattle.scan_model.specs.NetValue.{Forced, driven, net_node, values_of, source_of, nothing_forced, good_value, net_value, pin_value}
+use Rattle.scan_model.specs.NetValue.{Forced, driven, values_of, source_of, nothing_forced, pin_value}
 use Rattle.scan_model.specs.Response.{observed, captured, data_pin}
 use Rattle.scan_model.specs.Suspect.{observed_net}
 use Rattle.scan_model.proofs.Cells.{cell_is_leaf, cell_is_flop_of}
@@ -39,11 +37,11 @@ use Rattle.lane_rows.specs.GoodRows.{pattern_of, same_kind}
 use Rattle.packed_sim.specs.declared.good.PackedGood.{PackedGood}
 use Rattle.packed_sim.specs.declared.scratch.Scratch.{Scratch}
 use Rattle.packed_sim.specs.Places.{has_place, room}
-use Rattle.packed_sim.specs.Rows.{IsClean, row_now, no_row}
-use Rattle.packed_sim.specs.Spread.{lane_now, FitsScratch, Covers, LeadsUp, IsClosed, IsFree, IsWithin, IsOpen, IsSettled, IsSet, AreApart, is_behind}
-use Rattle.packed_sim.specs.Belongs.{BelongsTo, IsScratchIn, IsScratchOf, block_at, good_at, now_at, captures, observed_at}
-use Rattle.packed_sim.specs.Loaded.{HoldLoads, IsOpenLoad, IsLoaded, passed_value}
-use Rattle.packed_sim.proofs.Spreading.{live_values, behind_closed, behind_free, set_fits, set_within, set_here, set_elsewhere, set_keeps_open, clean_open}
+use Rattle.packed_sim.specs.Rows.{row_now, no_row}
+use Rattle.packed_sim.specs.Spread.{lane_now, FitsScratch, Covers, IsClosed, IsFree, IsWithin, IsOpen, IsSettled, IsSet, AreApart, is_behind}
+use Rattle.packed_sim.specs.Belongs.{BelongsTo, IsScratchIn, IsScratchOf, block_at, good_at, now_at, captures}
+use Rattle.packed_sim.specs.Loaded.{IsOpenLoad, IsLoaded, passed_value}
+use Rattle.packed_sim.proofs.Spreading.{live_values, behind_closed, behind_free, set_fits, set_here, set_elsewhere, set_keeps_open, clean_open}
 use Rattle.packed_sim.proofs.Belonging.{fits_of, inside_of, are_good, captures_there, captures_kind, observed_live}
 use Rattle.packed_sim.proofs.FaultBits.{kinds, and_false}
 use Rattle.packed_sim.proofs.CellPlaces.{cells_apart, point_of_cell}

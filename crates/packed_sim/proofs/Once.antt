@@ -1,17 +1,16 @@
 -- An order of evaluation has each gate once, so what it counts of the gates is what the circuit has of them.
-use Rattle.std.proofs.Common.{◌≡◌, ◌≢◌, ◌⊎◌, ℕ, zero, suc, ◌+◌, ◌<◌, ◌≤◌, Bool, true, false, cond, eqb, ◌&&◌, List, [], ◌∷◌, length, map, get_or, set, take, refl, sym, ap, subst, ◌∙◌, inl, inr, arith}
-use Rattle.std.specs.Prelude.{Contains, filter, count_by}
+use Rattle.std.proofs.Common.{◌≡◌, ◌≢◌, ◌⊎◌, ℕ, zero, suc, ◌+◌, ◌<◌, ◌≤◌, Bool, true, false, cond, eqb, ◌&&◌, List, [], ◌∷◌, length, map, get_or, set, refl, sym, ap, ◌∙◌, inl, inr, arith}
+use Rattle.std.specs.Prelude.{filter, count_by}
 use Rattle.std.specs.List.{list_any, range_with_len, IsDistinct, AllByRecursion}
 use Rattle.std.proofs.lemmas.Bool.{cases_Bool, cases_eq, cases_lt, both_ways, eq-eqb, ne_eqb, eqb-true, or_cases, or_left, or_right, and_from}
 use Rattle.std.proofs.lemmas.List.{get_or-set_same, get_or-set_other, length-set, length-map, get_or_default}
-use Rattle.std.proofs.lemmas.List.FromFn.{length-range_with_len}
 use Rattle.std.proofs.lemmas.List.Sums.{length-filter}
-use Rattle.std.proofs.lemmas.Map.Keys.{IsDistinct-cons, IsDistinct-head, IsDistinct-tail}
+use Rattle.std.proofs.lemmas.Map.Keys.{IsDistinct-cons}
 use Rattle.std.proofs.lemmas.Map.Steps.{length-le_from_distinct_below}
 use Rattle.scan_model.specs.Netlist.{Netlist, is_gate, net_numbers}
 use Rattle.scan_model.specs.Walks.{IsEvaluationOrder}
 use Rattle.scan_model.proofs.FanSweeps.{any_found, any_among}
-use Rattle.scan_model.proofs.Orders.{filter_range_at, filter_range_all, Contains-cons}
+use Rattle.scan_model.proofs.Orders.{filter_range_at, filter_range_all}
 
 -- the first place of a number
 first : List ℕ → ℕ → ℕ

@@ -1,6 +1,5 @@
 -- The lanes in which a stuck operand flips its gate.
-use Rattle.std.proofs.Common.{◌≡◌, ℕ, zero, suc, ◌+◌, ◌<◌, ◌≤◌, Bool, true, false, eqb, ◌&&◌, ◌||◌, List, [], ◌∷◌, length, map, refl, sym, ap, subst, ◌∙◌, arith}
-use Rattle.std.specs.Prelude.{count_by}
+use Rattle.std.proofs.Common.{◌≡◌, ℕ, zero, suc, ◌+◌, ◌<◌, ◌≤◌, Bool, true, ◌&&◌, List, length, map, refl, sym, ap, subst, ◌∙◌, arith}
 use Rattle.std.specs.List.{range_with_len}
 use Rattle.std.proofs.lemmas.Bool.{eq-eqb}
 use Rattle.std.proofs.lemmas.List.FromFn.{get_or-map-range_with_len}
@@ -14,11 +13,11 @@ use Rattle.scan_model.specs.declared.fault.Stuck.{Stuck}
 use Rattle.scan_model.specs.declared.fault.Fault.TheVariants as fault
 use Rattle.scan_model.specs.Values.{are_opposite}
 use Rattle.scan_model.specs.Faults.{stuck_value}
-use Rattle.scan_model.specs.Netlist.{IsNetlist, IsPlacedAt, driver_of, net_at, pin_at, reads, operands}
+use Rattle.scan_model.specs.Netlist.{IsNetlist, IsPlacedAt, driver_of, net_at, pin_at}
 use Rattle.scan_model.specs.ChainShift.{value_at}
 use Rattle.scan_model.specs.ScanTest.{ScanTest, IsScanTest}
 use Rattle.scan_model.specs.NetValue.{good_value}
-use Rattle.scan_model.specs.BranchMask.{in_the_way, senses}
+use Rattle.scan_model.specs.BranchMask.{senses}
 use Rattle.scan_model.specs.Masks.{mask, forced_output, operand_values, is_operand_of}
 use Rattle.scan_model.proofs.counting.BranchPins.{branch_flips}
 use Rattle.lane_rows.specs.GoodRows.{pattern_of}

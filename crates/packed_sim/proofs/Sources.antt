@@ -1,8 +1,8 @@
 -- Marks that are carried back to all that leads to a net, and the places of the gates that read one.
-use Rattle.std.proofs.Common.{◌≡◌, ◌≢◌, ℕ, zero, suc, ◌+◌, ◌<◌, ◌≤◌, Bool, true, false, cond, eqb, ◌&&◌, ◌||◌, List, [], ◌∷◌, length, map, get_or, refl, sym, ap, subst, ◌∙◌, inl, inr, arith}
+use Rattle.std.proofs.Common.{◌≡◌, ℕ, zero, suc, ◌+◌, ◌<◌, ◌≤◌, Bool, true, false, cond, eqb, ◌&&◌, ◌||◌, List, [], ◌∷◌, length, map, get_or, refl, sym, ap, subst, ◌∙◌, inl, inr, arith}
 use Rattle.std.specs.Prelude.{Contains, filter}
 use Rattle.std.specs.List.{list_any, range_with_len}
-use Rattle.std.proofs.lemmas.Bool.{cases_Bool, cases_eq, cases_lt, both_ways, eq-eqb, eqb-true, or_cases, and_parts, and_from}
+use Rattle.std.proofs.lemmas.Bool.{cases_Bool, cases_lt, eq-eqb, eqb-true, or_cases, and_parts, and_from}
 use Rattle.std.proofs.lemmas.List.{get_or_default}
 use Rattle.std.proofs.lemmas.List.FromFn.{length-map-range_with_len, get_or-map-range_with_len}
 use Rattle.scan_model.specs.declared.circuit.Driver.{Driver}
@@ -11,12 +11,11 @@ use Rattle.scan_model.specs.declared.circuit.PinPlace.{PinPlace}
 use Rattle.scan_model.specs.declared.circuit.PinPlace.TheVariants as place
 use Rattle.scan_model.specs.Netlist.{Netlist, IsNetlist, IsPlacedAt, is_gate, is_gate_driver, reads, driver_of, net_at, pin_at}
 use Rattle.scan_model.specs.Walks.{IsEvaluationOrder, along, any_read}
-use Rattle.scan_model.specs.Cone.{in_fan_in}
 use Rattle.scan_model.proofs.Along.{in_front}
 use Rattle.scan_model.proofs.Orders.{filter_range_at, filter_range_all, Contains-cons}
 use Rattle.scan_model.proofs.FanSweeps.{any_found, fan_node, is_read, reads_in_range}
-use Rattle.packed_sim.specs.Spread.{IsWired, Covers, LeadsUp, sinks_of}
-use Rattle.packed_sim.specs.Wired.{AreMarked, IsMadeFor, IsWiredFor, sink_key, sink_gate, place_key, place_gate}
+use Rattle.packed_sim.specs.Spread.{LeadsUp, sinks_of}
+use Rattle.packed_sim.specs.Wired.{AreMarked, IsMadeFor, sink_key, sink_gate, place_key, place_gate}
 use Rattle.packed_sim.proofs.Once.{places_agree}
 
 read_found : (c : Netlist) (p : ℕ → Bool) (n : ℕ) (x : Driver) → any_read c x p n ≡ true → (is_gate_driver x ≡ true) × ((r : ℕ) × Contains (reads c n) r × (p r ≡ true))

@@ -1,8 +1,8 @@
 -- One net forced in a clean scratch, and the values once nothing waits.
-use Rattle.std.proofs.Common.{◌≡◌, ◌≢◌, ◌⊎◌, ℕ, ◌<◌, Bool, true, false, not, cond, eqb, ◌||◌, List, length, get_or, set, Option, Some, None, unwrap_or, refl, sym, ap, subst, ◌∙◌, inl, inr, arith}
+use Rattle.std.proofs.Common.{◌≡◌, ◌≢◌, ◌⊎◌, ℕ, ◌<◌, Bool, true, false, not, cond, eqb, List, length, get_or, Option, Some, None, unwrap_or, refl, sym, ap, subst, ◌∙◌, inl, inr, arith}
 use Rattle.std.specs.Prelude.{Contains}
 use Rattle.std.specs.List.{list_any}
-use Rattle.std.proofs.lemmas.Bool.{cases_Bool, cases_eq, both_ways, eq-eqb, ne_eqb, eqb-true, or_cases, or_left, or_right, and_parts, and_from}
+use Rattle.std.proofs.lemmas.Bool.{cases_Bool, cases_eq, both_ways, eq-eqb, eqb-true, or_cases, or_left, or_right, and_parts, and_from}
 use Rattle.std.proofs.lemmas.List.{get_or-set_same, get_or-set_other, length-set, get_or_default}
 use Rattle.scan_model.specs.declared.values.Tri.{Tri}
 use Rattle.scan_model.specs.declared.circuit.Driver.{Driver}
@@ -13,13 +13,12 @@ use Rattle.scan_model.specs.Cone.{in_fan_in}
 use Rattle.scan_model.specs.NetValue.{Forced, driven, net_node, values_of, nothing_forced}
 use Rattle.scan_model.proofs.NetValues.{net_node_local, values_of-is}
 use Rattle.scan_model.proofs.FanSweeps.{any_found, any_among, in_own, in_of_read, reads_in_range}
-use Rattle.scan_model.specs.Force.{force}
 use Rattle.scan_model.proofs.counting.Valuations.{IsValuation, agree_apart, values_meet}
 use Rattle.scan_model.proofs.counting.Branches.{no_loop}
 use Rattle.lane_rows.specs.Planes.{Planes}
 use Rattle.packed_sim.specs.declared.scratch.Scratch.{Scratch}
 use Rattle.lane_rows.specs.Planes.{held}
-use Rattle.packed_sim.specs.Places.{has_place, room}
+use Rattle.packed_sim.specs.Places.{has_place}
 use Rattle.packed_sim.specs.Rows.{IsClean, no_row, row_now}
 use Rattle.packed_sim.specs.Spread.{lane_now, sinks_of, waits, IsWired, Covers, FitsScratch, IsClosed, IsFree, IsWithin, IsOpen, IsSet, HasMoved, LeadsUp, AreGood, AreApart, is_behind}
 use Rattle.packed_sim.proofs.Turns.{waits_from, waits_at}

@@ -1,14 +1,13 @@
 -- How many operands of a gate stand in the way, one operand after another.
-use Rattle.std.proofs.Common.{◌≡◌, ℕ, ◌+◌, ◌<◌, Bool, eqb, not, ◌&&◌, ◌||◌, List, [], ◌∷◌, ◌++◌, map, refl, sym, ap, ◌∙◌, arith}
+use Rattle.std.proofs.Common.{◌≡◌, ℕ, ◌+◌, Bool, eqb, not, ◌&&◌, ◌||◌, List, [], ◌∷◌, ◌++◌, map, sym, ap, ◌∙◌}
 use Rattle.std.specs.Prelude.{count_by}
-use Rattle.std.proofs.lemmas.List.{map-append, get_or_default}
-use Rattle.scan_model.specs.declared.values.Tri.{Tri}
+use Rattle.std.proofs.lemmas.List.{map-append}
 use Rattle.scan_model.specs.declared.circuit.GateKind.{GateKind}
 use Rattle.scan_model.specs.Netlist.{Netlist, net_at, pin_at}
 use Rattle.scan_model.specs.BranchMask.{in_the_way}
 use Rattle.scan_model.proofs.FanSweeps.{first_reads, first_reads_more}
 use Rattle.scan_model.proofs.counting.BranchMasks.{none_more, one_more}
-use Rattle.lane_rows.specs.Planes.{Planes, held}
+use Rattle.lane_rows.specs.Planes.{Planes}
 use Rattle.lane_rows.specs.Sources.{lane_values}
 
 pub record AreCounted (c : Netlist) (values : List Planes) (kind : GateKind) (gate i j : ℕ) (none one : Bool) : Type 0 where

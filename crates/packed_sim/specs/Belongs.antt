@@ -1,5 +1,5 @@
 -- What is made for the parts of a test, and what a scratch holds beside it.
-use Rattle.std.specs.Prelude.{◌≡◌, ℕ, ◌+◌, ◌*◌, ◌/◌, ◌%◌, ◌<◌, ◌≤◌, ◌^◌, All, List, [], ◌∷◌, length, map, filter, Bool, true, false, ◌&&◌, ◌==◌, nat_lt, is_some, None, slice_index_or}
+use Rattle.std.specs.Prelude.{◌≡◌, ℕ, ◌+◌, ◌*◌, ◌<◌, ◌≤◌, ◌^◌, All, List, [], length, map, filter, Bool, false, ◌&&◌, ◌==◌, nat_lt, is_some, None, slice_index_or}
 use Rattle.std.specs.List.{list_any, range_with_len}
 use Rattle.std.specs.Int.{bit_at}
 use Rattle.scan_model.specs.declared.values.Tri.{Tri}

@@ -1,6 +1,5 @@
 -- Which gates lead to a point, and which of them read a net.
-use Rattle.std.specs.Prelude.{◌≡◌, ℕ, ◌+◌, ◌<◌, List, [], length, map, filter, cond, Bool, true, ◌==◌, ◌&&◌, Contains, slice_index, slice_index_or}
-use Rattle.std.specs.List.{range_with_len}
+use Rattle.std.specs.Prelude.{◌≡◌, ℕ, ◌<◌, List, length, cond, Bool, true, ◌&&◌, Contains, slice_index}
 use Rattle.scan_model.specs.declared.circuit.PinPlace.{PinPlace}
 use Rattle.scan_model.specs.declared.circuit.PinPlace.TheVariants.{Operand, Output}
 use Rattle.scan_model.specs.Netlist.{Netlist, is_gate, reads, pin_at}

@@ -33,7 +33,7 @@ fn words_of<L: Ledger>(
     Ok(out)
 }
 
-fn has_word(parts: &Parts, word: u32) -> bool
+pub(crate) fn has_word(parts: &Parts, word: u32) -> bool
     ensures { result ≡ true → 64 * word < length parts.now.patterns }
 {
     let first = word as usize * 64;

@@ -1,4 +1,4 @@
-use Rattle.std.proofs.Common.{◌≡◌, ℕ, ◌+◌, ◌<◌, ◌||◌, ◌&&◌, ◌++◌, ◌∙◌, None, List, [], length, take, drop, get_or, sym, ap, subst, arith}
+use Rattle.std.proofs.Common.{◌≡◌, ℕ, ◌+◌, ◌||◌, ◌&&◌, ◌++◌, ◌∙◌, None, List, [], length, take, drop, get_or, sym, ap, subst, arith}
 use Rattle.std.specs.List.{list_any, range_with_len}
 use Rattle.std.proofs.lemmas.List.{take_at, get_or_default}
 use Rattle.scan_model.specs.declared.parts.Point.TheVariants.{Output}

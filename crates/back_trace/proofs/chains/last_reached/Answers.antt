@@ -1,6 +1,6 @@
-use Rattle.std.proofs.Common.{◌≡◌, ◌∙◌, ◌<◌, [], length, get_or, sym, subst, arith}
+use Rattle.std.proofs.Common.{◌≡◌, ◌∙◌, ◌<◌, [], length, get_or, arith}
 use Rattle.std.proofs.lemmas.List.{get_or_default}
-use Rattle.back_trace.proofs.ChainTraces.{IsLastOf, last_here, last_stays, last_is, some_lane}
+use Rattle.back_trace.proofs.ChainTraces.{last_here, last_stays, last_is, some_lane}
 use Rattle.back_trace.proofs.chains.last_reached.Goals as goal
 use Rattle.back_trace.proofs.chains.last_reached.Goals.{then-not-is_empty, else-not-is_empty}
 

@@ -1,11 +1,8 @@
-use Rattle.std.proofs.Common.{◌≡◌, ◌∙◌, ℕ, ◌<◌, ◌≤◌, ◌||◌, Bool, List, None, not, nat_lt, length, get_or, drop, ◌+◌, refl, sym, ap, subst}
-use Rattle.std.specs.Prelude.{All}
+use Rattle.std.proofs.Common.{ℕ, ◌||◌, None, not, nat_lt, get_or, drop, ◌+◌, refl}
 use Rattle.std.specs.List.{list_any}
-use Rattle.std.proofs.lemmas.List.{get_or_default}
-use Rattle.scan_model.specs.declared.fault.Fault.{Fault}
 use Rattle.scan_model.specs.declared.fault.Fault.TheVariants as fault
-use Rattle.scan_model.specs.ScanTest.{chain_at, no_chain, IsScanTest}
-use Rattle.back_trace.specs.Fails.{any_fail, explains_in, Tells}
+use Rattle.scan_model.specs.ScanTest.{chain_at}
+use Rattle.back_trace.specs.Fails.{any_fail, explains_in}
 use Rattle.back_trace.specs.Traces.{is_from, is_shifted_through, lane_at}
 use Rattle.lane_rows.specs.Lanes.{lane}
 use Rattle.back_trace.proofs.ChainTraces.{tells_or, tells_same, tells_row}

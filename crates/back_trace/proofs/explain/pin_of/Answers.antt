@@ -1,4 +1,3 @@
-use Rattle.std.proofs.Common.{◌≡◌, ◌∙◌, ℕ, ◌<◌, get_or, length}
 use Rattle.std.proofs.lemmas.List.{get_or_default}
 use Rattle.scan_model.specs.Netlist.{no_pin, pin_at}
 use Rattle.back_trace.proofs.Explained.{placed_in}

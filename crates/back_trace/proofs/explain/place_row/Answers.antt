@@ -1,15 +1,9 @@
-use Rattle.std.proofs.Common.{◌≡◌, ◌∙◌, ℕ, ◌<◌, ◌≤◌, ◌&&◌, Bool, true, false, List, [], length, get_or, refl, sym, ap, arith}
-use Rattle.std.specs.List.{list_any, range_with_len}
-use Rattle.scan_model.specs.declared.circuit.Net.{Net}
-use Rattle.scan_model.specs.declared.circuit.Driver.{Driver}
+use Rattle.std.proofs.Common.{◌≡◌, ◌∙◌, ℕ, ◌<◌, ◌&&◌, Bool, true, false, List, [], length, get_or, refl, sym, ap, arith}
 use Rattle.scan_model.specs.declared.circuit.PinPlace.{PinPlace}
-use Rattle.scan_model.specs.declared.circuit.PinPlace.TheVariants as place
 use Rattle.std.proofs.lemmas.List.{get_or_default}
-use Rattle.scan_model.specs.Netlist.{Netlist, driver_of, no_net}
-use Rattle.scan_model.specs.ScanTest.{points_of, point_at}
-use Rattle.scan_model.specs.Suspect.{place_reaches, operand_reaches, is_output}
+use Rattle.scan_model.specs.Suspect.{place_reaches}
 use Rattle.lane_rows.specs.Lanes.{lane}
-use Rattle.back_trace.specs.Fails.{any_fail, fails_at}
+use Rattle.back_trace.specs.Fails.{any_fail}
 use Rattle.scan_model.specs.declared.circuit.Driver.TheVariants.{Input, Flop, Gate}
 use Rattle.back_trace.proofs.Explained.{operand_is, input_reaches_none}
 use Rattle.back_trace.proofs.Points.{outputs_are_points, output_fails}

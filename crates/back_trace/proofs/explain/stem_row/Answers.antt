@@ -1,4 +1,4 @@
-use Rattle.std.proofs.Common.{◌≡◌, ◌∙◌, ℕ, ◌<◌, List, [], length, get_or, sym, ap, arith}
+use Rattle.std.proofs.Common.{◌≡◌, ◌∙◌, ℕ, List, [], length, get_or, sym, ap, arith}
 use Rattle.std.proofs.lemmas.List.{get_or_default}
 use Rattle.scan_model.specs.declared.fault.Fault.TheVariants as fault
 use Rattle.scan_model.specs.Values.{are_opposite}
@@ -7,7 +7,7 @@ use Rattle.scan_model.specs.Faults.{stuck_value}
 use Rattle.scan_model.specs.Suspect.{net_reaches}
 use Rattle.lane_rows.specs.Lanes.{lane}
 use Rattle.lane_rows.specs.Planes.{Planes, held}
-use Rattle.lane_rows.specs.Sources.{no_planes, lane_values}
+use Rattle.lane_rows.specs.Sources.{no_planes}
 use Rattle.lane_rows.specs.GoodRows.{pattern_of}
 use Rattle.scan_model.specs.declared.values.Tri.{Tri}
 use Rattle.back_trace.proofs.Explained.{logic_is, one_site_is, good_there}

@@ -1,10 +1,7 @@
-use Rattle.std.proofs.Common.{◌≡◌, ◌∙◌, ℕ, ◌<◌, List, length, get_or, Some, ap, arith}
-use Rattle.scan_model.specs.declared.parts.Point.{Point}
+use Rattle.std.proofs.Common.{◌∙◌, ◌<◌, length}
 use Rattle.scan_model.specs.declared.parts.Point.TheVariants.{Output}
-use Rattle.scan_model.specs.ScanTest.{points_of, point_at}
-use Rattle.back_trace.specs.Traces.{observes}
+use Rattle.scan_model.specs.ScanTest.{points_of}
 use Rattle.scan_model.proofs.Points.{points_are_points}
-use Rattle.back_trace.proofs.NetRows.{keys_more}
 use Rattle.back_trace.proofs.keys.observed_keys.Goals as goal
 
 pub observed_net-requires : goal.observed_net-requires

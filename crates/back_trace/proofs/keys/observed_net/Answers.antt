@@ -1,6 +1,4 @@
-use Rattle.std.proofs.Common.{◌∙◌, ◌≡◌, ℕ, ◌<◌}
 use Rattle.scan_model.proofs.Outputs.{output_in_range}
-use Rattle.scan_model.specs.ScanTest.{IsPoint}
 use Rattle.back_trace.proofs.keys.observed_net.Goals as goal
 
 pub returns-in-Output-clause-below : goal.returns-in-Output-clause-below

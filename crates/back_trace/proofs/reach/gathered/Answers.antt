@@ -1,4 +1,4 @@
-use Rattle.std.proofs.Common.{◌≡◌, ◌∙◌, ℕ, ◌<◌, ◌&&◌, ◌||◌, ◌++◌, Bool, List, [], None, length, take, drop, get_or, sym, ap, arith}
+use Rattle.std.proofs.Common.{◌≡◌, ◌∙◌, ℕ, ◌&&◌, ◌||◌, ◌++◌, Bool, List, [], None, length, take, drop, get_or, sym, ap}
 use Rattle.std.proofs.lemmas.List.{take_at, get_or_default}
 use Rattle.lane_rows.specs.Lanes.{lane}
 use Rattle.back_trace.specs.Keys.{is_key}

@@ -1,5 +1,4 @@
-use Rattle.std.proofs.Common.{◌≡◌, ◌∙◌, ℕ, ◌<◌, ◌&&◌, ◌||◌, eqb, Bool, List, [], length, get_or, set, sym, ap, arith, ◌+◌, ◌∷◌, ◌++◌}
-use Rattle.std.specs.List.{list_any}
+use Rattle.std.proofs.Common.{◌≡◌, ◌∙◌, ℕ, ◌<◌, ◌&&◌, ◌||◌, Bool, List, [], length, get_or, set, sym, ap, arith, ◌+◌, ◌∷◌, ◌++◌}
 use Rattle.std.proofs.lemmas.List.{get_or_default}
 use Rattle.scan_model.proofs.FanSweeps.{first_reads, first_reads_more}
 use Rattle.lane_rows.specs.Lanes.{lane}

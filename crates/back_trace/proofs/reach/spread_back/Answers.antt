@@ -1,4 +1,4 @@
-use Rattle.std.proofs.Common.{◌≡◌, ◌∙◌, ℕ, ◌+◌, ◌-◌, ◌<◌, subst, arith}
+use Rattle.std.proofs.Common.{◌≡◌, ℕ, ◌+◌, ◌-◌, subst, arith}
 use Rattle.scan_model.specs.Walks.{IsEvaluationOrder}
 use Rattle.back_trace.specs.Traces.{lane_at}
 use Rattle.back_trace.proofs.SweptBack.{IsSweptBack, swept_back_none, swept_back_more, swept_back_all}

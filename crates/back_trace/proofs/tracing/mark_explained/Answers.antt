@@ -1,4 +1,4 @@
-use Rattle.std.proofs.Common.{◌≡◌, ◌∙◌, ℕ, ◌<◌, Bool, length, get_or, sym, ap, subst, arith}
+use Rattle.std.proofs.Common.{◌≡◌, ℕ, ◌<◌, length, subst, arith}
 use Rattle.std.proofs.lemmas.List.{get_or_default}
 use Rattle.scan_model.specs.declared.fault.Fault.{Fault}
 use Rattle.back_trace.specs.Traces.{no_fault, AreMarked}

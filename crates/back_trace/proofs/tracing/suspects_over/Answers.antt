@@ -1,4 +1,4 @@
-use Rattle.std.proofs.Common.{◌≡◌, ◌∙◌, ℕ, ◌+◌, ◌*◌, ◌/◌, ◌<◌, ◌++◌, List, Some, length, take, drop, get_or, sym, ap, subst, arith}
+use Rattle.std.proofs.Common.{◌≡◌, ◌∙◌, ℕ, ◌+◌, ◌/◌, ◌<◌, ◌++◌, Some, length, take, drop, get_or, sym, ap, subst, arith}
 use Rattle.std.specs.Prelude.{Contains, filter, slice_get}
 use Rattle.std.specs.List.{range_with_len}
 use Rattle.std.proofs.lemmas.List.{take_at, get_or_default}
@@ -10,9 +10,8 @@ use Rattle.scan_model.specs.MatchCounts.{counts_of}
 use Rattle.scan_model.specs.Suspect.{suspects}
 use Rattle.scan_model.proofs.Sites.{universe_there}
 use Rattle.log_join.proofs.Fitting.{fits_expected}
-use Rattle.lane_rows.specs.declared.block.Block.{Block}
 use Rattle.lane_rows.specs.GoodRows.{AreBlockRows, no_block}
-use Rattle.back_trace.proofs.Marking.{AreMarkedTo, block_more, marks_are_suspects, outside_counts_none, if_ok}
+use Rattle.back_trace.proofs.Marking.{block_more, marks_are_suspects, outside_counts_none, if_ok}
 use Rattle.back_trace.proofs.tracing.suspects_over.Goals as goal
 
 pub fail_rows-requires-clause-expected : goal.fail_rows-requires-clause-expected

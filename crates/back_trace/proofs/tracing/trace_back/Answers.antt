@@ -1,12 +1,11 @@
-use Rattle.std.proofs.Common.{◌≡◌, ◌∙◌, ℕ, ◌+◌, ◌<◌, ◌&&◌, ◌++◌, List, [], length, take, drop, get_or, sym, ap, subst, arith}
+use Rattle.std.proofs.Common.{◌≡◌, ◌∙◌, ◌<◌, ◌&&◌, ◌++◌, length, take, drop, ap, subst}
 use Rattle.std.specs.List.{list_any}
 use Rattle.std.proofs.lemmas.List.{take_at}
 use Rattle.scan_model.specs.Netlist.{Netlist, net_numbers}
 use Rattle.scan_model.specs.Cone.{in_fan_in}
-use Rattle.scan_model.specs.ScanTest.{point_at, points_of}
+use Rattle.scan_model.specs.ScanTest.{point_at}
 use Rattle.scan_model.specs.Suspect.{is_cell}
 use Rattle.scan_model.proofs.counting.Shown.{observed_net-in_range, point_at-IsPoint}
-use Rattle.lane_rows.specs.Lanes.{lane}
 use Rattle.back_trace.specs.Traces.{lane_at, observes}
 use Rattle.back_trace.proofs.NetRows.{gathered_is, reached_is}
 use Rattle.back_trace.proofs.tracing.trace_back.Goals as goal

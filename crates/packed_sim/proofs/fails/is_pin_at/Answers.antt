@@ -1,5 +1,4 @@
 use Rattle.std.proofs.Common.{sym, subst}
-use Rattle.scan_model.specs.declared.parts.Point.{Point}
 use Rattle.scan_model.specs.ScanTest.{IsPoint}
 use Rattle.scan_model.proofs.counting.Shown.{point_at-IsPoint}
 use Rattle.packed_sim.proofs.fails.is_pin_at.Goals as goal

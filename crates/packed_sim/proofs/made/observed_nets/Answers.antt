@@ -1,4 +1,3 @@
-use Rattle.std.proofs.Common.{◌≡◌, ap, ◌∙◌}
 use Rattle.scan_model.proofs.Points.{points_are_points}
 use Rattle.packed_sim.proofs.Observed.{are_observed}
 use Rattle.packed_sim.proofs.made.observed_nets.Goals as goal

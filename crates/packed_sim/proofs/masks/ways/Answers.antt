@@ -1,4 +1,4 @@
-use Rattle.std.proofs.Common.{◌≡◌, ◌&&◌, Bool, ap, ◌∙◌, refl}
+use Rattle.std.proofs.Common.{◌&&◌, Bool, ap, ◌∙◌, refl}
 use Rattle.scan_model.specs.BranchMask.{in_the_way}
 use Rattle.lane_rows.specs.Lanes.{lane}
 use Rattle.lane_rows.specs.Planes.{Planes, held}

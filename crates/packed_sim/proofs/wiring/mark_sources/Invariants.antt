@@ -1,4 +1,4 @@
-use Rattle.std.proofs.Common.{◌≡◌, ℕ, length}
+use Rattle.std.proofs.Common.{length}
 use Rattle.scan_model.specs.Marks.{is_marked}
 use Rattle.packed_sim.proofs.Sources.{IsMarkedFrom}
 use Rattle.packed_sim.proofs.wiring.mark_sources.Given as goal

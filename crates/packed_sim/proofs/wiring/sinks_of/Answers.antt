@@ -1,4 +1,4 @@
-use Rattle.std.proofs.Common.{◌≡◌, ◌+◌, ◌<◌, ℕ, length, map, get_or, ap, ◌∙◌, arith}
+use Rattle.std.proofs.Common.{◌≡◌, ◌+◌, ◌<◌, length, map, get_or, ap, ◌∙◌, arith}
 use Rattle.scan_model.specs.Marks.{is_marked}
 use Rattle.packed_sim.proofs.Once.{once}
 use Rattle.packed_sim.proofs.Belonging.{order_short}

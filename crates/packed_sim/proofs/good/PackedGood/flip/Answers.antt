@@ -1,8 +1,5 @@
-use Rattle.std.proofs.Common.{refl, ◌∙◌, cond, ap, Bool}
-use Rattle.std.proofs.lemmas.Bool.{cases_Bool}
-use Rattle.scan_model.specs.Values.{tri_not}
+use Rattle.std.proofs.Common.{refl}
 use Rattle.lane_rows.specs.Lanes.{lane}
-use Rattle.lane_rows.specs.Planes.{held}
 use Rattle.packed_sim.specs.Belongs.{good_at, now_at, observed_at}
 use Rattle.packed_sim.proofs.Belonging.{flip_is}
 use Rattle.packed_sim.proofs.good.PackedGood.flip.Goals as goal

@@ -1,8 +1,6 @@
-use Rattle.std.proofs.Common.{ap, ◌∙◌, List, Bool, ◌&&◌}
+use Rattle.std.proofs.Common.{ap, ◌∙◌}
 use Rattle.lane_rows.specs.Lanes.{lane}
-use Rattle.lane_rows.specs.Planes.{Planes, held}
-use Rattle.scan_model.specs.Netlist.{Netlist}
-use Rattle.packed_sim.specs.Ways.{read_values, senses_of}
+use Rattle.lane_rows.specs.Planes.{held}
 use Rattle.packed_sim.specs.Belongs.{good_at}
 use Rattle.packed_sim.proofs.PinMasks.{gate_mask_is}
 use Rattle.packed_sim.proofs.good.PackedGood.gate_mask.Goals as goal

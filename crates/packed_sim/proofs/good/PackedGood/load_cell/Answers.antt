@@ -1,6 +1,5 @@
-use Rattle.std.proofs.Common.{◌≡◌, ◌<◌, ◌+◌, length, drop, sym, ap, subst, arith}
+use Rattle.std.proofs.Common.{◌+◌, drop, subst, arith}
 use Rattle.scan_model.specs.ScanTest.{chain_at}
-use Rattle.scan_model.specs.Loads.{cell}
 use Rattle.packed_sim.specs.Spread.{IsSet}
 use Rattle.packed_sim.proofs.Forcing.{places_fit}
 use Rattle.packed_sim.proofs.Spreading.{set_within, set_moved}

@@ -1,4 +1,4 @@
-use Rattle.std.proofs.Common.{◌≡◌, ◌+◌, ◌-◌, ℕ, true, subst, ◌∙◌, arith}
+use Rattle.std.proofs.Common.{◌≡◌, ◌+◌, ◌-◌, ℕ, subst, arith}
 use Rattle.std.proofs.lemmas.Bool.{both_ways}
 use Rattle.packed_sim.specs.Places.{has_place}
 use Rattle.packed_sim.specs.Loaded.{IsOpenLoad}

@@ -1,4 +1,4 @@
-use Rattle.std.proofs.Common.{◌≡◌, length, ◌∙◌, ap, arith}
+use Rattle.std.proofs.Common.{◌≡◌, length, ◌∙◌, arith}
 use Rattle.packed_sim.proofs.Observed.{points_are}
 use Rattle.packed_sim.proofs.good.PackedGood.make.Goals as goal
 

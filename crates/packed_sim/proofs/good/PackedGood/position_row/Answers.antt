@@ -1,4 +1,4 @@
-use Rattle.std.proofs.Common.{◌&&◌, ◌<◌, ℕ, Bool, Some, None, length, ltb, ap, ◌∙◌}
+use Rattle.std.proofs.Common.{◌&&◌, ◌<◌, Bool, Some, None, length, ltb, ap, ◌∙◌}
 use Rattle.std.proofs.lemmas.Bool.{ltb-true}
 use Rattle.scan_model.specs.declared.fault.Fault.TheVariants as fault
 use Rattle.scan_model.specs.declared.parts.Point.TheVariants as point

@@ -4,7 +4,7 @@ use Rattle.scan_model.specs.declared.parts.Point.{Point}
 use Rattle.scan_model.specs.declared.parts.Point.TheVariants.{Cell}
 use Rattle.scan_model.specs.declared.fault.Fault.TheVariants as fault
 use Rattle.scan_model.specs.Values.{are_opposite}
-use Rattle.scan_model.specs.ScanTest.{IsPoint, points_of, point_at}
+use Rattle.scan_model.specs.ScanTest.{IsPoint, point_at}
 use Rattle.scan_model.specs.Response.{observed}
 use Rattle.scan_model.proofs.counting.Shown.{point_at-IsPoint, predicts_fail-is}
 use Rattle.scan_model.proofs.counting.ChainSteps.{IsOutside}

@@ -1,5 +1,4 @@
-use Rattle.std.proofs.Common.{◌≡◌, ℕ, ◌+◌, ap, sym, ◌∙◌, cond, Bool}
-use Rattle.scan_model.specs.declared.values.Tri.{Tri}
+use Rattle.std.proofs.Common.{ap, sym, ◌∙◌, cond, Bool}
 use Rattle.lane_rows.specs.Lanes.{lane}
 use Rattle.lane_rows.specs.Planes.{held}
 use Rattle.packed_sim.specs.Belongs.{block_at}

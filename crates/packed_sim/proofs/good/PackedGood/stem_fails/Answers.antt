@@ -1,4 +1,4 @@
-use Rattle.std.proofs.Common.{◌+◌, ◌*◌, ◌/◌, ◌%◌, ap, ◌∙◌}
+use Rattle.std.proofs.Common.{◌+◌, ◌*◌, ◌/◌, ◌%◌, ◌∙◌}
 use Rattle.scan_model.specs.declared.fault.Fault.TheVariants as fault
 use Rattle.scan_model.proofs.Sites.{site_of}
 use Rattle.packed_sim.specs.Belongs.{now_at, observed_at}

@@ -1,9 +1,9 @@
-use Rattle.std.proofs.Common.{◌≡◌, ◌&&◌, ℕ, ◌+◌, ◌*◌, ◌<◌, Bool, length, get_or, set, ap, ◌∙◌, arith}
+use Rattle.std.proofs.Common.{◌≡◌, ◌&&◌, ℕ, ◌+◌, ◌*◌, Bool, ap, ◌∙◌, arith}
 use Rattle.std.proofs.lemmas.List.{length-set}
 use Rattle.scan_model.specs.Values.{are_opposite}
 use Rattle.scan_model.specs.Faults.{stuck_value}
 use Rattle.scan_model.specs.Netlist.{pin_at}
-use Rattle.scan_model.specs.ScanTest.{points_of, point_at}
+use Rattle.scan_model.specs.ScanTest.{point_at}
 use Rattle.scan_model.specs.NetValue.{good_value}
 use Rattle.scan_model.specs.Masks.{place_is_point}
 use Rattle.packed_sim.specs.Belongs.{captures}

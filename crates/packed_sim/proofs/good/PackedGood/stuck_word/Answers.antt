@@ -1,4 +1,4 @@
-use Rattle.std.proofs.Common.{◌+◌, ◌*◌, ◌/◌, ◌%◌, ◌&&◌, ℕ, List, Bool, ap, sym, ◌∙◌}
+use Rattle.std.proofs.Common.{◌+◌, ◌*◌, ◌/◌, ◌%◌, ◌&&◌, ℕ, List, Bool, ap, ◌∙◌}
 use Rattle.scan_model.specs.Values.{are_opposite}
 use Rattle.scan_model.specs.Faults.{stuck_value}
 use Rattle.scan_model.specs.NetValue.{good_value}

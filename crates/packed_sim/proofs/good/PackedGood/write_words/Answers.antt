@@ -1,4 +1,4 @@
-use Rattle.std.proofs.Common.{◌&&◌, ℕ, ◌+◌, ◌*◌, length, ltb, ◌∙◌, arith}
+use Rattle.std.proofs.Common.{◌&&◌, ◌+◌, ◌*◌, length, ltb, ◌∙◌, arith}
 use Rattle.std.proofs.lemmas.List.{length-set}
 use Rattle.scan_model.specs.declared.fault.Fault.TheVariants as fault
 use Rattle.scan_model.specs.Coverage.{bit_of}

@@ -1,4 +1,3 @@
-use Rattle.std.proofs.Common.{rules}
 use Rattle.packed_sim.proofs.scratch.Scratch.set.Goals as goal
 
 pub returns : goal.returns

@@ -1,0 +1,76 @@
+//! How many gates the fails of a stuck stem take: no more than lie behind its net.
+ghost use Rattle.std.specs.Prelude.{◌≡◌, ◌+◌, ◌*◌, ◌<◌, ◌≤◌, length};
+ghost use Rattle.scan_model.specs.ScanTest.{points_of};
+
+use super::designs::{c17, design, repeated};
+use super::fails::has_word;
+use diagnosis::BundleFault;
+use fault_universe::fault_at;
+use packed_sim::{PackedGood, Scratch};
+use scan_model::{Fault, NoMemory, Parts, Steps};
+use std::alloc::Global;
+use std::marker::Brand;
+use std::sync::ledger::{Blank, Ledger};
+
+/// Writes the fails of a stuck stem and tells the nets to which its net leads; the steps are no more than these.
+fn stem_fails<L: Ledger>(
+    alloc: Global,
+    parts: &Parts,
+    place: u32,
+    word: u32,
+    out: &mut [u64],
+    steps: &mut Steps<L>,
+) -> Result<Option<usize>, NoMemory>
+    requires word { 64 * word < length parts.now.patterns }
+    requires out { length out.old ≡ length (points_of parts.now) }
+    ensures { IfOk result (λ nets. IfSome nets (λ n. steps.new ≤ steps.old + n)) }
+{
+    let good = PackedGood::make(alloc, parts)?;
+    let mut scratch = Scratch::make(alloc, &good)?;
+    let Some(fault) = fault_at(parts, place) else {
+        return Ok(None);
+    };
+    let Fault::Stem { net, .. } = fault else {
+        return Ok(None);
+    };
+    if net as usize >= parts.circuit().nets().len() {
+        return Ok(None);
+    }
+    good.fails_of(parts, &mut scratch, &fault, word, out, steps);
+    let behind = parts.circuit().cone_out(net)?;
+    Ok(Some(behind.len()))
+}
+
+fn counted<L: Ledger>(
+    alloc: Global,
+    parts: &Parts,
+    place: u32,
+    word: u32,
+    blank: Blank,
+) -> Result<(Option<usize>, Vec<u64>), NoMemory>
+    requires name { blank.name ≡ L.name }
+    requires parts { blank.parts ≡ L.parts }
+    requires some { 0 < blank.parts }
+    requires word { 64 * word < length parts.now.patterns }
+{
+    let mut steps = Steps::<L>::open(blank);
+    let mut out = vec![in alloc; 0u64; parts.points().len()]?;
+    let nets = stem_fails(alloc, parts, place, word, &mut out, &mut steps)?;
+    Ok((nets, out))
+}
+
+/// Whether the fails of 10 stuck at 1 in the last of 65 patterns are at c17's output 22 alone, within two steps.
+fn takes_two_steps(alloc: Global) -> Result<bool, BundleFault> {
+    let patterns = repeated(alloc, "CAPTURE 11111\n", 65)?;
+    let design = design(alloc, c17(), "", &patterns, "")?;
+    if !has_word(design.parts(), 1) {
+        return Ok(false);
+    }
+    let (nets, words) = counted::<Brand>(alloc, design.parts(), 11, 1, Blank::new(1))?;
+    Ok(nets == Some(2) && words.as_slice() == [1, 0].as_slice())
+}
+
+#[test]
+fn a_stuck_gate_with_one_gate_behind_it(rt: HostRuntime) {
+    assert!(rt; matches!(takes_two_steps(rt.alloc()), Ok(true)));
+}
