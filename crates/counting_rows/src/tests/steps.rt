@@ -1,6 +1,7 @@
 //! How many gates the fails of a stuck stem take: no more than lie behind its net.
-ghost use Rattle.std.specs.Prelude.{◌≡◌, ◌+◌, ◌*◌, ◌<◌, ◌≤◌, length};
+ghost use Rattle.std.specs.Prelude.{◌≡◌, ◌+◌, ◌*◌, ◌<◌, ◌≤◌, [], ◌∷◌, IfOk, IfSome, length};
 ghost use Rattle.scan_model.specs.ScanTest.{points_of};
+ghost use Rattle.scan_model.specs.Masks.{touched_nets};
 
 use super::designs::{c17, design, repeated};
 use super::fails::has_word;
@@ -11,6 +12,17 @@ use scan_model::{Fault, NoMemory, Parts, Steps};
 use std::alloc::Global;
 use std::marker::Brand;
 use std::sync::ledger::{Blank, Ledger};
+
+/// The net of a stuck stem, which is all that it touches.
+fn stem_net(parts: &Parts, fault: &Fault) -> Option<u32>
+    ensures net { IfSome result (λ n. n < length parts.now.netlist.nets) }
+    ensures touched { IfSome result (λ n. touched_nets parts.now fault.now ≡ n ∷ []) }
+{
+    match *fault {
+        Fault::Stem { net, .. } if (net as usize) < parts.circuit().nets().len() => Some(net),
+        _ => None,
+    }
+}
 
 /// Writes the fails of a stuck stem and tells the nets to which its net leads; the steps are no more than these.
 fn stem_fails<L: Ledger>(
@@ -30,12 +42,9 @@ fn stem_fails<L: Ledger>(
     let Some(fault) = fault_at(parts, place) else {
         return Ok(None);
     };
-    let Fault::Stem { net, .. } = fault else {
+    let Some(net) = stem_net(parts, &fault) else {
         return Ok(None);
     };
-    if net as usize >= parts.circuit().nets().len() {
-        return Ok(None);
-    }
     good.fails_of(parts, &mut scratch, &fault, word, out, steps);
     let behind = parts.circuit().cone_out(net)?;
     Ok(Some(behind.len()))
