@@ -12,5 +12,6 @@ mod ShareLists
 mod OwnerGroups
 mod NetShares
 mod PinShares
+mod CellShares
 mod BlockTotals
 mod CandidateRows

@@ -4,5 +4,6 @@ pub mod BlockSums
 pub mod PointRows
 pub mod Shares
 pub mod Flips
+pub mod Cells
 pub mod Owners
 pub mod Totals

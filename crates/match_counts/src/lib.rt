@@ -3,6 +3,7 @@
 
 mod block_piece;
 mod bridge_piece;
+mod cell_piece;
 mod counting;
 mod gather;
 mod lane_tally;
