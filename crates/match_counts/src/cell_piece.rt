@@ -1,4 +1,4 @@
-ghost use Rattle.std.specs.Prelude.{◌≡◌, ℕ, ◌+◌, ◌^◌, ◌<◌, List, All, length, OnOk};
+ghost use Rattle.std.specs.Prelude.{◌≡◌, ℕ, ◌+◌, ◌^◌, ◌<◌, ◌&&◌, List, All, length, OnOk};
 ghost use Rattle.scan_model.specs.declared.logs.LogFacts.{LogFacts};
 ghost use Rattle.scan_model.specs.declared.fault.Fault.TheVariants as fault;
 ghost use Rattle.scan_model.specs.ScanTest.{points_of, chain_at};
@@ -106,6 +106,7 @@ pub(crate) fn share_cells<L: Ledger>(
     ensures shares { OnOk result (Shares parts.now rows.now block suspects.now (IsAmong group.now (length group.now)) shares.old shares.new) }
 {
     let _ = alloc;
+    let _ = parts.chains();
     for item in group {
         let suspect = suspects[*item as usize];
         let Fault::Cell { chain, pos, kind } = suspect.fault else {

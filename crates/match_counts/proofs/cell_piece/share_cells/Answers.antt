@@ -2,6 +2,7 @@ use Rattle.std.proofs.Common.{◌≡◌, ℕ, ◌+◌, ◌<◌, length, get_or, 
 use Rattle.scan_model.specs.declared.fault.Fault.{Fault}
 use Rattle.match_counts.specs.Shares.{count_in}
 use Rattle.match_counts.specs.Owners.{IsAmong, Shares, suspect_at, no_suspect}
+use Rattle.match_counts.proofs.CellShares.{cell_owned}
 use Rattle.match_counts.proofs.ShareLists.{shares_join, shares_none, shares_push, among_more}
 use Rattle.match_counts.proofs.cell_piece.share_cells.Goals as goal
 
@@ -30,3 +31,11 @@ returns-clause-shares g c =
     let whole : c.loop-item.item-index ≡ length group = omega arith in
     let Upto : ℕ → Type 0 = λ n. Shares c.args.parts.now c.args.rows.now c.args.block c.args.suspects.now (IsAmong group n) c.args.shares.now c.loop-item.shares in
     subst Upto whole c.loop-item.invariant.shares
+
+pub unreachable-requires : goal.unreachable-requires
+unreachable-requires g c =
+    let item = get_or c.args.group.now c.loop-item.item-index 0 in
+    let own = c.requires.group c.loop-item.item-index 0 c.loop-item-test.true in
+    let s = suspect_at c.args.suspects.now item in
+    let is = cell_owned c.args.parts.now s.fault c.chains.ensures.fits (c.requires.suspects item no_suspect own.within).site own.owned in
+    c.in_default.not-Cell is.chain is.pos is.kind is.is
