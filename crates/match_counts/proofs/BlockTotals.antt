@@ -1,9 +1,9 @@
 -- Totals block by block, and what they come to.
-use Rattle.std.proofs.Common.{◌≡◌, ◌⊎◌, ℕ, ◌+◌, ◌*◌, ◌<◌, ◌≤◌, Bool, eqb, List, Some, length, get_or, set, map, ◌&&◌, refl, sym, ap, subst, ◌∙◌, inl, inr, arith}
+use Rattle.std.proofs.Common.{◌≡◌, ◌⊎◌, ℕ, ◌+◌, ◌*◌, ◌<◌, ◌≤◌, Bool, eqb, List, Some, length, get_or, map, ◌&&◌, refl, sym, ap, subst, ◌∙◌, inl, inr, arith}
 use Rattle.std.specs.Prelude.{Contains, filter, sum_by, count_by, slice_get, slice_index}
 use Rattle.std.specs.List.{range_with_len, list_any, enumerate_from}
-use Rattle.std.proofs.lemmas.Bool.{cases_eq, cases_Bool, eqb-true}
-use Rattle.std.proofs.lemmas.List.{get_or-set_same, get_or-set_other, get_or_default, length-set, ext_get_or, length-map}
+use Rattle.std.proofs.lemmas.Bool.{cases_Bool, eqb-true}
+use Rattle.std.proofs.lemmas.List.{get_or_default, ext_get_or, length-map}
 use Rattle.std.proofs.lemmas.List.Sums.{sum_by_push, length-filter, count_by-le-length}
 use Rattle.std.proofs.lemmas.List.Folds.{Any-from_list_any}
 use Rattle.std.proofs.lemmas.List.FromFn.{length-map-range_with_len, get_or-map-range_with_len, length-enumerate_from}
@@ -52,7 +52,7 @@ sum_more t logs b p = same_total _ _ _ _ (sum_by_block (predicted_in t logs Fail
 -- one block more
 pub sums_next : (t : ScanTest) (logs : List LogFacts) (suspects : List Suspect) (b : ℕ) (old new : List Total) (shares : List Share) → AreSums t logs suspects b old → length new ≡ length old → IsAdded (share_in t logs b) shares old new
     → ((i : ℕ) → i < length suspects → (suspect_at suspects i).place < length old)
-    → ((i : ℕ) → i < length suspects → owner t (suspect_at suspects i).fault < length t.netlist.nets + 2 → HasShare shares (suspect_at suspects i).place) → AreSums t logs suspects (b + 1) new
+    → ((i : ℕ) → i < length suspects → owner t (suspect_at suspects i).fault < length t.netlist.nets + 3 → HasShare shares (suspect_at suspects i).place) → AreSums t logs suspects (b + 1) new
 sums_next t logs suspects b old new shares sums len added inside there = record {
   most = λ p lt.
       let before = sums.most p (omega (arith, lt, len)) in
@@ -80,7 +80,7 @@ sum_is t logs blocks p le =
 
 -- after the last block
 pub sums_known : (t : ScanTest) (logs : List LogFacts) (suspects : List Suspect) (blocks : ℕ) (totals : List Total) → length t.patterns ≤ 512 * blocks → AreSums t logs suspects blocks totals
-    → AreKnown t logs suspects (λ i. owner t (suspect_at suspects i).fault < length t.netlist.nets + 2) totals
+    → AreKnown t logs suspects (λ i. owner t (suspect_at suspects i).fault < length t.netlist.nets + 3) totals
 sums_known t logs suspects blocks totals le sums = record {
   most = λ p lt. omega (arith, sums.most p lt, ap (λ (x : Total). x.tfsf) (sum_is t logs blocks p le));
   whole = λ i lt below. sums.whole i lt below ∙ sum_is t logs blocks (suspect_at suspects i).place le;
@@ -89,26 +89,6 @@ sums_known t logs suspects blocks totals le sums = record {
 -- before the first block
 pub sums_none : (t : ScanTest) (logs : List LogFacts) (suspects : List Suspect) (totals : List Total) → ((p : ℕ) → total_at totals p ≡ no_total) → AreSums t logs suspects 0 totals
 sums_none t logs suspects totals blank = record { most = λ p lt. omega (arith, ap (λ (x : Total). x.tfsf) (blank p)); whole = λ i lt below. blank (suspect_at suspects i).place }
-
--- one total written as it is
-pub known_set : (t : ScanTest) (logs : List LogFacts) (suspects : List Suspect) (known more : ℕ → Type 0) (totals : List Total) (q : ℕ) (x : Total) → q < length totals → x ≡ total_of t logs q → AreKnown t logs suspects known totals
-    → ((i : ℕ) → i < length suspects → more i → known i ⊎ ((suspect_at suspects i).place ≡ q)) → AreKnown t logs suspects more (set totals q x)
-known_set t logs suspects known more totals q x inside is all either =
-    let here : total_at (set totals q x) q ≡ total_of t logs q = get_or-set_same totals q x no_total inside ∙ is in
-    let At : ℕ → Type 0 = λ p. total_at (set totals q x) p ≡ total_of t logs p in
-    record {
-      most = λ p lt. elim (cases_eq p q) [
-        | inl same ↦ omega (arith, ap (λ (y : Total). y.tfsf) (let there : total_at (set totals q x) p ≡ total_of t logs p = subst At (sym same) here in there))
-        | inr other ↦ omega (arith, ap (λ (y : Total). y.tfsf) (get_or-set_other totals q p x no_total other), all.most p (omega (arith, lt, length-set totals q x)))
-      ];
-      whole = λ i lt now. elim (cases_eq (suspect_at suspects i).place q) [
-        | inl same ↦ subst At (sym same) here
-        | inr other ↦ elim (either i lt now) [
-          | inl before ↦ get_or-set_other totals q (suspect_at suspects i).place x no_total other ∙ all.whole i lt before
-          | inr same ↦ absurd (other same)
-        ]
-      ];
-    }
 
 -- all suspects are known, and what is no suspect explains nothing
 pub totals_are : (t : ScanTest) (logs : List LogFacts) (suspects : List Suspect) (bits : ℕ) (totals : List Total) → length totals ≡ length (universe t) → bits ≡ count_by (counts_on t logs Failing) (bits_of t)

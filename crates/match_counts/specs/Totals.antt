@@ -50,10 +50,10 @@ pub record IsAdded (truth : ℕ → BlockCount) (shares : List Share) (old new :
   pub within : (p : ℕ) → p < length old → (total_at new p ≡ plus (total_at old p) (truth p)) ⊎ (total_at new p ≡ plus (total_at old p) no_count)
   pub there : (p : ℕ) → p < length old → HasShare shares p → total_at new p ≡ plus (total_at old p) (truth p)
 
--- totals of the first blocks: whole for the suspects of the logic, and nowhere more explained than is
+-- totals of the first blocks: whole for the suspects, and nowhere more explained than is
 pub record AreSums (t : ScanTest) (logs : List LogFacts) (suspects : List Suspect) (blocks : ℕ) (totals : List Total) : Type 0 where
   pub most : (p : ℕ) → p < length totals → (total_at totals p).tfsf ≤ (sum_of t logs blocks p).tfsf
-  pub whole : (i : ℕ) → i < length suspects → owner t (suspect_at suspects i).fault < length t.netlist.nets + 2 → total_at totals (suspect_at suspects i).place ≡ sum_of t logs blocks (suspect_at suspects i).place
+  pub whole : (i : ℕ) → i < length suspects → owner t (suspect_at suspects i).fault < length t.netlist.nets + 3 → total_at totals (suspect_at suspects i).place ≡ sum_of t logs blocks (suspect_at suspects i).place
 
 -- what the fault at a place explains and mispredicts
 abbrev pub total_of : ScanTest → List LogFacts → ℕ → Total

@@ -1,4 +1,4 @@
-ghost use Rattle.std.specs.Prelude.{◌≡◌, ℕ, ◌+◌, ◌<◌, ◌⊎◌, List, All, length, count_by, OnOk, IfOk};
+ghost use Rattle.std.specs.Prelude.{◌≡◌, ℕ, ◌+◌, ◌<◌, List, All, length, count_by, OnOk, IfOk};
 ghost use Rattle.scan_model.specs.declared.logs.LogFacts.{LogFacts};
 ghost use Rattle.scan_model.specs.ScanTest.{points_of};
 ghost use Rattle.scan_model.specs.Response.{expected_rows};
@@ -8,13 +8,12 @@ ghost use Rattle.log_join.specs.Joining.{StandsFor, IsJoinedOf};
 ghost use Rattle.packed_sim.specs.Belongs.{BelongsTo};
 ghost use Rattle.match_counts.specs.declared.side.Side.TheVariants as side;
 ghost use Rattle.match_counts.specs.PointRows.{counts_on};
-ghost use Rattle.match_counts.specs.Owners.{IsSuspectOf, AreOwners, suspect_at, IsAmong};
+ghost use Rattle.match_counts.specs.Owners.{IsSuspectOf, AreOwners, suspect_at};
 ghost use Rattle.match_counts.specs.Owners as owning;
 ghost use Rattle.match_counts.specs.Totals.{total_at, no_total, AreKnown};
 
-use crate::block_piece::logic_shares;
+use crate::block_piece::block_shares;
 use crate::lane_tally::failing_count;
-use crate::plain::plain_counts_of;
 use crate::point_rows::point_rows;
 use crate::share::Total;
 use crate::suspect::Suspect;
@@ -25,8 +24,7 @@ use scan_model::{Expected, NoMemory, Parts, Steps};
 use std::alloc::Global;
 use std::sync::ledger::Ledger;
 
-/// Adds up, block by block, what the suspects of the logic explain and mispredict. The answer is the number of Failing
-/// bits.
+/// Adds up, block by block, what the suspects explain and mispredict. The answer is the number of Failing bits.
 pub(crate) fn count_blocks<L: Ledger>(
     alloc: Global,
     parts: &Parts,
@@ -47,14 +45,14 @@ pub(crate) fn count_blocks<L: Ledger>(
     requires totals { length totals.old ≡ length (universe parts.now) }
     requires blank { (p : ℕ) → total_at totals.old p ≡ no_total }
     ensures failing { (logs : List LogFacts) → StandsFor logs joined.now → IfOk result (λ failing. failing ≡ count_by (counts_on parts.now logs side.Failing) (bits_of parts.now)) }
-    ensures known { (logs : List LogFacts) → StandsFor logs joined.now → OnOk result (AreKnown parts.now logs suspects.now (λ i. owning.owner parts.now (suspect_at suspects.now i).fault < length parts.now.netlist.nets + 2) totals.new) }
+    ensures known { (logs : List LogFacts) → StandsFor logs joined.now → OnOk result (AreKnown parts.now logs suspects.now (λ i. owning.owner parts.now (suspect_at suspects.now i).fault < length parts.now.netlist.nets + 3) totals.new) }
 {
     let _ = parts.points();
     let mut scratch = Scratch::make(alloc, good)?;
     let mut failing = 0u64;
     for block in 0..good.blocks().len() {
         let rows = point_rows(alloc, parts, joined, expected, block as u32)?;
-        let shares = logic_shares(
+        let shares = block_shares(
             alloc,
             parts,
             good,
@@ -69,33 +67,4 @@ pub(crate) fn count_blocks<L: Ledger>(
         failing += u64::from(failing_count(rows.as_slice()));
     }
     Ok(failing)
-}
-
-/// Counts the suspects that are cells of chains, each by itself in each pattern.
-pub(crate) fn count_cells(
-    alloc: Global,
-    parts: &Parts,
-    expected: &Expected,
-    joined: &Joined,
-    suspects: &[Suspect],
-    group: &[u32],
-    totals: &mut [Total],
-) -> Result<(), NoMemory>
-    requires expected { expected.now ≡ expected_rows parts.now }
-    requires joined { IsJoinedOf (length parts.now.patterns) (length (points_of parts.now)) joined.now }
-    requires suspects { All (IsSuspectOf parts.now) suspects.now }
-    requires group { All (λ i. i < length suspects.now) group.now }
-    requires totals { length totals.old ≡ length (universe parts.now) }
-    ensures { (logs : List LogFacts) (bound : ℕ) → StandsFor logs joined.now → AreKnown parts.now logs suspects.now (λ i. owning.owner parts.now (suspect_at suspects.now i).fault < bound) totals.old
-        → OnOk result (AreKnown parts.now logs suspects.now (λ i. (owning.owner parts.now (suspect_at suspects.now i).fault < bound) ⊎ IsAmong group.now (length group.now) i) totals.new) }
-{
-    for item in group {
-        let suspect = suspects[*item as usize];
-        let counts = plain_counts_of(alloc, parts, expected, joined, suspect.fault)?;
-        totals[suspect.place as usize] = Total {
-            tfsf: counts.tfsf,
-            tpsf: counts.tpsf,
-        };
-    }
-    Ok(())
 }

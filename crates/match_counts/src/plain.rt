@@ -14,7 +14,7 @@ use scan_model::{Counts, Expected, Fault, NoMemory, Parts, Rows, Scored};
 use std::alloc::Global;
 
 /// Counts one fault over all bits.
-pub(crate) fn plain_counts_of(
+fn plain_counts_of(
     alloc: Global,
     parts: &Parts,
     expected: &Expected,

@@ -9,7 +9,7 @@ ghost use Rattle.packed_sim.specs.Belongs.{BelongsTo};
 ghost use Rattle.match_counts.specs.Owners.{IsSuspectOf, HasSuspect, AreOwners};
 ghost use Rattle.match_counts.specs.Totals.{total_at, no_total, total_of};
 
-use crate::counting::{count_blocks, count_cells};
+use crate::counting::count_blocks;
 use crate::listing::list_candidates;
 use crate::owners::{owners_of, suspects_at};
 use crate::share::Total;
@@ -59,12 +59,10 @@ fn counts_over<L: Ledger>(
     ensures { (logs : List LogFacts) → StandsFor logs joined.now → ((p : ℕ) → p < length (universe parts.now) → HasSuspect suspects.now p ⊎ ((total_of parts.now logs p).tfsf ≡ 0))
         → IfOk result (λ rows. rows ≡ candidates parts.now logs) }
 {
-    let nets = parts.circuit().nets().len() as u32;
+    let _ = parts.circuit();
     let failing = count_blocks(
         alloc, parts, good, expected, joined, suspects, owners, totals, steps,
     )?;
-    let cells = owners.group(nets + 2);
-    count_cells(alloc, parts, expected, joined, suspects, cells, totals)?;
     list_candidates(alloc, parts, totals, failing)
 }
 

@@ -1,4 +1,4 @@
-use Rattle.std.proofs.Common.{◌≡◌, ℕ, ◌+◌, ◌<◌, Bool, ◌&&◌, length, ap, subst, ◌∙◌, arith}
+use Rattle.std.proofs.Common.{◌≡◌, ℕ, ◌+◌, Bool, ◌&&◌, length, ap, ◌∙◌, arith}
 use Rattle.std.specs.Prelude.{sum_by}
 use Rattle.std.specs.List.{range_with_len}
 use Rattle.std.proofs.lemmas.List.{get_or_read}
@@ -7,7 +7,6 @@ use Rattle.scan_model.specs.ScanTest.{points_of}
 use Rattle.lane_rows.specs.Lanes.{lane, count_lanes}
 use Rattle.lane_rows.proofs.LaneCounts.{same_lanes}
 use Rattle.match_counts.specs.declared.point_row.PointRow.{PointRow}
-use Rattle.match_counts.specs.declared.side.Side.{Side}
 use Rattle.match_counts.specs.PointRows.{no_point_row}
 use Rattle.match_counts.specs.Flips.{count_on, row_on, point_row_at}
 use Rattle.match_counts.specs.Cells.{note_at, fails_in}

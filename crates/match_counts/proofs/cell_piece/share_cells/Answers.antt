@@ -1,9 +1,8 @@
-use Rattle.std.proofs.Common.{◌≡◌, ℕ, ◌+◌, ◌<◌, length, get_or, sym, ap, subst, ◌∙◌, arith}
-use Rattle.scan_model.specs.declared.fault.Fault.{Fault}
+use Rattle.std.proofs.Common.{◌≡◌, ℕ, ◌+◌, length, get_or, sym, ap, subst, ◌∙◌, arith}
 use Rattle.match_counts.specs.Shares.{count_in}
 use Rattle.match_counts.specs.Owners.{IsAmong, Shares, suspect_at, no_suspect}
 use Rattle.match_counts.proofs.CellShares.{cell_owned}
-use Rattle.match_counts.proofs.ShareLists.{shares_join, shares_none, shares_push, among_more}
+use Rattle.match_counts.proofs.ShareLists.{shares_join, shares_push, among_more}
 use Rattle.match_counts.proofs.cell_piece.share_cells.Goals as goal
 
 pub loop-item-preserved : goal.loop-item-preserved

@@ -22,7 +22,7 @@ loop-block-preserved g c =
     let shares = c.as_slice-in-loop-block.result.now in
     let old = c.loop-block.totals in
     let new = c.add_shares.new.totals in
-    let Part : List Share → Type 0 = λ xs. Shares t rows b suspects (λ i. owner t (suspect_at suspects i).fault < length t.netlist.nets + 2) [] xs in
+    let Part : List Share → Type 0 = λ xs. Shares t rows b suspects (λ i. owner t (suspect_at suspects i).fault < length t.netlist.nets + 3) [] xs in
     let part = subst Part (sym c.as_slice-in-loop-block.ensures) c.in_ok-shares.ensures.shares in
     let added = c.in_ok-add_shares.ensures in
     record {
