@@ -13,5 +13,7 @@ mod OwnerGroups
 mod NetShares
 mod PinShares
 mod CellShares
+mod WalkNotes
+mod WalkSteps
 mod BlockTotals
 mod CandidateRows

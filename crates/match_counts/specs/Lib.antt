@@ -5,5 +5,6 @@ pub mod PointRows
 pub mod Shares
 pub mod Flips
 pub mod Cells
+pub mod Walks
 pub mod Owners
 pub mod Totals
