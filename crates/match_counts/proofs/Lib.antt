@@ -15,5 +15,6 @@ mod PinShares
 mod CellShares
 mod WalkNotes
 mod WalkSteps
+mod KindShares
 mod BlockTotals
 mod CandidateRows

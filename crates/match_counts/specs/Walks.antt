@@ -1,5 +1,5 @@
 -- The notes of a walk along a chain: for each point, how many lanes of its row a fault predicts to fail.
-use Rattle.std.specs.Prelude.{◌≡◌, ◌⊎◌, ℕ, ◌+◌, ◌<◌, ◌≤◌, List, All, length, sum_by, slice_index_or, true, Option, Some, None}
+use Rattle.std.specs.Prelude.{◌≡◌, ◌⊎◌, ℕ, ◌+◌, ◌<◌, ◌≤◌, List, All, length, sum_by, slice_index, slice_index_or, true, Option, Some, None}
 use Rattle.scan_model.specs.declared.fault.CellKind.{CellKind}
 use Rattle.scan_model.specs.declared.fault.Fault.{Fault}
 use Rattle.scan_model.specs.declared.fault.Fault.TheVariants as fault
@@ -67,3 +67,14 @@ pub record IsWalkAt (t : ScanTest) (g : PackedGood) (rows : List PointRow) (b h 
 abbrev pub IsWalk : ScanTest → PackedGood → List PointRow → ℕ → CellKind → Scratch → List BlockCount → Option (ℕ × ℕ) → Type 0
 IsWalk t g rows b K s notes None = IsScratchIn g s
 IsWalk t g rows b K s notes (Some at) = IsWalkAt t g rows b at.0 at.1 K s notes
+
+-- the fault is one of a shift path, of this kind
+abbrev pub IsOfKind : CellKind → Fault → Type 0
+IsOfKind K (fault.Stem n v) = ⊥
+IsOfKind K (fault.Branch p v) = ⊥
+IsOfKind K (fault.Bridge a b kind) = ⊥
+IsOfKind K (fault.Cell h c kind) = kind ≡ K
+
+-- the suspects of a list of numbers, from one place on
+abbrev pub IsFrom : List ℕ → ℕ → ℕ → Type 0
+IsFrom group n i = (k : ℕ) × (n ≤ k) × (k < length group) × (slice_index group k ≡ i)

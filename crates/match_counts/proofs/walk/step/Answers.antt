@@ -1,4 +1,4 @@
-use Rattle.std.proofs.Common.{◌≡◌, ◌∙◌, arith}
+use Rattle.std.proofs.Common.{◌∙◌, arith}
 use Rattle.match_counts.proofs.WalkSteps.{unmarked_loaded, all_fresh}
 use Rattle.match_counts.proofs.walk.step.Goals as goal
 

@@ -1,4 +1,4 @@
-use Rattle.std.proofs.Common.{◌≡◌, ◌<◌, ◌≤◌, ℕ, Bool, ◌&&◌, length, get_or, ap, ◌∙◌, arith}
+use Rattle.std.proofs.Common.{◌≡◌, ◌≤◌, Bool, ◌&&◌, get_or, ap, ◌∙◌, arith}
 use Rattle.std.proofs.lemmas.List.{get_or_default}
 use Rattle.scan_model.specs.declared.fault.Fault.TheVariants as fault
 use Rattle.lane_rows.specs.Lanes.{lane, count_lanes}
@@ -8,7 +8,7 @@ use Rattle.match_counts.specs.declared.side.Side.{Side}
 use Rattle.match_counts.specs.declared.side.Side.TheVariants.{Failing, Passing}
 use Rattle.match_counts.specs.PointRows.{no_point_row}
 use Rattle.match_counts.specs.Flips.{count_on, row_on, point_row_at}
-use Rattle.match_counts.specs.Cells.{note_at, fails_in}
+use Rattle.match_counts.specs.Cells.{fails_in}
 use Rattle.match_counts.proofs.LaneSums.{few_lanes}
 use Rattle.match_counts.proofs.loaded.Loaded.count_at.Goals as goal
 

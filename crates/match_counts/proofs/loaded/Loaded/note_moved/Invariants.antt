@@ -1,4 +1,4 @@
-use Rattle.std.proofs.Common.{◌≡◌, ℕ, ◌+◌, ◌-◌, ◌<◌, ◌≤◌, true, length}
+use Rattle.std.proofs.Common.{◌≡◌, ℕ, ◌-◌, ◌<◌, ◌≤◌, true, length}
 use Rattle.scan_model.specs.declared.fault.Fault.TheVariants as fault
 use Rattle.packed_sim.specs.Places.{has_place}
 use Rattle.match_counts.specs.Walks.{IsNetDone, IsRenoted}

@@ -1,4 +1,4 @@
-use Rattle.std.proofs.Common.{◌≡◌, ◌<◌, ℕ, List, eqb, length, sym, subst, arith}
+use Rattle.std.proofs.Common.{ℕ, eqb, length, subst, arith}
 use Rattle.std.specs.Prelude.{All}
 use Rattle.scan_model.specs.declared.fault.Fault.TheVariants as fault
 use Rattle.scan_model.specs.ScanTest.{points_of}

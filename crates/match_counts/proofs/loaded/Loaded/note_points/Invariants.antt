@@ -1,5 +1,4 @@
-use Rattle.std.proofs.Common.{◌≡◌, ℕ, ◌<◌, length, get_or, take}
-use Rattle.std.specs.Prelude.{All}
+use Rattle.std.proofs.Common.{◌≡◌, ℕ, ◌<◌, length, get_or}
 use Rattle.scan_model.specs.declared.fault.Fault.TheVariants as fault
 use Rattle.match_counts.specs.Walks.{IsFresh, IsRenoted}
 use Rattle.match_counts.proofs.loaded.Loaded.note_points.Given as goal

@@ -1,11 +1,10 @@
-use Rattle.std.proofs.Common.{◌≡◌, ℕ, ◌+◌, ◌-◌, ◌<◌, List, length, refl, ap, arith}
+use Rattle.std.proofs.Common.{◌≡◌, ◌+◌, ◌-◌, ◌<◌, length, refl, ap, arith}
 use Rattle.std.proofs.lemmas.List.{get_or_read}
 use Rattle.match_counts.specs.declared.share.BlockCount.{BlockCount}
 use Rattle.match_counts.specs.declared.side.Side.{Side}
 use Rattle.match_counts.specs.declared.side.Side.TheVariants.{Failing, Passing}
 use Rattle.match_counts.specs.Shares.{no_count}
 use Rattle.match_counts.specs.Flips.{count_on}
-use Rattle.match_counts.specs.Walks.{noted_at}
 use Rattle.match_counts.proofs.WalkNotes.{sum_bound, part_of_sum, put_summed}
 use Rattle.match_counts.proofs.notes.Notes.put.Goals as goal
 
