@@ -1,5 +1,5 @@
 -- The shares of the suspects on shift paths, kind by kind and from the last one down.
-use Rattle.std.proofs.Common.{◌≡◌, ◌⊎◌, ℕ, ◌+◌, List, length, Option, Some, None, refl, sym, ap, subst, ◌∙◌, inl, inr, arith}
+use Rattle.std.proofs.Common.{◌≡◌, ◌⊎◌, ℕ, ◌+◌, List, length, refl, sym, ap, subst, ◌∙◌, inl, inr, arith}
 use Rattle.std.specs.Prelude.{All, slice_index}
 use Rattle.std.proofs.lemmas.Bool.{cases_eq}
 use Rattle.scan_model.specs.declared.fault.CellKind.{CellKind}
@@ -7,15 +7,11 @@ use Rattle.scan_model.specs.declared.fault.CellKind.TheVariants.{Stuck0, Stuck1,
 use Rattle.scan_model.specs.declared.fault.Fault.{Fault}
 use Rattle.scan_model.specs.declared.fault.Fault.TheVariants as fault
 use Rattle.scan_model.specs.ScanTest.{ScanTest, IsScanTest}
-use Rattle.packed_sim.specs.declared.good.PackedGood.{PackedGood}
-use Rattle.packed_sim.specs.declared.scratch.Scratch.{Scratch}
-use Rattle.packed_sim.specs.Belongs.{IsScratchIn}
 use Rattle.match_counts.specs.declared.point_row.PointRow.{PointRow}
-use Rattle.match_counts.specs.declared.share.BlockCount.{BlockCount}
 use Rattle.match_counts.specs.declared.share.Share.{Share}
 use Rattle.match_counts.specs.declared.suspect.Suspect.{Suspect}
 use Rattle.match_counts.specs.Owners.{IsSuspectOf, IsOwned, Shares, IsAmong, suspect_at, no_suspect}
-use Rattle.match_counts.specs.Walks.{IsWalk, IsOfKind, IsFrom}
+use Rattle.match_counts.specs.Walks.{IsOfKind, IsFrom}
 use Rattle.match_counts.proofs.CellShares.{cell_owned}
 use Rattle.match_counts.proofs.ShareLists.{shares_join}
 
