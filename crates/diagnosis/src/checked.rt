@@ -16,7 +16,8 @@ use crate::log::ReadLog;
 use crate::view::DieView;
 use diag_report::{Head, Report, make_text, rank};
 use log_join::Joined;
-use match_counts::plain_counts;
+use match_counts::counts;
+use packed_sim::PackedGood;
 use scan_model::{Digest, Name, NoMemory, Parts, Rows, Scored};
 use sha2::Sha256;
 use std::alloc::Global;
@@ -46,7 +47,8 @@ pub struct Diagnosis {
 }
 
 // The diagnosis of different logs of the die.
-fn diagnosis_of(
+fn diagnosis_of<R>(
+    rt: &R,
     alloc: Global,
     design: &Design,
     die: &[u8],
@@ -59,7 +61,8 @@ fn diagnosis_of(
     let parts = design.parts();
     let expected = design.expected();
     let joined = joined_of(alloc, parts, logs)?;
-    let mut rows = plain_counts(alloc, parts, expected, &joined)?;
+    let good = PackedGood::make(alloc, parts)?;
+    let mut rows = counts(rt, alloc, parts, &good, expected, &joined)?;
     rank(&mut rows);
     let head = Head {
         design: Name::copy_of(alloc, design.name())?,
@@ -74,13 +77,13 @@ fn diagnosis_of(
 }
 
 /// The report over the logs of a die, with the candidates that it lists.
-pub fn make_diagnosis<R>(_rt: &R, alloc: Global, view: &DieView) -> Result<Diagnosis, NoMemory>
+pub fn make_diagnosis<R>(rt: &R, alloc: Global, view: &DieView) -> Result<Diagnosis, NoMemory>
     ensures lines { IfOk result (λ d. d.report ≡ view_lines view.now) }
     ensures report { IfOk result (λ d. text_of.joined d.report ≡ view_report view.now) }
     ensures cut { IfOk result (λ d. pieces (view_report view.now) ≡ d.report) }
     ensures candidates { IfOk result (λ d. d.candidates ≡ ranked (candidates view.now.design.test (facts_of view.now.logs))) }
 {
-    diagnosis_of(alloc, view.design(), view.die(), view.logs())
+    diagnosis_of(rt, alloc, view.design(), view.die(), view.logs())
 }
 
 /// The report over the logs of a die. Its lines are its text cut behind each LF. The order of the logs doesn't matter, nor does

@@ -31,7 +31,9 @@ use Rattle.match_counts.proofs.Hits.{bits_by_block}
 use Rattle.scan_model.specs.Response.{predicts_fail}
 use Rattle.scan_model.specs.Masks.{mask, flip_shows, straight, straight_at, place_nets, place_is_point, operand_is_point, touched_nets, IsLogic}
 use Rattle.match_counts.specs.Hits.{hits}
-use Rattle.match_counts.specs.BlockSums.{is_capture, captures, flips_in, pins_in}
+use Rattle.lane_rows.specs.GoodRows.{same_kind}
+use Rattle.packed_sim.specs.Belongs.{captures}
+use Rattle.match_counts.specs.BlockSums.{flips_in, pins_in}
 use Rattle.scan_model.proofs.counting.OneSite.{one_site}
 use Rattle.scan_model.proofs.counting.Shown.{not_opposite_itself}
 use Rattle.match_counts.proofs.Sums.{sum_agree, sum_agree_in, sum_zero, sum_plus, sum_exchange}
@@ -93,7 +95,7 @@ branch_nets t p v w point = by_place (pin_at t.netlist p).place refl
     by_place (place.Output k) at = inl (ap (place_nets t) at)
     by_place (place.Operand n i) at = by_driver n i at (driver_of t.netlist n) refl
 
--- The ways in which a fault of the logic predicts a fail exclude each other
+-- a logic fault's alternatives exclude each other
 pub alternatives_add : (t : ScanTest) (f : Fault) (w k : ℕ) → IsLogic f → tick (list_any (λ n. mask t f w n && flip_shows t w n k) (touched_nets t f) || straight t f w k) ≡ sum_by (λ n. tick (mask t f w n && flip_shows t w n k)) (touched_nets t f) + tick (straight t f w k)
 alternatives_add t (fault.Stem m v) w k logic = single_sum (λ n. mask t (fault.Stem m v) w n && flip_shows t w n k) m
 alternatives_add t (fault.Bridge a b kind) w k logic = pair_sum (λ n. mask t (fault.Bridge a b kind) w n && flip_shows t w n k) a b
@@ -114,15 +116,15 @@ module _ (t : ScanTest) (sound : IsScanTest t) (order : List ℕ) (ordered : IsE
       nothing = omega (arith, sum_zero (touched_nets t f))
 
       by_kind : (kind : PatternKind) → (pattern_at t w).kind ≡ kind → tick (ltb w (length t.patterns) && (q (bit_of w k) && predicts_fail t f (bit_of w k)))
-          ≡ sum_by (λ n. tick ((ltb w (length t.patterns) && is_capture (pattern_at t w).kind) && (q (bit_of w k) && (mask t f w n && flip_shows t w n k)))) (touched_nets t f) + tick ((ltb w (length t.patterns) && is_capture (pattern_at t w).kind) && (q (bit_of w k) && straight t f w k))
+          ≡ sum_by (λ n. tick ((ltb w (length t.patterns) && same_kind Capture (pattern_at t w).kind) && (q (bit_of w k) && (mask t f w n && flip_shows t w n k)))) (touched_nets t f) + tick ((ltb w (length t.patterns) && same_kind Capture (pattern_at t w).kind) && (q (bit_of w k) && straight t f w k))
       by_kind Shift is =
-          let off : (ltb w (length t.patterns) && is_capture (pattern_at t w).kind) ≡ false = and_right (ltb w (length t.patterns)) (is_capture (pattern_at t w).kind) (ap is_capture is) in
+          let off : (ltb w (length t.patterns) && same_kind Capture (pattern_at t w).kind) ≡ false = and_right (ltb w (length t.patterns)) (same_kind Capture (pattern_at t w).kind) (ap (same_kind Capture) is) in
           let silent : (ltb w (length t.patterns) && (q (bit_of w k) && predicts_fail t f (bit_of w k))) ≡ false =
           and_right (ltb w (length t.patterns)) (q (bit_of w k) && predicts_fail t f (bit_of w k)) (and_right (q (bit_of w k)) (predicts_fail t f (bit_of w k)) (masks-shift t sound order ordered w f k logic lt is)) in
           rw (off, silent) nothing
       by_kind Capture is = elim (cases_Bool (ltb w (length t.patterns))) [
         | inr past ↦ rw past nothing
-        | inl within ↦ rw (within, ap is_capture is) (elim (cases_Bool (q (bit_of w k))) [
+        | inl within ↦ rw (within, ap (same_kind Capture) is) (elim (cases_Bool (q (bit_of w k))) [
           | inr left_out ↦ rw left_out nothing
           | inl counts ↦ rw counts (ap tick (masks-capture t sound order ordered w f k there logic lt is) ∙ alternatives_add t f w k logic)
         ])

@@ -1,11 +1,11 @@
 -- A table of a block's counts with one share more, and totals with one place more.
-use Rattle.std.proofs.Common.{◌≡◌, ◌≢◌, ◌⊎◌, ℕ, ◌+◌, ◌<◌, ◌≤◌, ◌^◌, List, length, get_or, set, sym, ap, ◌∙◌, inl, inr, arith}
+use Rattle.std.proofs.Common.{◌≡◌, ℕ, ◌+◌, ◌<◌, ◌≤◌, List, length, get_or, set, sym, ap, ◌∙◌, inl, inr, arith}
 use Rattle.std.proofs.lemmas.Bool.{cases_eq}
 use Rattle.std.proofs.lemmas.List.{get_or-set_same, get_or-set_other}
 use Rattle.match_counts.specs.declared.share.BlockCount.{BlockCount}
 use Rattle.match_counts.specs.declared.share.Total.{Total}
 use Rattle.match_counts.specs.Shares.{no_count}
-use Rattle.match_counts.specs.Totals.{count_at, IsWithin, total_at, no_total, IsAtMost, AreTotalsAtMost, plus}
+use Rattle.match_counts.specs.Totals.{count_at, IsWithin, total_at, no_total, IsAtMost, AreTotalsAtMost}
 
 -- what is true of a place stays so
 pub set_keeps : (truth : ℕ → BlockCount) (table : List BlockCount) (q : ℕ) (x : BlockCount) → q < length table → x ≡ truth q → (p : ℕ) → count_at table p ≡ truth p → count_at (set table q x) p ≡ truth p

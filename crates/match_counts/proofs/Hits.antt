@@ -15,7 +15,7 @@ guarded : (x y : Bool) → cond {A = ℕ} x (cond y 1 0) 0 ≡ cond (x && y) 1 0
 guarded true y = refl
 guarded false y = refl
 
--- A count over all bits is one by block, point and lane
+-- a count over all bits is one by block, point and lane
 pub bits_by_block : (t : ScanTest) (p : Bit → Bool) (lanes blocks : ℕ) → length t.patterns ≤ lanes * blocks → count_by p (bits_of t) ≡ sum_by (hits lanes t p) (range_with_len 0 blocks)
 bits_by_block t p lanes blocks le =
     let P = length (points_of t) in
@@ -33,7 +33,7 @@ bits_by_block t p lanes blocks le =
     (λ b. sum_agree (λ (k : ℕ). sum_by (lane k b) (range_with_len 0 lanes)) (λ (k : ℕ). count_by (λ j. ltb (lanes * b + j) W && p (bit_of (lanes * b + j) k)) (range_with_len 0 lanes)) (range_with_len 0 P)
     (λ k. sum_agree (lane k b) (λ (j : ℕ). cond (ltb (lanes * b + j) W && p (bit_of (lanes * b + j) k)) 1 0) (range_with_len 0 lanes) (λ j. guarded (ltb (lanes * b + j) W) (p (bit_of (lanes * b + j) k)))))
 
--- A sum over the points is one over the nets, of the points that observe each
+-- a sum over the points is one over the nets, of the points that observe each
 pub points_by_net : (t : ScanTest) (h : ℕ → ℕ) → IsScanTest t → sum_by h (range_with_len 0 (length (points_of t))) ≡ sum_by (λ n. sum_by h (seen_by t n)) (net_numbers t.netlist)
 points_by_net t h sound = sum_by_key h (λ k. observed_net t (point_at t k)) (length t.netlist.nets) (range_with_len 0 (length (points_of t))) (go 0 (length (points_of t)) (omega arith))
   where

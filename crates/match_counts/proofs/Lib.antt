@@ -1,8 +1,20 @@
-mod Counting
+mod BitCounting
 pub mod Sums
 pub mod Hits
 pub mod BlockSums
 mod SideRows
 mod BlockTables
 mod LaneSums
+mod FlipSums
+mod OneFault
+mod Owned
+mod ShareLists
+mod OwnerGroups
+mod NetShares
+mod PinShares
+mod CellShares
+mod WalkNotes
+mod WalkSteps
+mod KindShares
+mod BlockTotals
 mod CandidateRows

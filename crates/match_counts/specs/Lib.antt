@@ -3,4 +3,8 @@ pub mod Hits
 pub mod BlockSums
 pub mod PointRows
 pub mod Shares
+pub mod Flips
+pub mod Cells
+pub mod Walks
+pub mod Owners
 pub mod Totals

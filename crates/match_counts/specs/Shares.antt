@@ -1,5 +1,5 @@
 -- What a fault adds to its counts in a block of 512 patterns.
-use Rattle.std.specs.Prelude.{◌≡◌, ◌⊎◌, ℕ, ◌<◌, List, length, sum_by, Bool, ◌&&◌, nat_lt, All, slice_index_or}
+use Rattle.std.specs.Prelude.{◌≡◌, ℕ, ◌<◌, List, length, sum_by, Bool, ◌&&◌, nat_lt, All, slice_index_or}
 use Rattle.std.specs.List.{range_with_len}
 use Rattle.scan_model.specs.declared.fault.Fault.{Fault}
 use Rattle.scan_model.specs.declared.fault.Fault.TheVariants as fault
@@ -54,3 +54,11 @@ AreRight truth shares = All (λ s. s.count ≡ truth s.place) shares
 -- a share of the place is there
 abbrev pub HasShare : List Share → ℕ → Type 0
 HasShare shares place = (k : ℕ) × (k < length shares) × ((slice_index_or shares k no_share).place ≡ place)
+
+-- each share is that of its place in block b
+abbrev pub AreShares : ScanTest → List LogFacts → ℕ → List Share → Type 0
+AreShares t logs b shares = AreRight (share_in t logs b) shares
+
+-- no share is lost
+abbrev pub Keeps : List Share → List Share → Type 0
+Keeps old new = (p : ℕ) → HasShare old p → HasShare new p

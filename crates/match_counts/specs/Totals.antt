@@ -1,5 +1,5 @@
 -- Counts by place, added up over blocks.
-use Rattle.std.specs.Prelude.{◌≡◌, ◌⊎◌, ℕ, ◌+◌, ◌<◌, ◌≤◌, List, length, sum_by, count_by, slice_index, slice_index_or}
+use Rattle.std.specs.Prelude.{◌≡◌, ◌⊎◌, ℕ, ◌+◌, ◌<◌, ◌≤◌, List, length, sum_by, count_by, slice_index_or}
 use Rattle.std.specs.List.{range_with_len}
 use Rattle.scan_model.specs.declared.logs.LogFacts.{LogFacts}
 use Rattle.scan_model.specs.ScanTest.{ScanTest}
@@ -8,10 +8,12 @@ use Rattle.scan_model.specs.Coverage.{bits_of}
 use Rattle.scan_model.specs.MatchCounts.{counts_of}
 use Rattle.match_counts.specs.declared.share.BlockCount.{BlockCount}
 use Rattle.match_counts.specs.declared.share.Total.{Total}
-use Rattle.match_counts.specs.declared.side.Side.{Side}
 use Rattle.match_counts.specs.declared.side.Side.TheVariants.{Failing, Passing}
 use Rattle.match_counts.specs.PointRows.{counts_on}
-use Rattle.match_counts.specs.Shares.{predicted_in, fault_of, no_count}
+use Rattle.match_counts.specs.declared.share.Share.{Share}
+use Rattle.match_counts.specs.declared.suspect.Suspect.{Suspect}
+use Rattle.match_counts.specs.Shares.{predicted_in, fault_of, no_count, HasShare}
+use Rattle.match_counts.specs.Owners.{owner, suspect_at}
 
 abbrev pub count_at : List BlockCount → ℕ → BlockCount
 count_at table p = slice_index_or table p no_count
@@ -43,10 +45,24 @@ sum_of t logs blocks p = record {
   tpsf = sum_by (predicted_in t logs Passing (fault_of t p)) (range_with_len 0 blocks);
 }
 
--- totals of the first blocks: whole at some places, and nowhere more explained than is
-pub record AreSums (t : ScanTest) (logs : List LogFacts) (places : List ℕ) (blocks : ℕ) (totals : List Total) : Type 0 where
-  pub most : (p : ℕ) → (total_at totals p).tfsf ≤ (sum_of t logs blocks p).tfsf
-  pub whole : (i : ℕ) → i < length places → total_at totals (slice_index places i) ≡ sum_of t logs blocks (slice_index places i)
+-- At each place the truth is added or nothing is; at a place that has a share the truth is.
+pub record IsAdded (truth : ℕ → BlockCount) (shares : List Share) (old new : List Total) : Type 0 where
+  pub within : (p : ℕ) → p < length old → (total_at new p ≡ plus (total_at old p) (truth p)) ⊎ (total_at new p ≡ plus (total_at old p) no_count)
+  pub there : (p : ℕ) → p < length old → HasShare shares p → total_at new p ≡ plus (total_at old p) (truth p)
+
+-- totals of the first blocks: whole for the suspects, and nowhere more explained than is
+pub record AreSums (t : ScanTest) (logs : List LogFacts) (suspects : List Suspect) (blocks : ℕ) (totals : List Total) : Type 0 where
+  pub most : (p : ℕ) → p < length totals → (total_at totals p).tfsf ≤ (sum_of t logs blocks p).tfsf
+  pub whole : (i : ℕ) → i < length suspects → owner t (suspect_at suspects i).fault < length t.netlist.nets + 3 → total_at totals (suspect_at suspects i).place ≡ sum_of t logs blocks (suspect_at suspects i).place
+
+-- what the fault at a place explains and mispredicts
+abbrev pub total_of : ScanTest → List LogFacts → ℕ → Total
+total_of t logs p = record { tfsf = (counts_of t logs (fault_of t p)).tfsf; tpsf = (counts_of t logs (fault_of t p)).tpsf }
+
+-- totals that are whole for the suspects that are known
+pub record AreKnown (t : ScanTest) (logs : List LogFacts) (suspects : List Suspect) (known : ℕ → Type 0) (totals : List Total) : Type 0 where
+  pub most : (p : ℕ) → p < length totals → (total_at totals p).tfsf ≤ (total_of t logs p).tfsf
+  pub whole : (i : ℕ) → i < length suspects → known i → total_at totals (suspect_at suspects i).place ≡ total_of t logs (suspect_at suspects i).place
 
 -- totals of all blocks, with the number of Failing bits
 pub record AreTotals (t : ScanTest) (logs : List LogFacts) (bits : ℕ) (totals : List Total) : Type 0 where

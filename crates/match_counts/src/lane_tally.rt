@@ -1,13 +1,14 @@
-ghost use Rattle.std.specs.Prelude.{◌≡◌, ◌≤◌, ◌^◌, ◌&&◌, length, sum_by};
+ghost use Rattle.std.specs.Prelude.{◌≡◌, ◌<◌, ◌≤◌, ◌^◌, length, sum_by};
 ghost use Rattle.lane_rows.specs.Lanes.{lane, count_lanes};
+ghost use Rattle.match_counts.specs.Flips.{tallied};
 
 use crate::point_row::PointRow;
 use lane_rows::Row;
 
 /// How many lanes of some rows a mask has.
 pub(crate) fn tally(rows: &[Row], mask: Row) -> u32
-    requires { length rows.now ≤ 2 ^ 22 }
-    ensures { result ≡ sum_by (λ r. count_lanes (λ j. lane r j && lane mask j)) rows.now }
+    requires { tallied rows.now (lane mask) < 2 ^ 32 }
+    ensures { result ≡ tallied rows.now (lane mask) }
 {
     let mut sum = 0;
     for row in rows {

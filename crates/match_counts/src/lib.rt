@@ -1,14 +1,29 @@
 //! How the predictions of faults match the logs of a die, counted bit by bit.
 #![tactic(auto)]
 
+mod block_piece;
+mod bridge_piece;
+mod cell_piece;
+mod counting;
+mod gather;
 mod lane_tally;
 mod listing;
+mod loaded;
+mod net_piece;
+mod notes;
+mod owners;
+mod pin_piece;
 mod plain;
 mod point_row;
 mod point_rows;
 mod share;
+mod shown;
 mod side;
+mod suspect;
+mod suspect_counts;
 mod tally;
 mod totals;
+mod walk;
 
 pub use plain::plain_counts;
+pub use suspect_counts::counts;

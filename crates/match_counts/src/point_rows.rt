@@ -73,7 +73,8 @@ pub(crate) fn point_rows(
     requires expected { expected.now ≡ expected_rows parts.now }
     requires joined { IsJoinedOf (length parts.now.patterns) (length (points_of parts.now)) joined.now }
     requires block { block < 2 ^ 16 }
-    ensures { (logs : List LogFacts) → StandsFor logs joined.now → IfOk result (ArePointRows parts.now logs block) }
+    ensures len { IfOk result (λ rows. length rows ≡ length (points_of parts.now)) }
+    ensures rows { (logs : List LogFacts) → StandsFor logs joined.now → IfOk result (ArePointRows parts.now logs block) }
 {
     let patterns = parts.patterns().len() as u32;
     let mut rows = Rows::new(alloc);

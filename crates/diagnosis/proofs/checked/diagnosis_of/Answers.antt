@@ -14,19 +14,19 @@ use Rattle.diagnosis.proofs.Reports.{places, in_order, layout_is_report}
 use Rattle.diagnosis.proofs.checked.diagnosis_of.Goals as goal
 
 pub make_text-requires-clause-expected : goal.make_text-requires-clause-expected
-make_text-requires-clause-expected c =
+make_text-requires-clause-expected g c =
     let t = c.parts-parts.result.now in
     let is : c.expected-expected.result.now ≡ expected_rows t = c.expected-expected.ensures ∙ ap expected_rows (sym c.parts-parts.ensures.value) in
     fits_expected t c.expected-expected.result.now c.in_ok-joined.joined is c.in_ok-joined.ensures.size
 
 pub make_text-requires-clause-places : goal.make_text-requires-clause-places
-make_text-requires-clause-places c =
+make_text-requires-clause-places g c =
     let logs = facts_of (map (λ (log : Arc ReadLog Global). arc_value log) c.args.logs.now) in
     let counted = c.in_ok-rows.ensures logs c.in_ok-joined.ensures.stands in
     places c.parts-parts.result.now logs c.in_ok-rows.rows c.rank.new.rows counted c.rank.ensures.same
 
 pub returns-clause-report : goal.returns-clause-report
-returns-clause-report c =
+returns-clause-report g c =
     let all = map (λ (log : Arc ReadLog Global). arc_value log) c.args.logs.now in
     let logs = facts_of all in
     let stands = c.in_ok-joined.ensures.stands in
@@ -42,12 +42,12 @@ returns-clause-report c =
     c.in_ok-report.ensures logs stands ∙ given ∙ is
 
 pub returns-clause-candidates : goal.returns-clause-candidates
-returns-clause-candidates c =
+returns-clause-candidates g c =
     let logs = facts_of (map (λ (log : Arc ReadLog Global). arc_value log) c.args.logs.now) in
     let counted = c.in_ok-rows.ensures logs c.in_ok-joined.ensures.stands in
     in_order c.parts-parts.result.now logs c.in_ok-rows.rows c.rank.new.rows counted c.args.design.now.test c.rank.ensures.one c.parts-parts.ensures.value
 
 pub joined_of-requires : goal.joined_of-requires
-joined_of-requires c =
+joined_of-requires g c =
     let Stand : ScanTest → Type 0 = λ t. All (StandsOver t) (map (λ (log : Arc ReadLog Global). arc_value log) c.args.logs.now) in
     record { stand = subst Stand (sym c.parts-parts.ensures.value) c.requires.stand }

@@ -1,10 +1,7 @@
-use Rattle.std.proofs.Common.{◌≡◌, ◌*◌, ◌≤◌, ◌&&◌, take}
-use Rattle.std.specs.Prelude.{sum_by}
-use Rattle.lane_rows.specs.Lanes.{lane, count_lanes}
+use Rattle.std.proofs.Common.{◌≡◌, take}
+use Rattle.lane_rows.specs.Lanes.{lane}
+use Rattle.match_counts.specs.Flips.{tallied}
 use Rattle.match_counts.proofs.lane_tally.tally.Given as goal
 
 abbrev pub invariant-loop-row : goal.invariant-loop-row
-invariant-loop-row l = record {
-  sum : l.sum ≡ sum_by (λ r. count_lanes (λ j. lane r j && lane l.mask j)) (take l.row-index l.rows);
-  few : l.sum ≤ 512 * l.row-index;
-}
+invariant-loop-row l = l.sum ≡ tallied (take l.row-index l.rows) (lane l.mask)

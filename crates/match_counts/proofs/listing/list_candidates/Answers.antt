@@ -7,7 +7,7 @@ use Rattle.scan_model.specs.declared.logs.Scored.{Scored}
 use Rattle.scan_model.specs.Universe.{universe}
 use Rattle.scan_model.specs.MatchCounts.{candidates_among}
 use Rattle.match_counts.specs.Shares.{fault_of}
-use Rattle.match_counts.proofs.Counting.{candidates_more}
+use Rattle.match_counts.proofs.BitCounting.{candidates_more}
 use Rattle.match_counts.proofs.CandidateRows.{row_is}
 use Rattle.match_counts.proofs.listing.list_candidates.Goals as goal
 

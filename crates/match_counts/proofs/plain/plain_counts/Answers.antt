@@ -1,6 +1,6 @@
 use Rattle.std.proofs.Common.{refl, sym, ◌∙◌}
 use Rattle.scan_model.specs.Universe.{universe}
-use Rattle.match_counts.proofs.Counting.{candidates_more}
+use Rattle.match_counts.proofs.BitCounting.{candidates_more}
 use Rattle.match_counts.proofs.plain.plain_counts.Goals as goal
 
 pub loop-place-preserved : goal.loop-place-preserved

@@ -5,7 +5,7 @@ use Rattle.scan_model.proofs.ExpectedRows.{expected_row}
 use Rattle.fault_universe.proofs.BitSteps.{bits_upto_more}
 use Rattle.log_join.proofs.Fitting.{fits_expected}
 use Rattle.match_counts.specs.Tally.{counts_over}
-use Rattle.match_counts.proofs.Counting.{AreAtMost-le}
+use Rattle.match_counts.proofs.BitCounting.{AreAtMost-le}
 use Rattle.match_counts.proofs.plain.plain_counts_of.Goals as goal
 
 pub count_row-counts-requires-clause-expected : goal.count_row-counts-requires-clause-expected

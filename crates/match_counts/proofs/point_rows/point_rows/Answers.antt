@@ -1,4 +1,4 @@
-use Rattle.std.proofs.Common.{◌≡◌, ℕ, ◌+◌, ◌*◌, length, ap, ◌∙◌, arith}
+use Rattle.std.proofs.Common.{ℕ, ◌+◌, ◌*◌, length, ap, ◌∙◌, arith}
 use Rattle.std.proofs.lemmas.List.{length_push}
 use Rattle.log_join.proofs.Fitting.{fits_expected}
 use Rattle.match_counts.specs.declared.side.Side.TheVariants.{Failing, Passing}
@@ -29,8 +29,11 @@ loop-point-preserved c =
 pub side_row-passing-requires-clause-expected : goal.side_row-passing-requires-clause-expected
 side_row-passing-requires-clause-expected c = fits_expected c.args.parts.now c.args.expected.now c.args.joined.now c.requires.expected c.requires.joined
 
-pub returns : goal.returns
-returns c = λ logs stands. record {
+pub returns-clause-rows : goal.returns-clause-rows
+returns-clause-rows c = λ logs stands. record {
   len = c.loop-point.invariant.len ∙ omega (arith, c.loop-point.auto.point-end, c.loop-point-test.false, ap length c.points.ensures.value);
   each = λ k lt. c.loop-point.invariant.each logs stands k (omega (arith, lt, c.loop-point.invariant.len));
 }
+
+pub returns-clause-len : goal.returns-clause-len
+returns-clause-len c = c.loop-point.invariant.len ∙ omega (arith, c.loop-point.auto.point-end, c.loop-point-test.false, ap length c.points.ensures.value)

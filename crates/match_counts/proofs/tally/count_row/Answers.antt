@@ -5,7 +5,7 @@ use Rattle.scan_model.specs.Values.{are_opposite}
 use Rattle.scan_model.specs.ChainShift.{value_at}
 use Rattle.fault_universe.specs.BitRows.{row_bits}
 use Rattle.match_counts.specs.Tally.{counts_over}
-use Rattle.match_counts.proofs.Counting.{row_more, AreAtMost-le}
+use Rattle.match_counts.proofs.BitCounting.{row_more, AreAtMost-le}
 use Rattle.match_counts.proofs.tally.count_row.Goals as goal
 
 pub loop-point-preserved : goal.loop-point-preserved

@@ -1,4 +1,4 @@
-use Rattle.std.proofs.Common.{◌≡◌, ℕ, ◌+◌, ◌^◌, length, ap, sym, subst, ◌∙◌, arith}
+use Rattle.std.proofs.Common.{◌+◌, ◌^◌, ap, sym, subst, ◌∙◌, arith}
 use Rattle.match_counts.specs.declared.share.Total.{Total}
 use Rattle.match_counts.specs.Totals.{count_at, total_at, plus, IsAtMost}
 use Rattle.match_counts.proofs.BlockTables.{sums_more, at_most_set}

@@ -1,4 +1,4 @@
-use Rattle.std.proofs.Common.{◌≡◌, ◌+◌, ◌<◌, length, get_or, inl, inr, arith}
+use Rattle.std.proofs.Common.{◌<◌, length, get_or, inl, inr, arith}
 use Rattle.std.proofs.lemmas.Bool.{cases_eq}
 use Rattle.match_counts.specs.Shares.{no_share}
 use Rattle.match_counts.proofs.BlockTables.{set_keeps, set_here, set_within}

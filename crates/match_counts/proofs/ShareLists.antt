@@ -1,0 +1,70 @@
+-- Lists of shares that grow.
+use Rattle.std.proofs.Common.{◌≡◌, ◌⊎◌, ℕ, ◌+◌, ◌<◌, List, [], ◌∷◌, ◌++◌, length, refl, sym, ap, subst, ◌∙◌, inl, inr, arith}
+use Rattle.std.specs.Prelude.{Contains, slice_index}
+use Rattle.std.proofs.lemmas.Bool.{cases_eq}
+use Rattle.std.proofs.lemmas.List.{get_or_append_left, get_or_push, length_push, get_or_default}
+use Rattle.std.proofs.lemmas.List.Elements.{All-push}
+use Rattle.std.proofs.lemmas.Option.{get_or_from_slice_get, slice_get_within}
+use Rattle.scan_model.specs.declared.fault.Fault.TheVariants as fault
+use Rattle.scan_model.specs.declared.fault.Stuck.TheVariants as stuck
+use Rattle.scan_model.specs.declared.logs.LogFacts.{LogFacts}
+use Rattle.scan_model.specs.ScanTest.{ScanTest}
+use Rattle.scan_model.specs.Universe.{universe}
+use Rattle.match_counts.specs.declared.share.BlockCount.{BlockCount}
+use Rattle.match_counts.specs.declared.share.Share.{Share}
+use Rattle.match_counts.specs.declared.suspect.Suspect.{Suspect}
+use Rattle.match_counts.specs.declared.point_row.PointRow.{PointRow}
+use Rattle.match_counts.specs.PointRows.{ArePointRows}
+use Rattle.match_counts.specs.Shares.{Keeps, HasShare, no_share, count_in, share_in}
+use Rattle.match_counts.specs.Owners.{IsSuspectOf, Shares, suspect_at, IsAmong}
+
+pub keeps_push : (shares : List Share) (s : Share) → Keeps shares (shares ++ s ∷ [])
+keeps_push shares s p has = (has.0, omega (arith, length_push shares s, has.1), ap (λ (x : Share). x.place) (get_or_append_left shares (s ∷ []) no_share has.0 has.1) ∙ has.2)
+
+pub has_pushed : (shares : List Share) (s : Share) → HasShare (shares ++ s ∷ []) s.place
+has_pushed shares s = (length shares, omega (arith, length_push shares s), ap (λ (x : Share). x.place) (get_or_push shares s no_share (length shares) refl))
+
+-- the share of a suspect, by what it explains and mispredicts
+pub suspect_share : (t : ScanTest) (logs : List LogFacts) (b : ℕ) (s : Suspect) (count : BlockCount) → IsSuspectOf t s → count ≡ count_in t logs b s.fault → count ≡ share_in t logs b s.place
+suspect_share t logs b s count suspect is = is ∙ ap (count_in t logs b) (sym (get_or_from_slice_get (universe t) s.place s.fault (fault.Stem 0 stuck.Zero) suspect.at))
+
+module _ (t : ScanTest) (rows : List PointRow) (b : ℕ) (suspects : List Suspect) where
+  pub shares_none : (chosen : ℕ → Type 0) (shares : List Share) → ((i : ℕ) → i < length suspects → chosen i → ⊥) → Shares t rows b suspects chosen shares shares
+  shares_none chosen shares none = record { inside = λ inside. inside; right = λ logs points right. right; kept = λ p has. has; there = λ i lt is. absurd (none i lt is) }
+
+  pub shares_join : (first second both : ℕ → Type 0) (old mid new : List Share) → Shares t rows b suspects first old mid → Shares t rows b suspects second mid new → ((i : ℕ) → i < length suspects → both i → first i ⊎ second i) → Shares t rows b suspects both old new
+  shares_join first second both old mid new begin end either = record {
+    inside = λ inside. end.inside (begin.inside inside);
+    right = λ logs points right. end.right logs points (begin.right logs points right);
+    kept = λ p has. end.kept p (begin.kept p has);
+    there = λ i lt is. elim (either i lt is) [
+      | inl now ↦ end.kept _ (begin.there i lt now)
+      | inr later ↦ end.there i lt later
+    ];
+  }
+
+  -- one suspect's share more
+  pub shares_push : (shares new : List Share) (i : ℕ) (count : BlockCount) → new ≡ shares ++ (record { place = (suspect_at suspects i).place; count = count }) ∷ [] → IsSuspectOf t (suspect_at suspects i)
+      → ((logs : List LogFacts) → ArePointRows t logs b rows → count ≡ count_in t logs b (suspect_at suspects i).fault) → Shares t rows b suspects (λ k. k ≡ i) shares new
+  shares_push shares new i count pushed suspect is =
+      let s : Share = record { place = (suspect_at suspects i).place; count = count } in
+      let From : List Share → Type 0 = Shares t rows b suspects (λ k. k ≡ i) shares in
+      subst From (sym pushed) (record {
+        inside = λ inside. All-push (λ x. x.place < length (universe t)) shares s inside (slice_get_within (universe t) s.place (suspect_at suspects i).fault suspect.at);
+        right = λ logs points right. All-push (λ x. x.count ≡ share_in t logs b x.place) shares s right (suspect_share t logs b (suspect_at suspects i) count suspect (is logs points));
+        kept = keeps_push shares s;
+        there = λ k lt same. let Has : ℕ → Type 0 = λ x. HasShare (shares ++ s ∷ []) (suspect_at suspects x).place in subst Has (sym same) (has_pushed shares s);
+      })
+
+pub in_universe : (t : ScanTest) (s : Suspect) → IsSuspectOf t s → Contains (universe t) s.fault
+in_universe t s suspect = (s.place, slice_get_within (universe t) s.place s.fault suspect.at, get_or_from_slice_get (universe t) s.place s.fault s.fault suspect.at)
+
+-- one number more
+pub among_more : (group : List ℕ) (n i : ℕ) → IsAmong group (n + 1) i → IsAmong group n i ⊎ (i ≡ slice_index group n)
+among_more group n i among = elim (cases_eq among.0 n) [
+  | inl last ↦ inr (sym among.2 ∙ ap (slice_index group) last)
+  | inr other ↦ inl (among.0, omega (arith, among.1, other), among.2)
+]
+
+pub among_from : (group : List ℕ) (i : ℕ) → Contains group i → IsAmong group (length group) i
+among_from group i there = (there.0, there.1, get_or_default group there.0 0 i there.1 ∙ there.2)

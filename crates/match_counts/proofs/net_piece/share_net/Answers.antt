@@ -1,0 +1,11 @@
+use Rattle.std.proofs.Common.{◌≡◌, length, sym, arith}
+use Rattle.std.proofs.lemmas.Bool.{eqb-true}
+use Rattle.match_counts.specs.Owners.{IsAmong}
+use Rattle.match_counts.proofs.ShareLists.{shares_none}
+use Rattle.match_counts.proofs.net_piece.share_net.Goals as goal
+
+pub returns-then-is_empty-clause-shares : goal.returns-then-is_empty-clause-shares
+returns-then-is_empty-clause-shares g c =
+    let group = c.args.group.now in
+    let none : length group ≡ 0 = eqb-true (length group) 0 (sym c.if-is_empty.ensures) in
+    shares_none c.args.parts.now c.args.rows.now c.args.block c.args.suspects.now (IsAmong group (length group)) c.args.shares.now (λ i lt among. omega (arith, among.1, none))

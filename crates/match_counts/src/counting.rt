@@ -1,0 +1,70 @@
+ghost use Rattle.std.specs.Prelude.{◌≡◌, ℕ, ◌+◌, ◌<◌, List, All, length, count_by, OnOk, IfOk};
+ghost use Rattle.scan_model.specs.declared.logs.LogFacts.{LogFacts};
+ghost use Rattle.scan_model.specs.ScanTest.{points_of};
+ghost use Rattle.scan_model.specs.Response.{expected_rows};
+ghost use Rattle.scan_model.specs.Universe.{universe};
+ghost use Rattle.scan_model.specs.Coverage.{bits_of};
+ghost use Rattle.log_join.specs.Joining.{StandsFor, IsJoinedOf};
+ghost use Rattle.packed_sim.specs.Belongs.{BelongsTo};
+ghost use Rattle.match_counts.specs.declared.side.Side.TheVariants as side;
+ghost use Rattle.match_counts.specs.PointRows.{counts_on};
+ghost use Rattle.match_counts.specs.Owners.{IsSuspectOf, AreOwners, suspect_at};
+ghost use Rattle.match_counts.specs.Owners as owning;
+ghost use Rattle.match_counts.specs.Totals.{total_at, no_total, AreKnown};
+
+use crate::block_piece::block_shares;
+use crate::lane_tally::failing_count;
+use crate::point_rows::point_rows;
+use crate::share::Total;
+use crate::suspect::Suspect;
+use crate::totals::add_shares;
+use log_join::Joined;
+use packed_sim::{Groups, PackedGood, Scratch};
+use scan_model::{Expected, NoMemory, Parts, Steps};
+use std::alloc::Global;
+use std::sync::ledger::Ledger;
+
+/// Adds up, block by block, what the suspects explain and mispredict. The answer is the number of Failing bits.
+pub(crate) fn count_blocks<L: Ledger>(
+    alloc: Global,
+    parts: &Parts,
+    good: &PackedGood,
+    expected: &Expected,
+    joined: &Joined,
+    suspects: &[Suspect],
+    owners: &Groups,
+    totals: &mut [Total],
+    steps: &mut Steps<L>,
+) -> Result<u64, NoMemory>
+    requires good { BelongsTo parts.now good.now }
+    requires expected { expected.now ≡ expected_rows parts.now }
+    requires joined { IsJoinedOf (length parts.now.patterns) (length (points_of parts.now)) joined.now }
+    requires suspects { All (IsSuspectOf parts.now) suspects.now }
+    requires count { length owners.now ≡ length parts.now.netlist.nets + 3 }
+    requires owners { AreOwners parts.now suspects.now owners.now }
+    requires totals { length totals.old ≡ length (universe parts.now) }
+    requires blank { (p : ℕ) → total_at totals.old p ≡ no_total }
+    ensures failing { (logs : List LogFacts) → StandsFor logs joined.now → IfOk result (λ failing. failing ≡ count_by (counts_on parts.now logs side.Failing) (bits_of parts.now)) }
+    ensures known { (logs : List LogFacts) → StandsFor logs joined.now → OnOk result (AreKnown parts.now logs suspects.now (λ i. owning.owner parts.now (suspect_at suspects.now i).fault < length parts.now.netlist.nets + 3) totals.new) }
+{
+    let _ = parts.points();
+    let mut scratch = Scratch::make(alloc, good)?;
+    let mut failing = 0u64;
+    for block in 0..good.blocks().len() {
+        let rows = point_rows(alloc, parts, joined, expected, block as u32)?;
+        let shares = block_shares(
+            alloc,
+            parts,
+            good,
+            &mut scratch,
+            block,
+            rows.as_slice(),
+            suspects,
+            owners,
+            steps,
+        )?;
+        add_shares(alloc, totals, shares.as_slice())?;
+        failing += u64::from(failing_count(rows.as_slice()));
+    }
+    Ok(failing)
+}

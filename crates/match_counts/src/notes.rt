@@ -1,0 +1,82 @@
+ghost use Rattle.std.specs.Prelude.{◌≡◌, ◌<◌, ◌≤◌, ◌++◌, ◌∷◌, [], length, sum_by, slice_set, OnOk};
+ghost use Rattle.match_counts.specs.declared.side.Side.{Side};
+ghost use Rattle.match_counts.specs.Flips.{count_on};
+ghost use Rattle.match_counts.specs.Walks.{IsSmall};
+
+use crate::share::BlockCount;
+use scan_model::NoMemory;
+use std::alloc::Global;
+use std::marker::Model;
+
+/// A count for each point of a block, with their sum.
+#[derive(Debug, Drop)]
+pub(crate) struct Notes {
+    points: Vec<BlockCount>,
+    sum: BlockCount,
+}
+
+impl Model for Notes {
+    ghost use Rattle.std.specs.Prelude.{List};
+    ghost use Rattle.match_counts.specs.declared.share.BlockCount.{BlockCount};
+
+    ghost Value = { List BlockCount };
+
+    ghost use Rattle.match_counts.specs.Walks.{AreSummed};
+
+    ghost view = { λ n. n.points.items };
+
+    ghost invariant = { λ n. AreSummed n.points.items n.sum };
+}
+
+impl Notes {
+    pub(crate) fn new(alloc: Global) -> Notes
+        ensures { result ≡ [] }
+    {
+        Notes {
+            points: Vec::new(alloc),
+            sum: BlockCount { tfsf: 0, tpsf: 0 },
+        }
+    }
+
+    pub(crate) fn clear(&mut self)
+        ensures { self.new ≡ [] }
+    {
+        self.points.clear();
+        self.sum = BlockCount { tfsf: 0, tpsf: 0 };
+    }
+
+    /// One point more.
+    pub(crate) fn push(&mut self, count: BlockCount) -> Result<(), NoMemory>
+        requires room { length self.old < 131072 }
+        requires small { IsSmall count }
+        ensures { OnOk result (self.new ≡ self.old ++ count ∷ []) }
+    {
+        self.points.push(count)?;
+        self.sum = BlockCount {
+            tfsf: self.sum.tfsf + count.tfsf,
+            tpsf: self.sum.tpsf + count.tpsf,
+        };
+        Ok(())
+    }
+
+    /// Another count at point k.
+    pub(crate) fn put(&mut self, k: usize, count: BlockCount)
+        requires within { k < length self.old }
+        requires small { IsSmall count }
+        ensures { self.new ≡ slice_set self.old k count }
+    {
+        let old = self.points[k];
+        self.points[k] = count;
+        self.sum = BlockCount {
+            tfsf: self.sum.tfsf - old.tfsf + count.tfsf,
+            tpsf: self.sum.tpsf - old.tpsf + count.tpsf,
+        };
+    }
+
+    /// The sum over all points.
+    pub(crate) fn sum(&self) -> BlockCount
+        ensures { (side : Side) → count_on side result ≡ sum_by (count_on side) self.now }
+    {
+        self.sum
+    }
+}

@@ -1,0 +1,122 @@
+ghost use Rattle.std.specs.Prelude.{◌≡◌, ℕ, ◌+◌, ◌<◌, ◌≤◌, ◌⊎◌, List, All, length, IfOk};
+ghost use Rattle.scan_model.specs.declared.logs.LogFacts.{LogFacts};
+ghost use Rattle.scan_model.specs.ScanTest.{points_of};
+ghost use Rattle.scan_model.specs.Response.{expected_rows};
+ghost use Rattle.scan_model.specs.Universe.{universe};
+ghost use Rattle.scan_model.specs.MatchCounts.{candidates};
+ghost use Rattle.log_join.specs.Joining.{StandsFor, IsJoinedOf};
+ghost use Rattle.packed_sim.specs.Belongs.{BelongsTo};
+ghost use Rattle.match_counts.specs.Owners.{IsSuspectOf, HasSuspect, AreOwners};
+ghost use Rattle.match_counts.specs.Totals.{total_at, no_total, total_of};
+
+use crate::counting::count_blocks;
+use crate::listing::list_candidates;
+use crate::owners::{owners_of, suspects_at};
+use crate::share::Total;
+use crate::suspect::Suspect;
+use crate::totals::blank_totals;
+use back_trace::suspects_over;
+use fault_universe::universe_len;
+use log_join::Joined;
+use packed_sim::{Groups, PackedGood};
+use scan_model::{Expected, NoMemory, Parts, Rows, Scored, Steps};
+use std::alloc::Global;
+use std::marker::Brand;
+use std::sync::ledger::{Blank, Ledger};
+
+/// The places, as long as they aren't more than there are faults.
+fn few_places<'a>(parts: &Parts, places: &'a [u32]) -> &'a [u32]
+    ensures few { length result.now ≤ length (universe parts.now) }
+    ensures same { length places.now ≤ length (universe parts.now) → result.now ≡ places.now }
+{
+    if places.len() <= universe_len(parts) as usize {
+        places
+    } else {
+        &places[..0]
+    }
+}
+
+/// Counts the suspects over blank totals, and lists those that explain a Failing bit.
+fn counts_over<L: Ledger>(
+    alloc: Global,
+    parts: &Parts,
+    good: &PackedGood,
+    expected: &Expected,
+    joined: &Joined,
+    suspects: &[Suspect],
+    owners: &Groups,
+    totals: &mut [Total],
+    steps: &mut Steps<L>,
+) -> Result<Rows<Scored>, NoMemory>
+    requires good { BelongsTo parts.now good.now }
+    requires expected { expected.now ≡ expected_rows parts.now }
+    requires joined { IsJoinedOf (length parts.now.patterns) (length (points_of parts.now)) joined.now }
+    requires suspects { All (IsSuspectOf parts.now) suspects.now }
+    requires count { length owners.now ≡ length parts.now.netlist.nets + 3 }
+    requires owners { AreOwners parts.now suspects.now owners.now }
+    requires totals { length totals.old ≡ length (universe parts.now) }
+    requires blank { (p : ℕ) → total_at totals.old p ≡ no_total }
+    ensures { (logs : List LogFacts) → StandsFor logs joined.now → ((p : ℕ) → p < length (universe parts.now) → HasSuspect suspects.now p ⊎ ((total_of parts.now logs p).tfsf ≡ 0))
+        → IfOk result (λ rows. rows ≡ candidates parts.now logs) }
+{
+    let _ = parts.circuit();
+    let failing = count_blocks(
+        alloc, parts, good, expected, joined, suspects, owners, totals, steps,
+    )?;
+    list_candidates(alloc, parts, totals, failing)
+}
+
+/// `counts` with a ledger for the steps of simulation.
+fn counts_in<L: Ledger>(
+    alloc: Global,
+    parts: &Parts,
+    good: &PackedGood,
+    expected: &Expected,
+    joined: &Joined,
+    blank: Blank,
+) -> Result<Rows<Scored>, NoMemory>
+    requires good { BelongsTo parts.now good.now }
+    requires expected { expected.now ≡ expected_rows parts.now }
+    requires joined { IsJoinedOf (length parts.now.patterns) (length (points_of parts.now)) joined.now }
+    requires name { blank.name ≡ L.name }
+    requires parts { blank.parts ≡ L.parts }
+    requires some { 0 < blank.parts }
+    ensures { (logs : List LogFacts) → StandsFor logs joined.now → IfOk result (λ rows. rows ≡ candidates parts.now logs) }
+{
+    let mut steps = Steps::<L>::open(blank);
+    let faults = universe_len(parts);
+    let traced = suspects_over(alloc, parts, good.rows(), expected, joined)?;
+    let places = few_places(parts, traced.as_slice());
+    let suspects = suspects_at(alloc, parts, places)?;
+    let owners = owners_of(alloc, parts, suspects.as_slice())?;
+    let mut totals = blank_totals(alloc, faults)?;
+    counts_over(
+        alloc,
+        parts,
+        good,
+        expected,
+        joined,
+        suspects.as_slice(),
+        &owners,
+        &mut totals,
+        &mut steps,
+    )
+}
+
+/// The faults that explain at least one failing bit, with their counts, in the order of their places. Suspects alone are
+/// counted, 512 patterns at a time: one flip of a net serves all faults there.
+pub fn counts<R>(
+    _rt: &R,
+    alloc: Global,
+    parts: &Parts,
+    good: &PackedGood,
+    expected: &Expected,
+    joined: &Joined,
+) -> Result<Rows<Scored>, NoMemory>
+    requires good { BelongsTo parts.now good.now }
+    requires expected { expected.now ≡ expected_rows parts.now }
+    requires joined { IsJoinedOf (length parts.now.patterns) (length (points_of parts.now)) joined.now }
+    ensures { (logs : List LogFacts) → StandsFor logs joined.now → IfOk result (λ rows. rows ≡ candidates parts.now logs) }
+{
+    counts_in::<Brand>(alloc, parts, good, expected, joined, Blank::new(1))
+}
