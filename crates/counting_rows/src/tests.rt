@@ -1,3 +1,7 @@
+mod chains;
+mod counts;
 mod designs;
 mod fails;
+mod logs;
 mod plain;
+mod suspects;
