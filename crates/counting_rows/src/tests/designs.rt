@@ -23,6 +23,13 @@ pub(crate) fn repeated(alloc: Global, text: &str, times: u32) -> Result<String, 
     Ok(all)
 }
 
+pub(crate) fn joined(alloc: Global, first: &str, second: &str) -> Result<String, NoMemory> {
+    let mut all = String::new(alloc);
+    all.push_str(first)?;
+    all.push_str(second)?;
+    Ok(all)
+}
+
 /// The design d of four texts.
 pub(crate) fn design(
     alloc: Global,
