@@ -1,0 +1,120 @@
+//! A keeper that fails once, at each of its calls in turn.
+ghost use Rattle.std.specs.Prelude.{◌≡◌};
+
+use super::*;
+use book::{Put, PutFault, StartFault};
+use desk_outside::{Keeper, MemKeeper};
+use scan_model::{NoMemory, Rows};
+use shared_desk::{Desk, DeskSeat, Marked, start};
+use std::alloc::Global;
+use std::sync::Wait;
+
+const OTHER: &[u8] = b"FAILLOG 1\ndie D1\ndesign other\ntested 0 0\nend\n";
+
+// Two designs and three logs.
+const STEPS: u64 = 5;
+
+fn keeper_failing(alloc: Global, call: u64) -> Result<MemKeeper, NoMemory> {
+    let mut calls = Rows::new(alloc);
+    calls.push(call)?;
+    MemKeeper::make_failing(alloc, Rows::new(alloc), calls)
+}
+
+// One of the steps.
+fn step<R: Wait>(
+    rt: &R,
+    alloc: Global,
+    desk: &Desk<MemKeeper>,
+    seat: &mut DeskSeat,
+    at: u64,
+) -> Result<Marked<Result<Put, PutFault>>, NoMemory>
+    requires { seat.old.desk ≡ desk.now }
+    ensures desk { seat.new.desk ≡ seat.old.desk }
+    ensures number { seat.new.number ≡ seat.old.number }
+{
+    match at {
+        0 => Ok(desk.put_design(rt, seat, &design_of_name(alloc, b"c17", C17)?)),
+        1 => Ok(desk.put_design(rt, seat, &design_of_name(alloc, b"other", C17)?)),
+        2 => put_log(rt, alloc, desk, seat, b"c17", FAILS),
+        3 => put_log(rt, alloc, desk, seat, b"c17", PASSES),
+        _ => put_log(rt, alloc, desk, seat, b"other", OTHER),
+    }
+}
+
+// What a step creates: the number of the design, or the revision of the die.
+fn number_of(at: u64) -> u64 {
+    match at {
+        0 | 2 | 4 => 1,
+        _ => 2,
+    }
+}
+
+fn is_step(put: &Marked<Result<Put, PutFault>>, at: u64) -> bool {
+    match &put.answer {
+        Ok(Put::Created { number }) => *number == number_of(at)
+            && put.mark.checked_sub(1) == Some(at),
+        _ => false,
+    }
+}
+
+fn is_failed(put: &Marked<Result<Put, PutFault>>, at: u64) -> bool {
+    matches!(&put.answer, Err(PutFault::Failed)) && put.mark == at
+}
+
+// Whether the step is answered `Failed` once where the keeper fails there, and then as it would have been.
+fn steps_once<R: Wait>(
+    rt: &R,
+    alloc: Global,
+    desk: &Desk<MemKeeper>,
+    seat: &mut DeskSeat,
+    at: u64,
+    fails: bool,
+) -> Result<bool, NoMemory>
+    requires { seat.old.desk ≡ desk.now }
+    ensures desk { seat.new.desk ≡ seat.old.desk }
+    ensures number { seat.new.number ≡ seat.old.number }
+{
+    if fails && !is_failed(&step(rt, alloc, desk, seat, at)?, at) {
+        return Ok(false);
+    }
+    Ok(is_step(&step(rt, alloc, desk, seat, at)?, at))
+}
+
+// The numbers of deeds and faults at the end, where all steps went as they should.
+fn run_all<R: Wait>(rt: &R, alloc: Global, call: u64) -> Result<Option<(u64, u64)>, NoMemory> {
+    let keeper = keeper_failing(alloc, call)?;
+    let (desk, first, mut second) = start_two(rt, alloc, keeper, 10)?;
+    // The opening asks for row 0.
+    let went = [
+        steps_once(rt, alloc, &desk, &mut second, 0, call == 2)?,
+        steps_once(rt, alloc, &desk, &mut second, 1, call == 3)?,
+        steps_once(rt, alloc, &desk, &mut second, 2, call == 4)?,
+        steps_once(rt, alloc, &desk, &mut second, 3, call == 5)?,
+        steps_once(rt, alloc, &desk, &mut second, 4, call == 6)?,
+    ];
+    if went != [true; 5] {
+        return Ok(None);
+    }
+    let book = finish_two(alloc, desk, first, second)?;
+    Ok(Some((book.deeds(), book.faults())))
+}
+
+#[test]
+fn each_failed_append_is_told_once(rt: HostRuntime) -> Result<(), NoMemory> {
+    let alloc = rt.alloc();
+    for at in 0..STEPS {
+        assert_eq!(rt; run_all(&rt, alloc, at + 2)?, Some((STEPS, 1)));
+    }
+    Ok(())
+}
+
+#[test]
+fn a_keeper_that_fails_at_the_start_comes_home(rt: HostRuntime) -> Result<(), NoMemory> {
+    let alloc = rt.alloc();
+    let Err(refused) = start(&rt, alloc, keeper_failing(alloc, 1)?, 10, 2) else {
+        return Err(NoMemory);
+    };
+    assert!(rt; matches!(refused.fault, StartFault::Failed));
+    assert!(rt; matches!(&refused.keeper, Some(keeper) if keeper.count() == 1));
+    Ok(())
+}
