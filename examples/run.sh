@@ -43,7 +43,7 @@ the_day() {
     expect 0 report.expected diagnose block wafer3.17 block.bench block.scan block.pat block.csv second.log first.log second.log
     expect 0 demo.expected demo 7 2
     expect 0 demo.expected demo 7 2
-    # 23,000 nets and 512 patterns, which plain simulation would not end with in a day.
+    # 23,000 nets and 512 patterns, for which plain simulation would take hours.
     expect 0 demo-large.expected demo 7 200
     expect 0 demo-large.expected demo 7 200
 }
