@@ -1,0 +1,9 @@
+pub mod Lists
+pub mod HomeServed
+pub mod NothingNew
+pub mod Homes
+pub mod ComingHome
+pub mod FreshCaches
+pub mod Seats
+pub mod Ends
+pub mod Closing

@@ -1,0 +1,7 @@
+pub mod Lines
+pub mod HomeDoors
+pub mod Runs
+pub mod Doors
+pub mod Work
+pub mod Over
+pub mod Refusals
