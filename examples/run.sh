@@ -256,7 +256,14 @@ the_little_memory() {
     [ $? -eq 8 ] && [ "$printed" = memory ] || { wrong=$((wrong + 1)); echo 'no status 8 with little memory'; }
 }
 
+# The day over HTTP.
+the_day_over_http() {
+    runs=$((runs + 1))
+    "$top/examples/http.sh" "$program" || wrong=$((wrong + 1))
+}
+
 the_day
+the_day_over_http
 the_rules
 the_answers
 the_library_answers

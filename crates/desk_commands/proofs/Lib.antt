@@ -16,3 +16,4 @@ pub mod Assigned
 pub mod Requests
 pub mod ReadLogs
 pub mod Runs
+pub mod Served

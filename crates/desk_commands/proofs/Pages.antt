@@ -13,7 +13,7 @@ use Rattle.desk_commands.specs.Work.{Output, output_of}
 use Rattle.desk_commands.specs.Made.{made_texts}
 use Rattle.desk_commands.specs.Demo.{demo_of, demo_output}
 use Rattle.desk_commands.specs.Stops.{Follows, IsPageOf, IsPageOfAnswer, is_fault, ends_by_fault}
-use Rattle.desk_commands.specs.Ending.{IsDueOf}
+use Rattle.desk_commands.specs.Ending.{IsDueOf, IsOfPage}
 
 -- the page of a stop is due where reading comes to that stop, and where the shelf failed, its count rose
 pub stop_is_due : (reading : Reading (List ℕ)) (rose : Type 0) (stop : Stop) (status : ℕ) (text : List ℕ) → Follows {X = List ℕ} (Err stop) reading
@@ -65,3 +65,7 @@ module _ (seed blocks : ℕ) where
 
   pub demo_not_memory : (made : Result Page NoMemory) → IfOk made (λ page. page.status ≡ (demo_output seed blocks).status) → IfOk made (λ page. page.status ≢ 8)
   demo_not_memory = never 8 (omega arith) (omega arith)
+
+  pub demo_not_serving : (made : Result Page NoMemory) → IfOk made (λ page. page.status ≡ (demo_output seed blocks).status) → IfOk made (λ page. IsOfPage page.status)
+  demo_not_serving (Ok page) is = (never 7 (omega arith) (omega arith) (Ok page) is, never 9 (omega arith) (omega arith) (Ok page) is, never 10 (omega arith) (omega arith) (Ok page) is)
+  demo_not_serving (Err e) is = tt

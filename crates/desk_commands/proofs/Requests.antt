@@ -8,7 +8,7 @@ use Rattle.scan_model.specs.Words.{is_tag, number_of}
 use Rattle.desk_outside.specs.declared.shelf.File.{File}
 use Rattle.desk_commands.specs.declared.command.Command.{Command}
 use Rattle.desk_commands.specs.declared.command.Command.TheVariants.{Check, Pack, Diagnose, Demo}
-use Rattle.desk_commands.specs.Words.{Request, are_right, begins, is_block_count, is_check, is_demo, is_diagnose, is_number, is_pack, is_plain_word, names_from, number_at, request_of, word_at}
+use Rattle.desk_commands.specs.Words.{Request, names_page, begins, is_block_count, is_check, is_demo, is_diagnose, is_number, is_pack, is_plain_word, names_from, number_at, request_of, word_at}
 use Rattle.desk_commands.specs.Work.{Output, output_of, check_reading, pack_reading, report_reading}
 use Rattle.desk_commands.specs.Demo.{demo_output}
 use Rattle.desk_commands.specs.Commands.{misunderstood, work}
@@ -114,7 +114,7 @@ module _ (words : List (List ℕ)) (files : List File) where
   said_work (Diagnose d) says = ap (λ request. output_of (report_reading files request)) says.1 ∙ sym (diagnose_work says.0)
   said_work (Demo demo) says = ap₂ demo_output says.1 says.2 ∙ sym (demo_work says.0)
 
-  pub wrong_work : are_right words ≡ false → work words files ≡ misunderstood
+  pub wrong_work : names_page words ≡ false → work words files ≡ misunderstood
   wrong_work wrong =
       let not_check = neither (is_check words) _ wrong in
       let not_pack = neither (is_pack words) _ not_check.1 in
@@ -124,7 +124,7 @@ module _ (words : List (List ℕ)) (files : List File) where
 
 -- ---- what right words promise
 
-pub said_right : (words : List (List ℕ)) (c : Command) → Says words c → are_right words ≡ true
+pub said_right : (words : List (List ℕ)) (c : Command) → Says words c → names_page words ≡ true
 said_right words (Check names) says = rw says.0 refl
 said_right words (Pack names) says = or_right (is_check words) _ (rw says.0 refl)
 said_right words (Diagnose d) says = or_right (is_check words) _ (or_right (is_pack words) _ (rw says.0 refl))

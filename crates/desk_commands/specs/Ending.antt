@@ -1,5 +1,5 @@
 -- How a run may end.
-use Rattle.std.specs.Prelude.{◌≡◌, ◌⊎◌, ℕ, List, ◌++◌, codes, Option, Contains}
+use Rattle.std.specs.Prelude.{◌≡◌, ◌≢◌, ◌⊎◌, ℕ, List, ◌++◌, codes, Option, Contains}
 use Rattle.std.specs.Io.KnownBytes.{append_known}
 use Rattle.desk_outside.specs.Bytes.{AddsPart}
 use Rattle.desk_commands.specs.Work.{Output}
@@ -24,6 +24,10 @@ Ends status text result old new rose =
 -- a status and the bytes that go before it: those that are due, or those for want of memory
 abbrev pub MayEnd : Output → Type 0 → ℕ → List ℕ → Type 0
 MayEnd output rose status text = IsDueOf output rose status text ⊎ ((status ≡ 8) × (text ≡ codes "memory\n"))
+
+-- a status that is none of those of `serve` alone
+abbrev pub IsOfPage : ℕ → Type 0
+IsOfPage status = (status ≢ 7) × (status ≢ 9) × (status ≢ 10)
 
 -- a run ended as it may: with a page that was due, of which a failing sink has a part
 pub record Ran (output : Output) (shelf_rose sink_rose : Type 0) (result : ℕ) (old new : Option (List ℕ)) : Type 0 where

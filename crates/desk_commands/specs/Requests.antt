@@ -6,7 +6,8 @@ use Rattle.desk_commands.specs.declared.command.DesignFiles.{DesignFiles}
 use Rattle.desk_commands.specs.declared.command.Diagnose.{Diagnose}
 use Rattle.desk_commands.specs.declared.command.Command.{Command}
 use Rattle.desk_commands.specs.declared.command.Command.TheVariants as command
-use Rattle.desk_commands.specs.Words.{DesignNames, Request, are_right, is_check, is_pack, is_diagnose, is_demo, names_from, request_of, number_at}
+use Rattle.desk_commands.specs.Words.{DesignNames, Request, names_page, is_check, is_pack, is_diagnose, is_demo, names_from, request_of, number_at, word_at}
+use Rattle.desk_serve.specs.Runs.{Asked}
 use Rattle.desk_commands.specs.Work.{Output, output_of, check_reading, pack_reading, report_reading}
 use Rattle.desk_commands.specs.Demo.{demo_output}
 
@@ -40,10 +41,14 @@ Says words (command.Pack names) = (is_pack words ≡ true) × (named_files names
 Says words (command.Diagnose d) = (is_diagnose words ≡ true) × (said d ≡ request_of words)
 Says words (command.Demo demo) = (is_demo words ≡ true) × (demo.seed ≡ number_at words 1) × (demo.blocks ≡ number_at words 2)
 
--- what the words are taken for: a command, or nothing where they aren't right
+-- what the words are taken for: a command that comes to a page, or nothing where they name none
 abbrev pub TakenFor : List (List ℕ) → Option Command → Type 0
-TakenFor words None = are_right words ≡ false
+TakenFor words None = names_page words ≡ false
 TakenFor words (Some c) = Says words c
+
+-- what the words of `serve` ask for
+abbrev pub asked_by : List (List ℕ) → Asked
+asked_by words = record { port = number_at words 1; workers = number_at words 2; sessions = number_at words 3; store = word_at words 4 }
 
 -- what right words promise of their command
 abbrev pub IsSound : Command → Type 0

@@ -28,10 +28,13 @@ is_pack words = (length words == 5) && begins (codes "pack") words
 abbrev pub is_diagnose : List (List ℕ) → Bool
 is_diagnose words = nat_le 8 (length words) && (begins (codes "diagnose") words && (is_tag (word_at words 1) && is_tag (word_at words 2)))
 
--- a number word of a number from 1 to 200
+-- a number word of a number from 1 to this one
+abbrev pub is_count_to : ℕ → Option ℕ → Bool
+is_count_to most None = false
+is_count_to most (Some n) = nat_le 1 n && nat_le n most
+
 abbrev pub is_block_count : Option ℕ → Bool
-is_block_count None = false
-is_block_count (Some n) = nat_le 1 n && nat_le n 200
+is_block_count = is_count_to 200
 
 abbrev pub is_number : Option ℕ → Bool
 is_number None = false
@@ -41,8 +44,17 @@ is_number (Some n) = true
 abbrev pub is_demo : List (List ℕ) → Bool
 is_demo words = (length words == 3) && (begins (codes "demo") words && (is_number (number_of (word_at words 1)) && is_block_count (number_of (word_at words 2))))
 
+-- one of the commands that come to a page
+abbrev pub names_page : List (List ℕ) → Bool
+names_page words = is_check words || (is_pack words || (is_diagnose words || is_demo words))
+
+-- `serve PORT WORKERS SESSIONS STORE`
+abbrev pub is_serve : List (List ℕ) → Bool
+is_serve words = (length words == 5) && (begins (codes "serve") words
+    && (is_count_to 65535 (number_of (word_at words 1)) && (is_count_to 64 (number_of (word_at words 2)) && is_count_to 1000000 (number_of (word_at words 3)))))
+
 abbrev pub are_right : List (List ℕ) → Bool
-are_right words = is_check words || (is_pack words || (is_diagnose words || is_demo words))
+are_right words = is_serve words || names_page words
 
 -- the names of the four files of a design
 pub record DesignNames : Type 0 where

@@ -9,7 +9,7 @@ ghost use Rattle.desk_outside.specs.declared.shelf.File.{File};
 ghost use Rattle.desk_outside.specs.Faults.{Rose};
 ghost use Rattle.desk_commands.specs.Requests.{IsSound, command_output};
 ghost use Rattle.desk_commands.specs.Stops.{IsPageOfAnswer, ends_by_fault};
-ghost use Rattle.desk_commands.specs.Ending.{IsDueOf};
+ghost use Rattle.desk_commands.specs.Ending.{IsDueOf, IsOfPage};
 
 use crate::command::Command;
 use crate::commands::check::summary_of;
@@ -29,6 +29,7 @@ fn page_of_answer(alloc: Global, answer: Result<Name, Stop<'_>>) -> Result<Page,
     ensures not_wrong { IfOk result (λ page. page.status ≢ 2) }
     ensures not_sink { IfOk result (λ page. page.status ≢ 6) }
     ensures not_memory { IfOk result (λ page. page.status ≢ 8) }
+    ensures not_serving { IfOk result (λ page. IsOfPage page.status) }
 {
     match answer {
         Ok(text) => Ok(Page { status: 0, text }),
@@ -50,6 +51,7 @@ pub fn page_of_command<R, F: Shelf>(
     ensures not_wrong { IfOk result (λ page. page.status ≢ 2) }
     ensures not_sink { IfOk result (λ page. page.status ≢ 6) }
     ensures not_memory { IfOk result (λ page. page.status ≢ 8) }
+    ensures not_serving { IfOk result (λ page. IsOfPage page.status) }
     ensures later { F.faults shelf.old ≤ F.faults shelf.new }
 {
     match command {

@@ -2,6 +2,7 @@
 ghost use Rattle.std.specs.Prelude.{◌≡◌, ◌≢◌, ◌++◌, codes, IfOk, string_bytes, true};
 ghost use Rattle.desk_commands.specs.Work.{refusal_status, refusal_line};
 ghost use Rattle.desk_commands.specs.Stops.{IsPageOf, is_fault};
+ghost use Rattle.desk_commands.specs.Ending.{IsOfPage};
 
 use crate::files::{Refusal, Stop};
 use scan_model::{NoMemory, Rows};
@@ -47,6 +48,7 @@ fn status_of(refusal: Refusal) -> u8
     ensures not_fault { result ≢ 5 }
     ensures not_sink { result ≢ 6 }
     ensures not_memory { result ≢ 8 }
+    ensures not_serving { IsOfPage result }
 {
     match refusal {
         Refusal::Rule(_) => 3,
@@ -70,6 +72,7 @@ pub fn page_of(alloc: Global, stop: &Stop<'_>) -> Result<Page, NoMemory>
     ensures not_wrong { IfOk result (λ page. page.status ≢ 2) }
     ensures not_sink { IfOk result (λ page. page.status ≢ 6) }
     ensures not_memory { IfOk result (λ page. page.status ≢ 8) }
+    ensures not_serving { IfOk result (λ page. IsOfPage page.status) }
 {
     match *stop {
         Stop::Refused { name, refusal } => {

@@ -3,11 +3,13 @@ mod assigned;
 
 ghost use Rattle.std.specs.Prelude.{◌≡◌, ◌==◌, ◌<◌, List, map, length, true, IfOk, OnErr, string_bytes, codes};
 ghost use Rattle.std.specs.List.{list_all};
-ghost use Rattle.desk_commands.specs.Words.{is_plain_word, word_at, begins, is_check, is_pack, is_diagnose, is_demo, are_right};
+ghost use Rattle.desk_commands.specs.Words.{is_plain_word, word_at, begins, is_check, is_pack, is_diagnose, is_demo, is_serve, is_count_to, names_page};
+ghost use Rattle.scan_model.specs.Words.{number_of};
 ghost use Rattle.desk_commands.specs.Requests.{TakenFor};
 
 use crate::command::Command;
 use crate::words::assigned::{demo_of, design_files_of, diagnose_of};
+pub use assigned::serving_of;
 use scan_model::NoMemory;
 use std::alloc::Global;
 use text_parts::{is_tag, number_of};
@@ -71,10 +73,31 @@ fn is_demo(words: &[String]) -> bool
         && matches!(number_of(word(words, 2).as_bytes()), Some(1..=200))
 }
 
-/// The command that the words are taken for, or nothing where they aren't right, which takes no memory.
+// Whether the word at a place is a number word of a number from 1 to `most`.
+fn is_count(words: &[String], place: usize, most: u32) -> bool
+    ensures { result ≡ is_count_to most (number_of (word_at (map string_bytes words.now) place)) }
+{
+    match number_of(word(words, place).as_bytes()) {
+        Some(number) => 1 <= number && number <= most,
+        None => false,
+    }
+}
+
+/// Whether the words are those of `serve`.
+pub fn is_serve(words: &[String]) -> bool
+    ensures { result ≡ is_serve (map string_bytes words.now) }
+{
+    words.len() == 5
+        && begins("serve", words)
+        && is_count(words, 1, 65_535)
+        && is_count(words, 2, 64)
+        && is_count(words, 3, 1_000_000)
+}
+
+/// The command that the words are taken for, or nothing where they name none that comes to a page, which takes no memory.
 pub fn command_of(alloc: Global, words: &[String]) -> Result<Option<Command<'_>>, NoMemory>
     ensures taken { IfOk result (TakenFor (map string_bytes words.now)) }
-    ensures memory { OnErr result (are_right (map string_bytes words.now) ≡ true) }
+    ensures memory { OnErr result (names_page (map string_bytes words.now) ≡ true) }
 {
     if is_check(words) {
         let files = design_files_of(alloc, "check", words)?;

@@ -3,10 +3,13 @@
 
 mod file_shelf;
 mod stdout_sink;
+mod tcp;
 
 use crate::file_shelf::FileShelf;
 use crate::stdout_sink::StdoutSink;
+use crate::tcp::TcpStreet;
 use desk_commands::{finish, run};
+use keeper_sqlite::SqliteCabinet;
 use std::alloc::Global;
 use std::process::ExitCode;
 use std::rt::Env;
@@ -21,11 +24,25 @@ fn main(rt: HostRuntime) -> ExitCode {
     let alloc = rt.alloc();
     let mut shelf = FileShelf::make(&rt, alloc);
     let mut out = StdoutSink::make(&rt, alloc);
-    let status = match words_of(&rt, alloc) {
-        Ok(words) => run(&rt, alloc, &words, &mut shelf, &mut out),
-        Err(e) if e.kind() == io::ErrorKind::OutOfMemory => finish(&mut out, 8, b"memory\n"),
-        Err(_) => run(&rt, alloc, &[], &mut shelf, &mut out),
+    let mut street = TcpStreet::make(&rt, alloc);
+    let mut cabinet = SqliteCabinet::make(&rt, alloc);
+    let words = match words_of(&rt, alloc) {
+        Ok(words) => words,
+        Err(e) if e.kind() == io::ErrorKind::OutOfMemory => {
+            return ExitCode::from(finish(&mut out, 8, b"memory\n"));
+        }
+        // They aren't text, so they aren't right.
+        Err(_) => Vec::new(alloc),
     };
+    let status = run(
+        &rt,
+        alloc,
+        &words,
+        &mut shelf,
+        &mut out,
+        &mut street,
+        &mut cabinet,
+    );
     ExitCode::from(status)
 }
 

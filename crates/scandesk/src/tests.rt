@@ -1,1 +1,2 @@
 mod outside;
+mod street;

@@ -34,7 +34,7 @@ left-out-row 3 3 10\n\
 #[test]
 fn a_design_is_counted(rt: HostRuntime) -> Result<(), Fail> {
     for (near, summary) in [("near", SUMMARY), ("pairs", WITH_PAIRS)] {
-        let (status, text) = ran_after(&rt, "check", &["net", "scan", "pat", near])?;
+        let (status, text) = ran_after(&rt, rt.alloc(), "check", &["net", "scan", "pat", near])?;
         assert_eq!(rt; status, 0);
         assert_eq!(rt; text.as_slice(), summary);
     }
@@ -44,11 +44,33 @@ fn a_design_is_counted(rt: HostRuntime) -> Result<(), Fail> {
 // The patterns have no LF at their end.
 #[test]
 fn a_packed_design_reads_back(rt: HostRuntime) -> Result<(), Fail> {
-    let (status, text) = ran_after(&rt, "pack", &["net", "scan", "bare", "near"])?;
+    let (status, text) = ran_after(&rt, rt.alloc(), "pack", &["net", "scan", "bare", "near"])?;
     assert_eq!(rt; status, 0);
     assert!(rt; text.ends_with(b"\n%scan\n%patterns\nCAPTURE 11111\n%neighbours\n"));
     let design = read_bundle(rt.alloc(), b"c17", &text)?;
     let summary = summary_text(rt.alloc(), design.parts())?;
     assert_eq!(rt; summary.as_slice(), SUMMARY);
+    Ok(())
+}
+
+// The street has no connections: each that is asked for has nothing left.
+#[test]
+fn a_port_is_served(rt: HostRuntime) -> Result<(), Fail> {
+    let (status, text) = ran_after(&rt, rt.alloc(), "serve", &["8080", "2", "3", "desk"])?;
+    assert_eq!(rt; status, 0);
+    assert_eq!(rt;
+        text.as_slice(),
+        b"serving 8080\nsessions 6 deeds 0\n".as_slice()
+    );
+    for wrong in [
+        &["0", "1", "1", "desk"],
+        &["65536", "1", "1", "desk"],
+        &["8080", "65", "1", "desk"],
+        &["8080", "1", "1000001", "desk"],
+        &["8080", "1", "1", "-desk"],
+    ] {
+        let (status, _) = ran_after(&rt, rt.alloc(), "serve", wrong)?;
+        assert_eq!(rt; status, 2);
+    }
     Ok(())
 }

@@ -57,7 +57,7 @@ const NOT_UNDERSTOOD: &[u8] = b"words not understood\n";
 #[test]
 fn each_refusal_has_its_line(rt: HostRuntime) -> Result<(), Fail> {
     for (command, words, due, line) in REFUSALS {
-        let (status, text) = ran_after(&rt, command, words)?;
+        let (status, text) = ran_after(&rt, rt.alloc(), command, words)?;
         assert_eq!(rt; status, *due);
         assert_eq!(rt; text.as_slice(), *line);
     }
@@ -72,7 +72,7 @@ fn a_file_past_the_limit_has_its_line(rt: HostRuntime) -> Result<(), Fail> {
     let mut held = files_in_memory(alloc)?;
     held.push(File { name, text })?;
     let files = ["long", "scan", "pat", "near"];
-    let (status, text) = ran_over(&rt, held, "check", &files, &[], &[])?;
+    let (status, text) = ran_over(&rt, rt.alloc(), held, "check", &files, &[], &[])?;
     assert_eq!(rt; status, 11);
     assert_eq!(rt; text.as_slice(), b"long too long\n".as_slice());
     Ok(())
@@ -83,7 +83,15 @@ fn a_failing_read_has_the_line_of_its_file(rt: HostRuntime) -> Result<(), Fail> 
     let words = ["c17", "D1", "net", "scan", "pat", "near", "log", "pass"];
     for (before, name) in words[2..].iter().enumerate() {
         let held = files_in_memory(rt.alloc())?;
-        let (status, text) = ran_over(&rt, held, "diagnose", &words, &[before as u64 + 1], &[])?;
+        let (status, text) = ran_over(
+            &rt,
+            rt.alloc(),
+            held,
+            "diagnose",
+            &words,
+            &[before as u64 + 1],
+            &[],
+        )?;
         assert_eq!(rt; status, 5);
         let line = format!(in rt.alloc(); "{name} fault\n")?;
         assert_eq!(rt; text.as_slice(), line.as_bytes());
@@ -97,6 +105,7 @@ fn a_failing_write_ends_with_its_status(rt: HostRuntime) -> Result<(), Fail> {
         let held = files_in_memory(rt.alloc())?;
         let (status, text) = ran_over(
             &rt,
+            rt.alloc(),
             held,
             "check",
             &[first, "scan", "pat", "near"],

@@ -248,7 +248,7 @@ candidate 10 fault 32 tfsf 1 tfsp 0 tpsf 0 branch 16 to 23 1 sa0\n\
 #[test]
 fn each_report_is_as_known(rt: HostRuntime) -> Result<(), Fail> {
     for (words, report) in REPORTS {
-        let (status, text) = ran_after(&rt, "diagnose", words)?;
+        let (status, text) = ran_after(&rt, rt.alloc(), "diagnose", words)?;
         assert_eq!(rt; status, 0);
         assert_eq!(rt; text.as_slice(), *report);
     }

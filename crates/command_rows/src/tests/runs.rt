@@ -1,10 +1,12 @@
 //! Runs over memory.
 use super::files::files_in_memory;
 use desk_commands::run;
-use desk_outside::{File, MemShelf, MemSink, are_distinct};
+use desk_outside::{File, MemCabinet, MemShelf, MemSink, MemStreet, are_distinct};
 use scan_model::Rows;
 use std::alloc::{AllocError, Global};
+use std::sync::Wait;
 use std::test::Fail;
+use std::thread::Threads;
 
 fn strings(alloc: Global, command: &str, words: &[&str]) -> Result<Vec<String>, AllocError> {
     let mut all = Vec::new(alloc);
@@ -16,21 +18,26 @@ fn strings(alloc: Global, command: &str, words: &[&str]) -> Result<Vec<String>, 
 }
 
 /// The status and the text of a command with these words after it.
-pub fn ran_after(rt: &HostRuntime, command: &str, words: &[&str]) -> Result<(u8, Vec<u8>), Fail> {
-    let held = files_in_memory(rt.alloc())?;
-    ran_over(rt, held, command, words, &[], &[])
+pub fn ran_after<R: Threads + Wait + Sync>(
+    rt: &R,
+    alloc: Global,
+    command: &str,
+    words: &[&str],
+) -> Result<(u8, Vec<u8>), Fail> {
+    let held = files_in_memory(alloc)?;
+    ran_over(rt, alloc, held, command, words, &[], &[])
 }
 
 /// The same over a shelf with these files, where these reads of the shelf and these writes to the sink fail.
-pub fn ran_over(
-    rt: &HostRuntime,
+pub fn ran_over<R: Threads + Wait + Sync>(
+    rt: &R,
+    alloc: Global,
     held: Rows<File>,
     command: &str,
     words: &[&str],
     failing_reads: &[u64],
     failing_writes: &[u64],
 ) -> Result<(u8, Vec<u8>), Fail> {
-    let alloc = rt.alloc();
     let words = strings(alloc, command, words)?;
     if !are_distinct(held.as_slice()) {
         Err::<(), _>("a name stands twice")?;
@@ -39,6 +46,16 @@ pub fn ran_over(
     let failing_writes = Rows::from_vec(Vec::from_slice(alloc, failing_writes)?);
     let mut shelf = MemShelf::make_failing(alloc, held, failing_reads)?;
     let mut sink = MemSink::make_failing(alloc, Rows::new(alloc), failing_writes)?;
-    let status = run(rt, alloc, &words, &mut shelf, &mut sink);
+    let mut street = MemStreet::make(alloc, Rows::new(alloc))?;
+    let mut cabinet = MemCabinet::make(alloc, Rows::new(alloc))?;
+    let status = run(
+        rt,
+        alloc,
+        &words,
+        &mut shelf,
+        &mut sink,
+        &mut street,
+        &mut cabinet,
+    );
     Ok((status, Vec::from_slice(alloc, sink.bytes())?))
 }

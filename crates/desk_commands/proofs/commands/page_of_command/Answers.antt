@@ -5,7 +5,7 @@ use Rattle.desk_commands.specs.declared.page.Page.{Page}
 use Rattle.desk_commands.specs.Requests.{said}
 use Rattle.desk_commands.specs.Work.{report_reading}
 use Rattle.desk_commands.specs.Demo.{demo_output}
-use Rattle.desk_commands.proofs.Pages.{page_is_due, output_is_due, demo_not_wrong, demo_not_fault, demo_not_sink, demo_not_memory}
+use Rattle.desk_commands.proofs.Pages.{page_is_due, output_is_due, demo_not_wrong, demo_not_fault, demo_not_sink, demo_not_memory, demo_not_serving}
 use Rattle.desk_commands.proofs.commands.page_of_command.Goals as goal
 
 pub returns-in-Diagnose-clause-told : goal.returns-in-Diagnose-clause-told
@@ -27,6 +27,9 @@ returns-in-Demo-clause-not_wrong g c = demo_not_wrong c.in-Demo.demo.seed c.in-D
 
 pub returns-in-Demo-clause-not_sink : goal.returns-in-Demo-clause-not_sink
 returns-in-Demo-clause-not_sink g c = demo_not_sink c.in-Demo.demo.seed c.in-Demo.demo.blocks c.demo_page.result c.demo_page.ensures.status
+
+pub returns-in-Demo-clause-not_serving : goal.returns-in-Demo-clause-not_serving
+returns-in-Demo-clause-not_serving g c = demo_not_serving c.in-Demo.demo.seed c.in-Demo.demo.blocks c.demo_page.result c.demo_page.ensures.status
 
 pub returns-in-Demo-clause-not_memory : goal.returns-in-Demo-clause-not_memory
 returns-in-Demo-clause-not_memory g c = demo_not_memory c.in-Demo.demo.seed c.in-Demo.demo.blocks c.demo_page.result c.demo_page.ensures.status

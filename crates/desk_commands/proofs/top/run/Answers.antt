@@ -1,33 +1,142 @@
-use Rattle.std.proofs.Common.{map, string_bytes, codes, inl, inr, refl}
-use Rattle.desk_commands.proofs.Requests.{wrong_work, said_sound}
-use Rattle.desk_commands.proofs.Runs.{said_due}
+use Rattle.std.proofs.Common.{◌≡◌, ◌∙◌, map, string_bytes, true, false, refl, sym, subst, true≢false}
+use Rattle.desk_commands.specs.Words.{are_right, is_serve, names_page}
+use Rattle.desk_commands.proofs.Served.{never_2, never_5, sink_rose, store_rose, spoiled_alone, street_rose, serve_is_right, page_is_right}
 use Rattle.desk_commands.proofs.top.run.Goals as goal
 
-pub returns-in-Ok-None-clause-told : goal.returns-in-Ok-None-clause-told
-returns-in-Ok-None-clause-told g c = λ held e.
-    let wrong = rw c.in-Ok-None.field-0-is at c.in-Ok-None.ensures.taken in
-    rw (wrong_work (map string_bytes c.args.words.now) held wrong)
-    (record { status = 2; text = codes "words not understood\n"; due = inl (inl (refl, refl)); ends = c.finish.ensures.ends })
+pub returns-then-is_serve-clause-told : goal.returns-then-is_serve-clause-told
+returns-then-is_serve-clause-told g c =
+    let words = map string_bytes c.args.words.now in
+    let serves : is_serve words ≡ true = sym c.is_serve.ensures ∙ c.if-is_serve.true in
+    λ alone held e. absurd (true≢false (sym serves ∙ alone))
 
-pub returns-in-Err-clause-told : goal.returns-in-Err-clause-told
-returns-in-Err-clause-told g c = λ held e.
-    record { status = 8; text = codes "memory\n"; due = inr (refl, refl); ends = c.finish-in-Err.ensures.ends }
+pub returns-then-is_serve-clause-served : goal.returns-then-is_serve-clause-served
+returns-then-is_serve-clause-served g c =
+    let words = map string_bytes c.args.words.now in
+    let serves : is_serve words ≡ true = sym c.is_serve.ensures ∙ c.if-is_serve.true in
+    λ e. c.run_serve.ensures.served
 
-pub page_of_command-requires : goal.page_of_command-requires
-page_of_command-requires g c =
-    said_sound (map string_bytes c.args.words.now) c.in-Ok-Some.command (rw c.in-Ok-Some.field-0-is at c.in-Ok-Some.ensures.taken)
+pub returns-then-is_serve-clause-files_alone : goal.returns-then-is_serve-clause-files_alone
+returns-then-is_serve-clause-files_alone g c =
+    let words = map string_bytes c.args.words.now in
+    let serves : is_serve words ≡ true = sym c.is_serve.ensures ∙ c.if-is_serve.true in
+    λ alone. absurd (true≢false (sym serves ∙ alone))
 
-pub returns-in-Ok-clause-told : goal.returns-in-Ok-clause-told
-returns-in-Ok-clause-told g c = λ held e.
-    let says = rw c.in-Ok-Some.field-0-is at c.in-Ok-Some.ensures.taken in
-    let page = c.in-Ok.page in
-    record {
-      status = page.status;
-      text = page.text;
-      due = inl (said_due (map string_bytes c.args.words.now) held c.in-Ok-Some.command _ page.status page.text says (c.in-Ok.ensures.told held e));
-      ends = rw c.as_slice.ensures at c.finish-in-Ok.ensures.ends;
-    }
+pub returns-then-is_serve-clause-no_files : goal.returns-then-is_serve-clause-no_files
+returns-then-is_serve-clause-no_files g c =
+    let words = map string_bytes c.args.words.now in
+    let serves : is_serve words ≡ true = sym c.is_serve.ensures ∙ c.if-is_serve.true in
+    λ e. refl
+
+pub returns-then-is_serve-clause-wrong : goal.returns-then-is_serve-clause-wrong
+returns-then-is_serve-clause-wrong g c =
+    let words = map string_bytes c.args.words.now in
+    let serves : is_serve words ≡ true = sym c.is_serve.ensures ∙ c.if-is_serve.true in
+    λ wrong. absurd (true≢false (sym (serve_is_right words serves) ∙ wrong))
+
+pub returns-then-is_serve-clause-right : goal.returns-then-is_serve-clause-right
+returns-then-is_serve-clause-right g c =
+    let words = map string_bytes c.args.words.now in
+    let serves : is_serve words ≡ true = sym c.is_serve.ensures ∙ c.if-is_serve.true in
+    λ two. absurd (never_2 _ _ _ _ _ c.run_serve.ensures.served two)
+
+pub returns-then-is_serve-clause-shelf_fault : goal.returns-then-is_serve-clause-shelf_fault
+returns-then-is_serve-clause-shelf_fault g c =
+    let words = map string_bytes c.args.words.now in
+    let serves : is_serve words ≡ true = sym c.is_serve.ensures ∙ c.if-is_serve.true in
+    λ five. absurd (never_5 _ _ _ _ _ c.run_serve.ensures.served five)
+
+pub returns-then-is_serve-clause-sink_fault : goal.returns-then-is_serve-clause-sink_fault
+returns-then-is_serve-clause-sink_fault g c =
+    let words = map string_bytes c.args.words.now in
+    let serves : is_serve words ≡ true = sym c.is_serve.ensures ∙ c.if-is_serve.true in
+    λ six. sink_rose _ _ _ _ _ c.run_serve.ensures.served six
+
+pub returns-then-is_serve-clause-store_fault : goal.returns-then-is_serve-clause-store_fault
+returns-then-is_serve-clause-store_fault g c =
+    let words = map string_bytes c.args.words.now in
+    let serves : is_serve words ≡ true = sym c.is_serve.ensures ∙ c.if-is_serve.true in
+    λ seven. store_rose _ _ _ _ _ c.run_serve.ensures.served seven
+
+pub returns-then-is_serve-clause-memory : goal.returns-then-is_serve-clause-memory
+returns-then-is_serve-clause-memory g c =
+    let words = map string_bytes c.args.words.now in
+    let serves : is_serve words ≡ true = sym c.is_serve.ensures ∙ c.if-is_serve.true in
+    λ alone. absurd (true≢false (sym serves ∙ alone))
+
+pub returns-then-is_serve-clause-spoiled : goal.returns-then-is_serve-clause-spoiled
+returns-then-is_serve-clause-spoiled g c =
+    let words = map string_bytes c.args.words.now in
+    let serves : is_serve words ≡ true = sym c.is_serve.ensures ∙ c.if-is_serve.true in
+    λ nine. spoiled_alone _ _ _ _ _ c.run_serve.ensures.served nine
+
+pub returns-then-is_serve-clause-street_fault : goal.returns-then-is_serve-clause-street_fault
+returns-then-is_serve-clause-street_fault g c =
+    let words = map string_bytes c.args.words.now in
+    let serves : is_serve words ≡ true = sym c.is_serve.ensures ∙ c.if-is_serve.true in
+    λ ten. street_rose _ _ _ _ _ c.run_serve.ensures.served ten
+
+pub returns-then-is_serve-clause-misunderstood : goal.returns-then-is_serve-clause-misunderstood
+returns-then-is_serve-clause-misunderstood g c =
+    let words = map string_bytes c.args.words.now in
+    let serves : is_serve words ≡ true = sym c.is_serve.ensures ∙ c.if-is_serve.true in
+    λ two. absurd (never_2 _ _ _ _ _ c.run_serve.ensures.served two)
 
 pub returns-clause-told : goal.returns-clause-told
-returns-clause-told g c = λ held e.
-    record { status = 8; text = codes "memory\n"; due = inr (refl, refl); ends = c.finish-in-Err-page_of_command.ensures.ends }
+returns-clause-told g c =
+    let words = map string_bytes c.args.words.now in
+    let page : is_serve words ≡ false = sym c.is_serve.ensures ∙ c.if-is_serve.false in
+    λ alone. c.run_page.ensures.told
+
+pub returns-clause-served : goal.returns-clause-served
+returns-clause-served g c =
+    let words = map string_bytes c.args.words.now in
+    let page : is_serve words ≡ false = sym c.is_serve.ensures ∙ c.if-is_serve.false in
+    λ e. absurd (true≢false (sym e ∙ page))
+
+pub returns-clause-files_alone : goal.returns-clause-files_alone
+returns-clause-files_alone g c =
+    let words = map string_bytes c.args.words.now in
+    let page : is_serve words ≡ false = sym c.is_serve.ensures ∙ c.if-is_serve.false in
+    λ alone. (refl, refl)
+
+pub returns-clause-no_files : goal.returns-clause-no_files
+returns-clause-no_files g c =
+    let words = map string_bytes c.args.words.now in
+    let page : is_serve words ≡ false = sym c.is_serve.ensures ∙ c.if-is_serve.false in
+    λ e. absurd (true≢false (sym e ∙ page))
+
+pub returns-clause-wrong : goal.returns-clause-wrong
+returns-clause-wrong g c =
+    let words = map string_bytes c.args.words.now in
+    let page : is_serve words ≡ false = sym c.is_serve.ensures ∙ c.if-is_serve.false in
+    λ wrong. c.run_page.ensures.wrong (sym (page_is_right words page) ∙ wrong)
+
+pub returns-clause-right : goal.returns-clause-right
+returns-clause-right g c =
+    let words = map string_bytes c.args.words.now in
+    let page : is_serve words ≡ false = sym c.is_serve.ensures ∙ c.if-is_serve.false in
+    λ two. page_is_right words page ∙ c.run_page.ensures.right two
+
+pub returns-clause-store_fault : goal.returns-clause-store_fault
+returns-clause-store_fault g c =
+    let words = map string_bytes c.args.words.now in
+    let page : is_serve words ≡ false = sym c.is_serve.ensures ∙ c.if-is_serve.false in
+    λ seven. absurd (c.run_page.ensures.not_serving.0 seven)
+
+pub returns-clause-spoiled : goal.returns-clause-spoiled
+returns-clause-spoiled g c =
+    let words = map string_bytes c.args.words.now in
+    let page : is_serve words ≡ false = sym c.is_serve.ensures ∙ c.if-is_serve.false in
+    λ nine. absurd (c.run_page.ensures.not_serving.1 nine)
+
+pub returns-clause-street_fault : goal.returns-clause-street_fault
+returns-clause-street_fault g c =
+    let words = map string_bytes c.args.words.now in
+    let page : is_serve words ≡ false = sym c.is_serve.ensures ∙ c.if-is_serve.false in
+    λ ten. absurd (c.run_page.ensures.not_serving.2 ten)
+
+pub returns-clause-memory : goal.returns-clause-memory
+returns-clause-memory g c =
+    let words = map string_bytes c.args.words.now in
+    let page : is_serve words ≡ false = sym c.is_serve.ensures ∙ c.if-is_serve.false in
+    λ alone. c.run_page.ensures.memory

@@ -1,0 +1,2 @@
+mod outsides;
+mod runs;
