@@ -1,0 +1,96 @@
+#!/usr/bin/env python3
+"""Diagnoses a die of a design at the limits: 65,536 nets, 262,144 pins, 4,096 patterns, 65,536 pairs.
+
+    python3 bench/limits.py [OTHER]           (from the top; ./scandesk must have been built)
+
+Tells the seconds of a processor and the greatest memory of `check` and `diagnose`; where OTHER is the path of another program with the
+same words and output, the two are told side by side and their bytes are compared.
+"""
+import os
+import pathlib
+import random
+import subprocess
+import sys
+import tempfile
+
+TOP = pathlib.Path(__file__).resolve().parent.parent
+PROGRAM = str(TOP / "crates/scandesk/out/scandesk")
+NETS, PINS, PATTERNS, PAIRS = 65536, 262144, 4096, 65536
+INPUTS, CELLS, OUTPUTS, FAILS = 500, 2000, 500, 200000
+KINDS = ["AND", "NAND", "OR", "NOR", "XOR", "XNOR"]
+
+
+def netlist(rng):
+    gates = NETS - INPUTS - CELLS
+    operands = PINS - CELLS - OUTPUTS
+    widths = [operands // gates + (k < operands % gates) for k in range(gates)]
+    nets = [f"i{k}" for k in range(INPUTS)] + [f"q{k}" for k in range(CELLS)]
+    lines = []
+    for k, width in enumerate(widths):
+        lines.append(f"g{k} = {rng.choice(KINDS)}({', '.join(rng.choice(nets[-3000:]) for _ in range(width))})")
+        nets.append(f"g{k}")
+    cells = [f"q{k} = DFF({rng.choice(nets[INPUTS + CELLS:])})" for k in range(CELLS)]
+    outputs = [f"OUTPUT({net})" for net in rng.sample(nets[-5000:], OUTPUTS)]
+    return [f"INPUT(i{k})" for k in range(INPUTS)] + outputs + cells + lines, nets
+
+
+def bits(rng, count):
+    return format(rng.getrandbits(count), f"0{count}b")
+
+
+def chains():
+    return [f"CHAIN c{h} " + " ".join(f"q{k}" for k in range(100 * h, 100 * h + 100)) for h in range(CELLS // 100)]
+
+
+def patterns(rng):
+    loads = lambda: " ".join(bits(rng, 100) for _ in range(CELLS // 100))
+    return [f"CAPTURE {bits(rng, INPUTS)} {loads()}" if k % 64 else f"SHIFT {loads()}" for k in range(PATTERNS)]
+
+
+def pairs(rng, nets):
+    found = set()
+    while len(found) < PAIRS:
+        at = rng.randrange(len(nets) - 50)
+        found.add((nets[at], nets[at + rng.randrange(1, 50)]))
+    return ["net_a,net_b"] + [f"{a},{b}" for a, b in sorted(found)]
+
+
+def log(rng):
+    places = [f"out {k}" for k in range(0)] + [f"cell c{h} {at}" for h in range(CELLS // 100) for at in range(100)]
+    fails = set()
+    while len(fails) < FAILS:
+        pattern = rng.randrange(PATTERNS)
+        fails.add((pattern, rng.randrange(len(places))))
+    return ["FAILLOG 1", "die D1", "design limits", f"tested 0 {PATTERNS - 1}"] + [f"fail {p} {places[k]}" for p, k in sorted(fails)] + ["end"]
+
+
+def write(folder):
+    rng = random.Random(7)
+    lines, nets = netlist(rng)
+    texts = {"limits.bench": lines, "limits.scan": chains(), "limits.pat": patterns(rng), "limits.csv": pairs(rng, nets), "limits.log": log(rng)}
+    for name, text in texts.items():
+        pathlib.Path(folder, name).write_text("\n".join(text) + "\n")
+
+
+def run(words, folder):
+    child = subprocess.Popen(words, cwd=folder, stdout=subprocess.PIPE)
+    printed = child.stdout.read()
+    _, status, usage = os.wait4(child.pid, 0)
+    print(f"  {words[0]}: status {status >> 8}, {usage.ru_utime + usage.ru_stime:.2f} s, {usage.ru_maxrss // 1024} MiB, {len(printed)} bytes")
+    return printed
+
+
+def main():
+    texts = ["limits.bench", "limits.scan", "limits.pat", "limits.csv"]
+    programs = [PROGRAM, *map(os.path.abspath, sys.argv[1:2])]
+    with tempfile.TemporaryDirectory() as folder:
+        write(folder)
+        for words in [["check", *texts], ["diagnose", "limits", "D1", *texts, "limits.log"]]:
+            print(words[0])
+            printed = [run([program, *words], folder) for program in programs]
+            if len(set(printed)) > 1:
+                sys.exit("the bytes differ")
+
+
+if __name__ == "__main__":
+    main()

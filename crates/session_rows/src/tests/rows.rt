@@ -1,0 +1,283 @@
+use super::texts::*;
+use super::{Row, is_served};
+use desk_http::SessionEnd;
+use std::test::Fail;
+
+#[test]
+fn a_log_that_comes_again_adds_nothing(rt: HostRuntime) -> Result<(), Fail> {
+    is_served(
+        &rt,
+        rt.alloc(),
+        &Row {
+            failing: &[],
+            max_deeds: 1000000,
+            asked: &[PUT_C17, POST_FAILS, POST_FAILS],
+            sent: &[CREATED_C17, CREATED_LOG_1, KEPT_LOG_1],
+            marks: &[1, 2, 2],
+            end: SessionEnd::Ended,
+        },
+    )
+}
+
+#[test]
+fn an_unknown_design_is_not_found(rt: HostRuntime) -> Result<(), Fail> {
+    is_served(
+        &rt,
+        rt.alloc(),
+        &Row {
+            failing: &[],
+            max_deeds: 1000000,
+            asked: &[b"GET /designs/none HTTP/1.1\r\nHost: desk\r\n\r\n"],
+            sent: &[NO_DESIGN],
+            marks: &[0],
+            end: SessionEnd::Ended,
+        },
+    )
+}
+
+#[test]
+fn a_design_is_read(rt: HostRuntime) -> Result<(), Fail> {
+    is_served(
+        &rt,
+        rt.alloc(),
+        &Row {
+            failing: &[],
+            max_deeds: 1000000,
+            asked: &[PUT_C17, b"GET /designs/c17 HTTP/1.1\r\n\r\n"],
+            sent: &[
+                CREATED_C17,
+                b"HTTP/1.1 200 OK\r\nContent-Type: text/plain\r\nContent-Length: 175\r\n\r\ndesign c17\ndigest 0db8ca6599e21775b9088f81c44184e655f03e1daec6da940562db27be24948c\ninputs 5\noutputs 2\nnets 11\npins 14\nchains 0\ncells 0\npatterns 1\npairs 0\nleft-out 0\nfaults 34\n",
+            ],
+            marks: &[1, 1],
+            end: SessionEnd::Ended,
+        },
+    )
+}
+
+#[test]
+fn a_fault_predicts_its_log(rt: HostRuntime) -> Result<(), Fail> {
+    is_served(
+        &rt,
+        rt.alloc(),
+        &Row {
+            failing: &[],
+            max_deeds: 1000000,
+            asked: &[
+                PUT_C17,
+                b"GET /designs/c17/faults/0/fails HTTP/1.1\r\n\r\n",
+                b"GET /designs/c17/faults/34/fails HTTP/1.1\r\n\r\n",
+            ],
+            sent: &[
+                CREATED_C17,
+                b"HTTP/1.1 200 OK\r\nContent-Type: text/plain\r\nContent-Length: 64\r\n\r\nFAILLOG 1\ndie predicted\ndesign c17\ntested 0 0\nfail 0 out 22\nend\n",
+                b"HTTP/1.1 404 Not Found\r\nContent-Type: text/plain\r\nContent-Length: 18\r\n\r\nrule 41 faults 34\n",
+            ],
+            marks: &[1, 1, 1],
+            end: SessionEnd::Ended,
+        },
+    )
+}
+
+#[test]
+fn a_report_is_read_whole_and_by_pages(rt: HostRuntime) -> Result<(), Fail> {
+    is_served(
+        &rt,
+        rt.alloc(),
+        &Row {
+            failing: &[],
+            max_deeds: 1000000,
+            asked: &[
+                PUT_C17,
+                b"GET /designs/c17/dies/D1/report HTTP/1.1\r\n\r\n",
+                POST_FAILS,
+                b"GET /designs/c17/dies/D1/report HTTP/1.1\r\n\r\n",
+                GET_FIRST,
+                b"GET /designs/c17/dies/D1/reports/1/pages/1 HTTP/1.1\r\n\r\n",
+                b"GET /designs/c17/dies/D1/reports/1/pages/13 HTTP/1.1\r\n\r\n",
+                b"GET /designs/c17/dies/D1/reports/1/pages/14 HTTP/1.1\r\n\r\n",
+                b"GET /designs/c17/dies/D1/reports/2 HTTP/1.1\r\n\r\n",
+            ],
+            sent: &[
+                CREATED_C17,
+                b"HTTP/1.1 404 Not Found\r\nContent-Type: text/plain\r\nContent-Length: 8\r\n\r\nrule 84\n",
+                CREATED_LOG_1,
+                FIRST_REPORT,
+                FIRST_REPORT,
+                FIRST_REPORT,
+                b"HTTP/1.1 200 OK\r\nContent-Type: text/plain\r\nContent-Length: 63\r\n\r\ncandidate 4 fault 22 tfsf 1 tfsp 0 tpsf 0 branch 3 to 10 2 sa0\n",
+                b"HTTP/1.1 404 Not Found\r\nContent-Type: text/plain\r\nContent-Length: 17\r\n\r\nrule 71 lines 13\n",
+                b"HTTP/1.1 404 Not Found\r\nContent-Type: text/plain\r\nContent-Length: 15\r\n\r\nrule 85 have 1\n",
+            ],
+            marks: &[1, 1, 2, 2, 2, 2, 2, 2, 2],
+            end: SessionEnd::Ended,
+        },
+    )
+}
+
+#[test]
+fn a_report_is_signed_by_its_own_digest(rt: HostRuntime) -> Result<(), Fail> {
+    is_served(
+        &rt,
+        rt.alloc(),
+        &Row {
+            failing: &[],
+            max_deeds: 1000000,
+            asked: &[
+                PUT_C17,
+                POST_FAILS,
+                b"POST /designs/c17/dies/D1/signoffs HTTP/1.1\r\nContent-Length: 110\r\n\r\n{\"revision\": 2, \"signer\": \"ann\", \"digest\": \"f8b658ff1c7535fcdb3e94bbc59998aca3c639ea60abb600f85c4b974ff6ae23\"}",
+                b"POST /designs/c17/dies/D1/signoffs HTTP/1.1\r\nContent-Length: 110\r\n\r\n{\"revision\": 1, \"signer\": \"ann\", \"digest\": \"0000000000000000000000000000000000000000000000000000000000000000\"}",
+                SIGN_FIRST,
+                SIGN_FIRST,
+                POST_PASSES,
+                GET_SIGN,
+            ],
+            sent: &[
+                CREATED_C17,
+                CREATED_LOG_1,
+                b"HTTP/1.1 404 Not Found\r\nContent-Type: text/plain\r\nContent-Length: 15\r\n\r\nrule 85 have 1\n",
+                b"HTTP/1.1 409 Conflict\r\nContent-Type: text/plain\r\nContent-Length: 80\r\n\r\nrule 86 digest f8b658ff1c7535fcdb3e94bbc59998aca3c639ea60abb600f85c4b974ff6ae23\n",
+                CREATED_SIGN,
+                KEPT_SIGN,
+                CREATED_LOG_2,
+                SIGN_TEXT,
+            ],
+            marks: &[1, 2, 2, 2, 3, 3, 4, 4],
+            end: SessionEnd::Ended,
+        },
+    )
+}
+
+#[test]
+fn a_revision_that_is_kept_is_signed(rt: HostRuntime) -> Result<(), Fail> {
+    is_served(
+        &rt,
+        rt.alloc(),
+        &Row {
+            failing: &[],
+            max_deeds: 1000000,
+            asked: &[
+                PUT_C17,
+                POST_FAILS,
+                GET_FIRST,
+                POST_PASSES,
+                SIGN_FIRST,
+                GET_SIGN,
+                GET_FIRST,
+            ],
+            sent: &[
+                CREATED_C17,
+                CREATED_LOG_1,
+                FIRST_REPORT,
+                CREATED_LOG_2,
+                CREATED_SIGN,
+                SIGN_TEXT,
+                FIRST_REPORT,
+            ],
+            marks: &[1, 2, 2, 3, 4, 4, 4],
+            end: SessionEnd::Ended,
+        },
+    )
+}
+
+#[test]
+fn a_design_is_put_once(rt: HostRuntime) -> Result<(), Fail> {
+    is_served(
+        &rt,
+        rt.alloc(),
+        &Row {
+            failing: &[],
+            max_deeds: 1000000,
+            asked: &[
+                PUT_C17,
+                PUT_C17,
+                b"PUT /designs/c17 HTTP/1.1\r\nContent-Length: 232\r\n\r\n%netlist\nINPUT(1)\nINPUT(2)\nINPUT(3)\nINPUT(6)\nINPUT(7)\nOUTPUT(22)\nOUTPUT(23)\n10 = NAND(1, 3)\n11 = NAND(3, 6)\n16 = NAND(2, 11)\n19 = NAND(11, 7)\n22 = NAND(10, 16)\n23 = NAND(16, 19)\n%scan\n%patterns\nCAPTURE 11111\n%neighbours\nnet_a,net_b\n",
+                b"PUT /designs/c18 HTTP/1.1\r\nContent-Length: 214\r\n\r\n%netlist\nINPUT(1)\nINPUT(2)\nINPUT(3)\nINPUT(6)\nINPUT(7)\nOUTPUT(22)\nOUTPUT(23)\n10 = NAND(1, 3)\n11 = NAND(3, 6)\n16 = NAND(2, 11)\n19 = NAND(11, 7)\n22 = NAND(10, 16)\n23 = NAND(16, 19)\n%patterns\nCAPTURE 11111\n%neighbours\n",
+            ],
+            sent: &[
+                CREATED_C17,
+                KEPT_C17,
+                b"HTTP/1.1 409 Conflict\r\nContent-Type: text/plain\r\nContent-Length: 78\r\n\r\nrule 82 kept 0db8ca6599e21775b9088f81c44184e655f03e1daec6da940562db27be24948c\n",
+                b"HTTP/1.1 422 Unprocessable Content\r\nContent-Type: text/plain\r\nContent-Length: 31\r\n\r\nsection bundle line 15 rule 81\n",
+            ],
+            marks: &[1, 1, 1, 1],
+            end: SessionEnd::Ended,
+        },
+    )
+}
+
+#[test]
+fn two_requests_that_come_together_are_answered_in_order(rt: HostRuntime) -> Result<(), Fail> {
+    is_served(
+        &rt,
+        rt.alloc(),
+        &Row {
+            failing: &[],
+            max_deeds: 1000000,
+            asked: &[
+                b"GET /designs/none HTTP/1.1\r\nHost: desk\r\n\r\n",
+                b"PUT /designs/c17 HTTP/1.1\r\nContent-Length: 3\r\n\r\nabc",
+            ],
+            sent: &[
+                NO_DESIGN,
+                b"HTTP/1.1 422 Unprocessable Content\r\nContent-Type: text/plain\r\nContent-Length: 30\r\n\r\nsection bundle line 1 rule 81\n",
+            ],
+            marks: &[0, 0],
+            end: SessionEnd::Ended,
+        },
+    )
+}
+
+#[test]
+fn a_failed_append_changes_nothing(rt: HostRuntime) -> Result<(), Fail> {
+    is_served(
+        &rt,
+        rt.alloc(),
+        &Row {
+            failing: &[3],
+            max_deeds: 1000000,
+            asked: &[PUT_C17, POST_FAILS, POST_FAILS],
+            sent: &[CREATED_C17, KEEPER_FAULT, CREATED_LOG_1],
+            marks: &[1, 1, 2],
+            end: SessionEnd::Ended,
+        },
+    )
+}
+
+#[test]
+fn a_full_desk_takes_no_more(rt: HostRuntime) -> Result<(), Fail> {
+    is_served(
+        &rt,
+        rt.alloc(),
+        &Row {
+            failing: &[],
+            max_deeds: 1,
+            asked: &[PUT_C17, POST_FAILS, PUT_C17],
+            sent: &[
+                CREATED_C17,
+                b"HTTP/1.1 409 Conflict\r\nContent-Type: text/plain\r\nContent-Length: 16\r\n\r\nrule 88 limit 1\n",
+                KEPT_C17,
+            ],
+            marks: &[1, 1, 1],
+            end: SessionEnd::Ended,
+        },
+    )
+}
+
+#[test]
+fn a_body_that_is_cut_off_is_not_taken(rt: HostRuntime) -> Result<(), Fail> {
+    is_served(
+        &rt,
+        rt.alloc(),
+        &Row {
+            failing: &[],
+            max_deeds: 1000000,
+            asked: &[
+                b"PUT /designs/c17 HTTP/1.1\r\nExpect: 100-continue\r\nContent-Length: 3\r\n\r\nab",
+            ],
+            sent: &[b"HTTP/1.1 100 Continue\r\n\r\n"],
+            marks: &[],
+            end: SessionEnd::Cut,
+        },
+    )
+}

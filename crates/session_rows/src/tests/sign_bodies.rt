@@ -1,0 +1,51 @@
+use desk_http::{BodyFault, sign_body};
+use scan_model::Name;
+use std::alloc::Global;
+use std::test::Fail;
+
+const DIGEST: &str = "0123456789abcdef0123456789abcdef0123456789abcdef0123456789abcdef";
+
+const UPPER: &str = "0123456789ABCDEF0123456789ABCDEF0123456789ABCDEF0123456789ABCDEF";
+
+// Whether a text is the body of a sign-off of `ann` to the revision.
+fn is_body(alloc: Global, text: &[u8], revision: u64) -> Result<bool, Fail> {
+    match sign_body(alloc, text) {
+        Ok(body) => Ok(
+            body.revision == revision
+                && body.signer.as_slice() == b"ann".as_slice()
+                && body.digest.as_bytes()[..4] == [0x01, 0x23, 0x45, 0x67],
+        ),
+        Err(BodyFault::NotASign) => Ok(false),
+        Err(BodyFault::NoMemory) => Err(Fail::new("no memory")),
+    }
+}
+
+#[test]
+fn bodies(rt: HostRuntime) -> Result<(), Fail> {
+    let alloc = rt.alloc();
+    for (revision, signer, digest, more, want) in [
+        ("1", "ann", DIGEST, "", true),
+        ("1", "ann", UPPER, "", true),
+        ("7,\"revision\":1", "ann", DIGEST, "", true),
+        ("1", "ann", DIGEST, ",\"note\":1", false),
+        ("-0", "ann", DIGEST, "", false),
+        ("1.0", "ann", DIGEST, "", false),
+        ("18446744073709551616", "ann", DIGEST, "", false),
+        ("1", "-ann", DIGEST, "", false),
+        ("1", "ann", &DIGEST[..63], "", false),
+    ] {
+        let text = format!(in alloc;
+            "{{\"revision\":{revision},\"signer\":\"{signer}\",\"digest\":\"{digest}\"{more}}}"
+        )?;
+        assert_eq!(rt; is_body(alloc, text.as_bytes(), 1)?, want, "{text}");
+    }
+    assert!(rt; !is_body(alloc, b"revision 1", 1)?);
+    let mut text = Name::copy_of(
+        alloc,
+        b"{\"signer\":\"\xff\",\"revision\":1,\"signer\":\"ann\",\"digest\":\"",
+    )?;
+    text.append(DIGEST.as_bytes())?;
+    text.append(b"\"}")?;
+    assert!(rt; !is_body(alloc, text.as_slice(), 1)?);
+    Ok(())
+}
