@@ -1,4 +1,6 @@
 //! Runs of one and of two workers.
+ghost use Rattle.std.specs.Prelude.{◌≡◌};
+
 use super::outsides::{door_with, empty_keeper, only, spoiled_keeper};
 use desk_outside::{MemCabinet, MemSink, MemStreet};
 use desk_serve::{Ending, Serving, serve};
@@ -10,7 +12,9 @@ const ASK: &[u8] = b"GET /designs/none HTTP/1.1\r\nHost: desk\r\n\r\n";
 const REPLY: &[u8] =
     b"HTTP/1.1 404 Not Found\r\nContent-Type: text/plain\r\nContent-Length: 8\r\n\r\nrule 83\n";
 
-fn one_worker() -> Serving<'static> {
+fn one_worker() -> Serving<'static>
+    ensures { result.workers ≡ 1 }
+{
     Serving {
         port: 8080,
         workers: 1,
