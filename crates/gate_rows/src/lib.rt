@@ -1,0 +1,5 @@
+//! Tests that no session waits for another that is held in its gate.
+#![tactic(auto)]
+
+#[cfg(test)]
+mod tests;

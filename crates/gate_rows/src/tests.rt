@@ -1,0 +1,242 @@
+ghost use Rattle.std.specs.Prelude.{All, IfOk};
+ghost use Rattle.desk_http.specs.DeskSeats.{IsSeatOf};
+
+use self::texts::*;
+use desk_http::{ReportCache, session};
+use desk_outside::{Gate, Keeper, Link, MemKeeper, MemLink, OpenGate};
+use desk_rows::start_two;
+use scan_model::{Name, NoMemory, Rows};
+use shared_desk::{Desk, DeskSeat};
+use std::alloc::Global;
+use std::process::Abort;
+use std::sync::Wait;
+use std::sync::atomic::{AtomicU64, Ordering};
+use std::test::Fail;
+use std::thread;
+use std::thread::Threads;
+
+mod texts;
+
+// These parts, one after another.
+fn joined(alloc: Global, parts: &[&[u8]]) -> Result<Name, NoMemory> {
+    let mut text = Name::new(alloc);
+    for part in parts {
+        text.append(part)?;
+    }
+    Ok(text)
+}
+
+// A gate that holds its session until a flag is set, though not for ever.
+#[derive(Drop)]
+struct HeldGate<'a> {
+    flag: &'a AtomicU64,
+    opened: bool,
+}
+
+impl Gate for HeldGate<'_> {
+    fn pass(&mut self) {
+        for _ in 0..10_000_000u32 {
+            if self.flag.load(Ordering::SeqCst) != 0 {
+                self.opened = true;
+                return;
+            }
+            // The other session may need this processor.
+            thread::yield_now();
+        }
+    }
+}
+
+// Serves a connection whose session is held in its gate. Answers whether the flag was set meanwhile.
+fn serve_held<R: Threads + Wait + Sync, K: Keeper, L: Link>(
+    rt: &R,
+    alloc: Global,
+    desk: &Desk<K>,
+    seat: &mut DeskSeat,
+    link: &mut L,
+    flag: &AtomicU64,
+) -> bool
+    requires { IsSeatOf seat.old desk.now }
+{
+    let Ok(mut cache) = ReportCache::make(alloc, 4) else {
+        return false;
+    };
+    let mut gate = HeldGate {
+        flag,
+        opened: false,
+    };
+    let _note = session(rt, alloc, desk, seat, &mut cache, link, &mut gate);
+    gate.opened
+}
+
+// Serves a connection that nothing holds, and then sets the flag.
+fn serve_free<R: Threads + Wait + Sync, K: Keeper, L: Link>(
+    rt: &R,
+    alloc: Global,
+    desk: &Desk<K>,
+    seat: &mut DeskSeat,
+    link: &mut L,
+    flag: &AtomicU64,
+)
+    requires { IsSeatOf seat.old desk.now }
+{
+    let Ok(mut cache) = ReportCache::make(alloc, 4) else {
+        return;
+    };
+    let _note = session(rt, alloc, desk, seat, &mut cache, link, &mut OpenGate);
+    flag.store(1, Ordering::SeqCst);
+}
+
+// A seat with its connection, whose session may be held, and whether it was held until the flag was set.
+#[derive(Drop)]
+struct Side<L: Link> {
+    seat: DeskSeat,
+    link: L,
+    is_held: bool,
+    opened: bool,
+}
+
+fn serve_side<R: Threads + Wait + Sync, K: Keeper, L: Link>(
+    rt: &R,
+    alloc: Global,
+    desk: &Desk<K>,
+    side: &mut Side<L>,
+    flag: &AtomicU64,
+)
+    requires { IsSeatOf side.old.seat desk.now }
+{
+    let Side {
+        seat,
+        link,
+        is_held,
+        opened,
+    } = side;
+    if *is_held {
+        *opened = serve_held(rt, alloc, desk, seat, link, flag);
+    } else {
+        serve_free(rt, alloc, desk, seat, link, flag);
+    }
+}
+
+// Serves both connections at once, each in a thread of its own.
+fn serve_both<R: Threads + Wait + Sync, K: Keeper + Send, L: Link + Send>(
+    rt: &R,
+    alloc: Global,
+    desk: &Desk<K>,
+    sides: &mut [Side<L>],
+    flag: &AtomicU64,
+)
+    requires { All (λ side. IsSeatOf side.seat desk.now) sides.old }
+{
+    let serve = |_: usize, side: &mut Side<L>|
+        requires { IsSeatOf side.now.seat desk.now }
+    { serve_side(rt, alloc, desk, side, flag) };
+    thread::for_each_mut(rt, sides, 2, &serve);
+}
+
+// What comes over two connections to a desk at once, the first of which is held in its gate until the second was answered.
+#[derive(Drop)]
+struct Meeting<'a> {
+    before: &'a [&'a [u8]],
+    held: &'a [&'a [u8]],
+    free: &'a [&'a [u8]],
+    held_sent: &'a [&'a [u8]],
+    free_sent: &'a [&'a [u8]],
+}
+
+// Both sides of a desk, in one list.
+#[tactic(auto, using(crate::proofs::Sides::both_are))]
+fn both_sides<K: Keeper, L: Link>(
+    alloc: Global,
+    desk: &Desk<K>,
+    held: Side<L>,
+    free: Side<L>,
+) -> Result<Vec<Side<L>>, NoMemory>
+    requires held { IsSeatOf held.seat desk.now }
+    requires free { IsSeatOf free.seat desk.now }
+    ensures { IfOk result (λ sides. All (λ side. IsSeatOf side.seat desk.now) sides.items) }
+{
+    let mut sides = Rows::new(alloc);
+    sides.push(held)?;
+    sides.push(free)?;
+    Ok(sides.into_vec())
+}
+
+fn do_not_wait<R: Abort + Threads + Wait + Sync>(
+    rt: &R,
+    alloc: Global,
+    meeting: &Meeting<'_>,
+) -> Result<(), Fail> {
+    let keeper = MemKeeper::make(alloc, Rows::new(alloc))?;
+    let (desk, mut first, second) = start_two(rt, alloc, keeper, 100)?;
+    let mut cache = ReportCache::make(alloc, 4)?;
+    let mut link = MemLink::make(alloc, joined(alloc, meeting.before)?)?;
+    let _note = session(
+        rt,
+        alloc,
+        &desk,
+        &mut first,
+        &mut cache,
+        &mut link,
+        &mut OpenGate,
+    );
+    let held = Side {
+        seat: first,
+        link: MemLink::make(alloc, joined(alloc, meeting.held)?)?,
+        is_held: true,
+        opened: false,
+    };
+    let free = Side {
+        seat: second,
+        link: MemLink::make(alloc, joined(alloc, meeting.free)?)?,
+        is_held: false,
+        opened: false,
+    };
+    let mut sides = both_sides(alloc, &desk, held, free)?;
+    serve_both(rt, alloc, &desk, sides.as_mut_slice(), &AtomicU64::new(0));
+    let Some(free) = sides.pop() else {
+        return Err(Fail::new("a connection is gone"));
+    };
+    let Some(held) = sides.pop() else {
+        return Err(Fail::new("a connection is gone"));
+    };
+    assert!(rt; held.opened);
+    assert_eq!(rt;
+        free.link.sent(),
+        joined(alloc, meeting.free_sent)?.as_slice()
+    );
+    assert_eq!(rt;
+        held.link.sent(),
+        joined(alloc, meeting.held_sent)?.as_slice()
+    );
+    Ok(())
+}
+
+#[test]
+fn an_upload_that_is_held_holds_no_other(rt: HostRuntime) -> Result<(), Fail> {
+    do_not_wait(
+        &rt,
+        rt.alloc(),
+        &Meeting {
+            before: &[],
+            held: &[PUT_C17],
+            free: &[b"GET /designs/none HTTP/1.1\r\n\r\n"],
+            held_sent: &[CREATED_C17],
+            free_sent: &[NO_DESIGN],
+        },
+    )
+}
+
+#[test]
+fn a_sign_off_that_is_held_stays_right(rt: HostRuntime) -> Result<(), Fail> {
+    do_not_wait(
+        &rt,
+        rt.alloc(),
+        &Meeting {
+            before: &[PUT_C17, POST_FAILS],
+            held: &[SIGN_FIRST, GET_SIGN],
+            free: &[POST_PASSES],
+            held_sent: &[CREATED_SIGN, SIGN_TEXT],
+            free_sent: &[CREATED_LOG_2],
+        },
+    )
+}
