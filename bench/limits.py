@@ -17,6 +17,7 @@ TOP = pathlib.Path(__file__).resolve().parent.parent
 PROGRAM = str(TOP / "crates/scandesk/out/scandesk")
 NETS, PINS, PATTERNS, PAIRS = 65536, 262144, 4096, 65536
 INPUTS, CELLS, OUTPUTS, FAILS = 500, 2000, 500, 200000
+BLOCK = 100
 KINDS = ["AND", "NAND", "OR", "NOR", "XOR", "XNOR"]
 
 
@@ -25,12 +26,15 @@ def netlist(rng):
     operands = PINS - CELLS - OUTPUTS
     widths = [operands // gates + (k < operands % gates) for k in range(gates)]
     nets = [f"i{k}" for k in range(INPUTS)] + [f"q{k}" for k in range(CELLS)]
-    lines = []
+    lines, block = [], []
     for k, width in enumerate(widths):
-        lines.append(f"g{k} = {rng.choice(KINDS)}({', '.join(rng.choice(nets[-3000:]) for _ in range(width))})")
+        if k % BLOCK == 0:
+            block = rng.sample(nets[:INPUTS + CELLS], 20)
+        lines.append(f"g{k} = {rng.choice(KINDS)}({', '.join(rng.choice(block) for _ in range(width))})")
+        block.append(f"g{k}")
         nets.append(f"g{k}")
     cells = [f"q{k} = DFF({rng.choice(nets[INPUTS + CELLS:])})" for k in range(CELLS)]
-    outputs = [f"OUTPUT({net})" for net in rng.sample(nets[-5000:], OUTPUTS)]
+    outputs = [f"OUTPUT({net})" for net in rng.sample(nets[INPUTS + CELLS:], OUTPUTS)]
     return [f"INPUT(i{k})" for k in range(INPUTS)] + outputs + cells + lines, nets
 
 
@@ -56,12 +60,12 @@ def pairs(rng, nets):
 
 
 def log(rng):
-    places = [f"out {k}" for k in range(0)] + [f"cell c{h} {at}" for h in range(CELLS // 100) for at in range(100)]
+    places = [f"cell c{h} {at}" for h in range(CELLS // 100) for at in range(100)]
     fails = set()
     while len(fails) < FAILS:
         pattern = rng.randrange(PATTERNS)
         fails.add((pattern, rng.randrange(len(places))))
-    return ["FAILLOG 1", "die D1", "design limits", f"tested 0 {PATTERNS - 1}"] + [f"fail {p} {places[k]}" for p, k in sorted(fails)] + ["end"]
+    return ["FAILLOG 1", "die demo", "design demo", f"tested 0 {PATTERNS - 1}"] + [f"fail {p} {places[k]}" for p, k in sorted(fails)] + ["end"]
 
 
 def write(folder):
@@ -85,7 +89,7 @@ def main():
     programs = [PROGRAM, *map(os.path.abspath, sys.argv[1:2])]
     with tempfile.TemporaryDirectory() as folder:
         write(folder)
-        for words in [["check", *texts], ["diagnose", "limits", "D1", *texts, "limits.log"]]:
+        for words in [["check", *texts], ["diagnose", "demo", "demo", *texts, "limits.log"]]:
             print(words[0])
             printed = [run([program, *words], folder) for program in programs]
             if len(set(printed)) > 1:
