@@ -92,7 +92,11 @@ fn an_upload_is_read_back(rt: HostRuntime) -> Result<(), Fail> {
         || serve(&rt, alloc, &asked, &mut out, &mut street, &mut cabinet),
     );
     assert_eq!(rt; ending.status(), 0);
-    assert!(rt; read?.windows(8).any(|part| part == b"\nlogs 1\n".as_slice()));
+    assert!(rt;
+        read?
+            .windows(8)
+            .any(|part| part == b"\nlogs 1\n".as_slice())
+    );
     assert_eq!(rt;
         out.bytes(),
         b"serving 18482\nsessions 2 deeds 2\n".as_slice()
