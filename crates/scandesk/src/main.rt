@@ -1,15 +1,16 @@
 //! The diagnosis desk on the command line: the outermost layer.
 #![tactic(auto)]
 
+mod file_cabinet;
 mod file_shelf;
 mod stdout_sink;
 mod tcp;
 
+use crate::file_cabinet::FileCabinet;
 use crate::file_shelf::FileShelf;
 use crate::stdout_sink::StdoutSink;
 use crate::tcp::TcpStreet;
 use desk_commands::{finish, run};
-use keeper_sqlite::SqliteCabinet;
 use std::alloc::Global;
 use std::process::ExitCode;
 use std::rt::Env;
@@ -25,7 +26,7 @@ fn main(rt: HostRuntime) -> ExitCode {
     let mut shelf = FileShelf::make(&rt, alloc);
     let mut out = StdoutSink::make(&rt, alloc);
     let mut street = TcpStreet::make(&rt, alloc);
-    let mut cabinet = SqliteCabinet::make(&rt, alloc);
+    let mut cabinet = FileCabinet::make(&rt, alloc);
     let words = match words_of(&rt, alloc) {
         Ok(words) => words,
         Err(e) if e.kind() == io::ErrorKind::OutOfMemory => {
