@@ -24,6 +24,7 @@ from pages import PROGRAM, TOP, ask, connect, free_port
 
 DAY = os.path.join(TOP, 'examples', 'day')
 WRONG = []
+RUNNING = []
 
 
 def day(name):
@@ -48,6 +49,7 @@ class Desk:
         self.port = free_port()
         words = [*command, 'serve', str(self.port), str(workers), str(sessions), store]
         self.process = subprocess.Popen(words, stdout=subprocess.PIPE, preexec_fn=limits)
+        RUNNING.append(self.process)
         if self.process.stdout.readline() != b'serving %d\n' % self.port:
             sys.exit('not served: %s' % words)
 
@@ -80,15 +82,13 @@ def slow_clients(folder):
     desk = Desk(os.path.join(folder, 'slow'), 3, 1000)
     desk.put_design()
     desk.ask('POST', LOGS, FIRST)
+    # The report of a row of buffers is long: 20 of them are more than a socket holds.
+    row = ['%netlist', 'INPUT(b0)', 'OUTPUT(b5000)'] + ['b%d = BUF(b%d)' % (k, k - 1) for k in range(1, 5001)]
+    desk.ask('PUT', '/designs/row', '\n'.join(row + ['%scan', '%patterns', 'CAPTURE 1', '%neighbours\n']).encode())
+    desk.ask('POST', '/designs/row/dies/D1/logs', b'FAILLOG 1\ndie D1\ndesign row\ntested 0 0\nfail 0 out b5000\nend\n')
     slow, deaf = desk.connect(), desk.connect()
     deaf.setsockopt(socket.SOL_SOCKET, socket.SO_RCVBUF, 4096)
-    deaf.setblocking(False)
-    try:
-        for _ in range(5000):
-            deaf.send(request('GET', '/designs/block/bundle'))
-            deaf.send(request('GET', LOGS[:-4] + 'report'))
-    except BlockingIOError:
-        pass
+    deaf.sendall(20 * request('GET', '/designs/row/dies/D1/report'))
     stop = threading.Event()
 
     def send_slowly():
@@ -219,12 +219,12 @@ def ends(folder):
 
 
 def full_disk(folder):
-    """The store may not grow past 100,000 bytes, as on a full disk."""
+    """The store may not grow past 1,000,000 bytes, as on a full disk."""
     store = os.path.join(folder, 'full')
 
     def limits():
         signal.signal(signal.SIGXFSZ, signal.SIG_IGN)
-        resource.setrlimit(resource.RLIMIT_FSIZE, (100000, 100000))
+        resource.setrlimit(resource.RLIMIT_FSIZE, (1000000, 1000000))
 
     desk = Desk(store, 1, 1000, limits=limits)
     desk.put_design()
@@ -257,6 +257,8 @@ def main():
         if len(sys.argv) > 1:
             heads(folder, sys.argv[1:])
     finally:
+        for process in RUNNING:
+            process.kill()
         shutil.rmtree(folder)
     sys.exit(1 if WRONG else 0)
 
