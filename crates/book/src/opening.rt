@@ -11,6 +11,7 @@ use crate::kept::Kept;
 use crate::row::add_row;
 use desk_outside::{Deed, KeepFault, Keeper};
 use std::alloc::Global;
+use std::thread::Threads;
 use thiserror::Error;
 
 /// Why a book wasn't opened.
@@ -65,7 +66,7 @@ fn is_past_end(row: &Option<Deed>, end: u64) -> Result<(), StartFault>
 }
 
 // Reads the rows from 0 on, and keeps each that fits those before it.
-fn read_rows<K: Keeper, R>(
+fn read_rows<K: Keeper, R: Threads + Sync>(
     rt: &R,
     alloc: Global,
     keeper: &mut K,
@@ -97,7 +98,7 @@ fn read_rows<K: Keeper, R>(
 impl<K: Keeper> Book<K> {
     /// The book of the keeper's rows, which are read from 0 to the end: at most `max_deeds` of them and one more. Each is
     /// judged by the rules of the call that would append it.
-    pub fn open_from<R>(
+    pub fn open_from<R: Threads + Sync>(
         rt: &R,
         alloc: Global,
         keeper: K,

@@ -21,6 +21,7 @@ use diagnosis::{BundleFault, Design, Put, ReadLog, check_report, log_of, read_bu
 use scan_model::{Digest, NoMemory};
 use std::alloc::Global;
 use std::sync::Arc;
+use std::thread::Threads;
 use text_parts::{ReadFault, is_tag};
 
 // The keeper of deeds that are kept already.
@@ -120,7 +121,7 @@ fn known_digest(signs: &[Sign], revision: u64) -> Option<Digest>
 }
 
 // The digest of the report of a die at a revision, where it has that revision.
-fn right_digest<R>(
+fn right_digest<R: Threads + Sync>(
     rt: &R,
     alloc: Global,
     kept: &Kept,
@@ -165,7 +166,7 @@ fn is_signed(
 }
 
 // Whether the sign-off of the row fits.
-fn sign_fits<R>(
+fn sign_fits<R: Threads + Sync>(
     rt: &R,
     alloc: Global,
     kept: &Kept,
@@ -225,7 +226,7 @@ fn add_log_row(
     }
 }
 
-fn add_sign_row<R>(
+fn add_sign_row<R: Threads + Sync>(
     rt: &R,
     alloc: Global,
     kept: &mut Kept,
@@ -248,7 +249,7 @@ fn add_sign_row<R>(
 }
 
 /// Adds the deed of a row to those before it, if it fits them.
-pub fn add_row<R>(rt: &R, alloc: Global, kept: &mut Kept, row: Deed) -> Result<bool, NoMemory>
+pub fn add_row<R: Threads + Sync>(rt: &R, alloc: Global, kept: &mut Kept, row: Deed) -> Result<bool, NoMemory>
     requires { each_fits [] kept.old ≡ true }
     ensures judged { IfOk result (λ r. fits kept.old row.what ≡ r) }
     ensures deeds { IfOk result (λ r. kept.new ≡ added_if r kept.old row) }

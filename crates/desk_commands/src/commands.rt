@@ -21,6 +21,7 @@ use crate::page::{Page, page_of};
 use desk_outside::Shelf;
 use scan_model::{Name, NoMemory};
 use std::alloc::Global;
+use std::thread::Threads;
 
 // The page of a text, or of the stop in its place.
 fn page_of_answer(alloc: Global, answer: Result<Name, Stop<'_>>) -> Result<Page, NoMemory>
@@ -38,7 +39,7 @@ fn page_of_answer(alloc: Global, answer: Result<Name, Stop<'_>>) -> Result<Page,
 }
 
 /// The page of a command.
-pub fn page_of_command<R, F: Shelf>(
+pub fn page_of_command<R: Threads + Sync, F: Shelf>(
     rt: &R,
     alloc: Global,
     shelf: &mut F,

@@ -6,9 +6,10 @@ use desk_outside::MemKeeper;
 use scan_model::{NoMemory, Rows};
 use shared_desk::{Desk, DeskSeat, start};
 use std::alloc::Global;
+use std::thread::Threads;
 
 /// A desk over this keeper, and its one seat.
-pub fn start_one<R>(
+pub fn start_one<R: Threads + Sync>(
     rt: &R,
     alloc: Global,
     keeper: MemKeeper,
@@ -29,7 +30,7 @@ pub fn start_one<R>(
 }
 
 /// A desk over this keeper, and its two seats.
-pub fn start_two<R>(
+pub fn start_two<R: Threads + Sync>(
     rt: &R,
     alloc: Global,
     keeper: MemKeeper,

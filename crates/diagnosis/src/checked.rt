@@ -23,6 +23,7 @@ use sha2::Sha256;
 use std::alloc::Global;
 use std::marker::Model;
 use std::sync::Arc;
+use std::thread::Threads;
 
 // The logs, joined.
 fn joined_of(alloc: Global, parts: &Parts, logs: &[Arc<ReadLog>]) -> Result<Joined, NoMemory>
@@ -47,7 +48,7 @@ pub struct Diagnosis {
 }
 
 // The diagnosis of different logs of the die.
-fn diagnosis_of<R>(
+fn diagnosis_of<R: Threads + Sync>(
     rt: &R,
     alloc: Global,
     design: &Design,
@@ -77,7 +78,7 @@ fn diagnosis_of<R>(
 }
 
 /// The report over the logs of a die, with the candidates that it lists.
-pub fn make_diagnosis<R>(rt: &R, alloc: Global, view: &DieView) -> Result<Diagnosis, NoMemory>
+pub fn make_diagnosis<R: Threads + Sync>(rt: &R, alloc: Global, view: &DieView) -> Result<Diagnosis, NoMemory>
     ensures lines { IfOk result (λ d. d.report ≡ view_lines view.now) }
     ensures report { IfOk result (λ d. text_of.joined d.report ≡ view_report view.now) }
     ensures cut { IfOk result (λ d. pieces (view_report view.now) ≡ d.report) }
@@ -88,7 +89,7 @@ pub fn make_diagnosis<R>(rt: &R, alloc: Global, view: &DieView) -> Result<Diagno
 
 /// The report over the logs of a die. Its lines are its text cut behind each LF. The order of the logs doesn't matter, nor does
 /// it that a text is given again.
-pub fn make_report<R>(rt: &R, alloc: Global, view: &DieView) -> Result<Report, NoMemory>
+pub fn make_report<R: Threads + Sync>(rt: &R, alloc: Global, view: &DieView) -> Result<Report, NoMemory>
     ensures lines { IfOk result (λ report. report ≡ view_lines view.now) }
     ensures report { IfOk result (λ report. text_of.joined report ≡ view_report view.now) }
     ensures cut { IfOk result (λ report. pieces (view_report view.now) ≡ report) }
@@ -150,7 +151,7 @@ fn digest_of(report: &Report) -> Digest
 }
 
 /// Makes the report of a die that has a log, for its digest.
-pub fn check_report<R>(rt: &R, alloc: Global, view: &DieView) -> Result<Checked, NoMemory>
+pub fn check_report<R: Threads + Sync>(rt: &R, alloc: Global, view: &DieView) -> Result<Checked, NoMemory>
     requires { 0 < length view.now.logs }
     ensures { IfOk result (λ checked. checked ≡ view.now) }
 {

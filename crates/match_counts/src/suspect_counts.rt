@@ -23,6 +23,7 @@ use scan_model::{Expected, NoMemory, Parts, Rows, Scored, Steps};
 use std::alloc::Global;
 use std::marker::Brand;
 use std::sync::ledger::{Blank, Ledger};
+use std::thread::Threads;
 
 /// The places, as long as they aren't more than there are faults.
 fn few_places<'a>(parts: &Parts, places: &'a [u32]) -> &'a [u32]
@@ -105,7 +106,7 @@ fn counts_in<L: Ledger>(
 
 /// The faults that explain at least one failing bit, with their counts, in the order of their places. Suspects alone are
 /// counted, 512 patterns at a time: one flip of a net serves all faults there.
-pub fn counts<R>(
+pub fn counts<R: Threads + Sync>(
     _rt: &R,
     alloc: Global,
     parts: &Parts,

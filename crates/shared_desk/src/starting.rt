@@ -20,6 +20,7 @@ use desk_outside::Keeper;
 use scan_model::Rows;
 use std::alloc::Global;
 use std::snapshot::Snapshot;
+use std::thread::Threads;
 
 // Want of memory, with the keeper of a book that was opened.
 fn without_memory<K: Keeper>(slot: Option<OpenBook<K>>) -> NotStarted<K>
@@ -136,7 +137,7 @@ fn with_seats<K: Keeper>(
 }
 
 /// Opens the book and makes all seats, numbered from 0. A refusal hands the keeper back as `Book::open_from` does.
-pub fn start<R, K: Keeper>(
+pub fn start<R: Threads + Sync, K: Keeper>(
     rt: &R,
     alloc: Global,
     keeper: K,

@@ -5,6 +5,7 @@ use desk_outside::MemKeeper;
 use scan_model::{NoMemory, Rows};
 use std::alloc::Global;
 use std::sync::Arc;
+use std::thread::Threads;
 
 pub const FAILS: &[u8] = b"FAILLOG 1\ndie D1\ndesign c17\ntested 0 0\nfail 0 out 22\nend\n";
 
@@ -26,7 +27,7 @@ pub fn c17(alloc: Global, pattern: &[u8]) -> Result<Arc<Design>, NoMemory> {
 }
 
 // A book over a keeper without deeds, whose calls with this number fail.
-pub fn opened<R>(
+pub fn opened<R: Threads + Sync>(
     rt: &R,
     alloc: Global,
     failing: u64,

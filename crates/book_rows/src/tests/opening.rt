@@ -6,6 +6,7 @@ use book::{Book, NotStarted, StartFault};
 use desk_outside::{Deed, DeedKind, Keeper, MemKeeper};
 use scan_model::{Digest, Name, NoMemory, Rows};
 use std::alloc::Global;
+use std::thread::Threads;
 
 fn design(alloc: Global, name: &[u8], text: &[u8]) -> Result<DeedKind, NoMemory> {
     Ok(DeedKind::Design {
@@ -67,7 +68,7 @@ fn rows(alloc: Global, letters: &[u8]) -> Result<Rows<Deed>, NoMemory> {
 }
 
 // The row at which the list is spoiled, or its length where it opens.
-fn stop<R>(rt: &R, alloc: Global, letters: &[u8], limit: u32) -> Result<u64, NoMemory> {
+fn stop<R: Threads + Sync>(rt: &R, alloc: Global, letters: &[u8], limit: u32) -> Result<u64, NoMemory> {
     let mut calls = Rows::new(alloc);
     // Past the limit one row is asked for, and no other.
     calls.push(u64::from(limit) + 2)?;
@@ -113,7 +114,7 @@ fn a_spoiled_list_is_refused_at_its_row(rt: HostRuntime) -> Result<(), NoMemory>
 }
 
 // Whether an opening in which the call of that number fails hands back the keeper with its rows and one fault.
-fn fails_whole<R>(rt: &R, alloc: Global, call: u64) -> Result<bool, NoMemory> {
+fn fails_whole<R: Threads + Sync>(rt: &R, alloc: Global, call: u64) -> Result<bool, NoMemory> {
     let mut calls = Rows::new(alloc);
     calls.push(call)?;
     let keeper = MemKeeper::make_failing(alloc, rows(alloc, b"DLS")?, calls)?;

@@ -4,6 +4,7 @@ use book::{Book, LookFault, Put, PutFault, check_report};
 use desk_outside::MemKeeper;
 use scan_model::{Digest, Name, NoMemory};
 use std::alloc::Global;
+use std::thread::Threads;
 
 /// SHA-256 of the report of c17's die of which 22 fails.
 pub const RIGHT: [u8; 32] = [
@@ -12,7 +13,7 @@ pub const RIGHT: [u8; 32] = [
 ];
 
 // Signs revision 1 of die D1.
-fn sign<R>(
+fn sign<R: Threads + Sync>(
     rt: &R,
     alloc: Global,
     book: &mut Book<MemKeeper>,

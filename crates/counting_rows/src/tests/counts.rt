@@ -13,9 +13,11 @@ use match_counts::{counts, plain_counts};
 use packed_sim::PackedGood;
 use scan_model::{Expected, NoMemory, Parts};
 use std::alloc::Global;
+use std::thread::Threads;
 
 /// Whether both counts list the same rows, and some.
-fn are_equal(
+fn are_equal<R: Threads + Sync>(
+    rt: &R,
     alloc: Global,
     parts: &Parts,
     expected: &Expected,
@@ -25,7 +27,7 @@ fn are_equal(
     requires joined { IsJoinedOf (length parts.now.patterns) (length (points_of parts.now)) joined.now }
 {
     let good = PackedGood::make(alloc, parts)?;
-    let rows = counts(&(), alloc, parts, &good, expected, joined)?;
+    let rows = counts(rt, alloc, parts, &good, expected, joined)?;
     let plain = plain_counts(alloc, parts, expected, joined)?;
     Ok(rows.as_slice() == plain.as_slice() && rows.len() > 0)
 }
@@ -40,10 +42,14 @@ struct Row<'a> {
     log: &'a [u8],
 }
 
-fn are_equal_over(alloc: Global, row: &Row<'_>) -> Result<bool, BundleFault> {
+fn are_equal_over<R: Threads + Sync>(
+    rt: &R,
+    alloc: Global,
+    row: &Row<'_>,
+) -> Result<bool, BundleFault> {
     let design = design(alloc, row.netlist, row.scan, row.patterns, row.pairs)?;
     let joined = joined_of(alloc, &design, row.log)?;
-    Ok(are_equal(alloc, design.parts(), design.expected(), &joined)?)
+    Ok(are_equal(rt, alloc, design.parts(), design.expected(), &joined)?)
 }
 
 #[test]
@@ -55,7 +61,7 @@ fn bridges_of_c17(rt: HostRuntime) {
         pairs: "net_a,net_b\n10,19\n3,10\n19,10\n16,19\n",
         log: b"FAILLOG 1\ndie D1\ndesign d\ntested 0 2\nfail 0 out 22\nfail 1 out 23\nend\n",
     };
-    assert!(rt; matches!(are_equal_over(rt.alloc(), &row), Ok(true)));
+    assert!(rt; matches!(are_equal_over(&rt, rt.alloc(), &row), Ok(true)));
 }
 
 #[test]
@@ -67,7 +73,7 @@ fn s27_that_captures_and_shifts(rt: HostRuntime) {
         pairs: "net_a,net_b\nG14,G12\n",
         log: b"FAILLOG 1\ndie D1\ndesign d\ntested 0 2\nfail 0 out G17\nfail 1 cell c0 0\nfail 2 cell c0 1\nend\n",
     };
-    assert!(rt; matches!(are_equal_over(rt.alloc(), &row), Ok(true)));
+    assert!(rt; matches!(are_equal_over(&rt, rt.alloc(), &row), Ok(true)));
 }
 
 #[test]
@@ -79,11 +85,11 @@ fn a_flop_in_no_chain_and_a_gate_that_reads_a_net_twice(rt: HostRuntime) {
         pairs: "",
         log: b"FAILLOG 1\ndie D1\ndesign d\ntested 0 3\nfail 1 cell c 1\nfail 2 cell c 0\nfail 3 cell c 1\nend\n",
     };
-    assert!(rt; matches!(are_equal_over(rt.alloc(), &row), Ok(true)));
+    assert!(rt; matches!(are_equal_over(&rt, rt.alloc(), &row), Ok(true)));
 }
 
 /// 600 patterns of c17 that fail in the second block of 512 alone.
-fn second_block_is_equal(alloc: Global) -> Result<bool, BundleFault> {
+fn second_block_is_equal<R: Threads + Sync>(rt: &R, alloc: Global) -> Result<bool, BundleFault> {
     let patterns = joined(
         alloc,
         &repeated(alloc, "CAPTURE 11111\nCAPTURE 10110\n", 256)?,
@@ -96,15 +102,18 @@ fn second_block_is_equal(alloc: Global) -> Result<bool, BundleFault> {
         pairs: "net_a,net_b\n10,19\n",
         log: b"FAILLOG 1\ndie D1\ndesign d\ntested 0 599\nfail 512 out 22\nfail 575 out 23\nfail 576 out 22\nfail 599 out 22\nend\n",
     };
-    are_equal_over(alloc, &row)
+    are_equal_over(rt, alloc, &row)
 }
 
 #[test]
 fn fails_in_the_second_block_alone(rt: HostRuntime) {
-    assert!(rt; matches!(second_block_is_equal(rt.alloc()), Ok(true)));
+    assert!(rt; matches!(second_block_is_equal(&rt, rt.alloc()), Ok(true)));
 }
 
-fn long_chain_is_equal(alloc: Global, log: &[u8]) -> Result<bool, BundleFault> {
+fn long_chain_is_equal<R: Threads + Sync>(
+    rt: &R,
+    alloc: Global,
+    log: &[u8]) -> Result<bool, BundleFault> {
     let netlist = long_netlist(alloc)?;
     let scan = long_chain(alloc)?;
     let patterns = long_patterns(alloc)?;
@@ -115,12 +124,12 @@ fn long_chain_is_equal(alloc: Global, log: &[u8]) -> Result<bool, BundleFault> {
         pairs: "",
         log,
     };
-    are_equal_over(alloc, &row)
+    are_equal_over(rt, alloc, &row)
 }
 
 #[test]
 fn a_chain_of_70_cells(rt: HostRuntime) {
     let log =
         b"FAILLOG 1\ndie D1\ndesign d\ntested 0 2\nfail 0 cell c 65\nfail 0 cell c 3\nfail 1 cell c 40\nfail 2 cell c 64\nend\n";
-    assert!(rt; matches!(long_chain_is_equal(rt.alloc(), log), Ok(true)));
+    assert!(rt; matches!(long_chain_is_equal(&rt, rt.alloc(), log), Ok(true)));
 }

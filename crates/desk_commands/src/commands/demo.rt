@@ -20,6 +20,7 @@ use crate::page::{Page, line_page, rule_line};
 use diagnosis::{BundleFault, Design, Section, design_of};
 use scan_model::{Name, NoMemory, Rows};
 use std::alloc::Global;
+use std::thread::Threads;
 
 fn section_name(section: Section) -> &'static str
     ensures { result.now ≡ section_word section }
@@ -48,7 +49,7 @@ fn refused_page(alloc: Global, fault: BundleFault) -> Result<Page, NoMemory>
 }
 
 // Adds the lines of the fault that is put in and of its diagnosis.
-fn add_diagnosis<R>(
+fn add_diagnosis<R: Threads + Sync>(
     rt: &R,
     alloc: Global,
     text: &mut Name,
@@ -74,7 +75,7 @@ fn add_diagnosis<R>(
 }
 
 // Adds the lines of what was found.
-fn add_found<R>(
+fn add_found<R: Threads + Sync>(
     rt: &R,
     alloc: Global,
     text: &mut Name,
@@ -92,7 +93,7 @@ fn add_found<R>(
 }
 
 // The page of the design that was made, with the draws that come after its texts.
-fn page_of_design<R>(
+fn page_of_design<R: Threads + Sync>(
     rt: &R,
     alloc: Global,
     demo: Demo,
@@ -128,7 +129,7 @@ fn read_made(alloc: Global, made: &Made) -> Result<Design, BundleFault>
 }
 
 /// The page of a made design.
-pub fn demo_page<R>(rt: &R, alloc: Global, demo: Demo) -> Result<Page, NoMemory>
+pub fn demo_page<R: Threads + Sync>(rt: &R, alloc: Global, demo: Demo) -> Result<Page, NoMemory>
     requires { demo.blocks ≤ 200 }
     ensures status { IfOk result (λ page. page.status ≡ (demo_output demo.seed demo.blocks).status) }
     ensures text { IfOk result (λ page. page.text ≡ (demo_output demo.seed demo.blocks).text) }

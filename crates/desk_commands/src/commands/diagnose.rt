@@ -21,6 +21,7 @@ use desk_outside::Shelf;
 use diagnosis::{Design, design_with, make_report};
 use scan_model::{Name, NoMemory};
 use std::alloc::Global;
+use std::thread::Threads;
 use std::sync::Arc;
 
 // The design of that name, of texts that were read.
@@ -50,7 +51,7 @@ fn named_design(alloc: Global, name: &str, read: ReadDesign) -> Result<Arc<Desig
 }
 
 // The report of the logs of a command, over its design.
-fn report_over<'a, R, F: Shelf>(
+fn report_over<'a, R: Threads + Sync, F: Shelf>(
     rt: &R,
     alloc: Global,
     shelf: &mut F,
@@ -71,7 +72,7 @@ fn report_over<'a, R, F: Shelf>(
 }
 
 /// The report of the files of these names.
-pub fn report_of<'a, R, F: Shelf>(
+pub fn report_of<'a, R: Threads + Sync, F: Shelf>(
     rt: &R,
     alloc: Global,
     shelf: &mut F,

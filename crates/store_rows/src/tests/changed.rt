@@ -9,6 +9,7 @@ use keeper_sqlite::SqliteCabinet;
 use sqlite::Connection;
 use std::alloc::Global;
 use std::test::Fail;
+use std::thread::Threads;
 
 // A store of the three deeds, changed by a statement.
 fn change(rt: &HostRuntime, name: &str, statement: &str) -> Result<(), Fail> {
@@ -52,7 +53,7 @@ fn take_home<C: Cabinet>(cabinet: &mut C, refused: NotStarted<C::K>) -> Result<S
 }
 
 // Why no book opens over the store of this name.
-fn refuses<R, C: Cabinet>(
+fn refuses<R: Threads + Sync, C: Cabinet>(
     rt: &R,
     alloc: Global,
     cabinet: &mut C,
@@ -76,17 +77,23 @@ fn is_faulty(rt: &HostRuntime, name: &str, statement: &str, row: u64) -> Result<
     fails_at(&mut cabinet, name, row)
 }
 
-fn fault_over(rt: &HostRuntime, name: &str, statement: &str) -> Result<StartFault, Fail> {
+// The threads are those of the runtime too, which has them only where a test takes it.
+fn fault_over<R: Threads + Sync>(
+    rt: &HostRuntime,
+    threads: &R,
+    name: &str,
+    statement: &str,
+) -> Result<StartFault, Fail> {
     change(rt, name, statement)?;
     let mut cabinet = SqliteCabinet::make(rt, rt.alloc());
-    refuses(rt, rt.alloc(), &mut cabinet, name)
+    refuses(threads, rt.alloc(), &mut cabinet, name)
 }
 
 #[test]
 fn a_missing_number_is_a_fault(rt: HostRuntime) -> Result<(), Fail> {
     let statement = "DELETE FROM logs WHERE n = 1";
     assert!(rt; is_faulty(&rt, "gap.db", statement, 1)?);
-    let fault = fault_over(&rt, "gap.db", statement)?;
+    let fault = fault_over(&rt, &rt, "gap.db", statement)?;
     assert!(rt; matches!(fault, StartFault::Failed));
     Ok(())
 }
@@ -117,7 +124,7 @@ fn a_digest_that_is_too_short_is_a_fault(rt: HostRuntime) -> Result<(), Fail> {
 fn another_digest_is_spoiled(rt: HostRuntime) -> Result<(), Fail> {
     let statement =
         "UPDATE signoffs SET digest = x'0707070707070707070707070707070707070707070707070707070707070707' WHERE n = 2";
-    let fault = fault_over(&rt, "digest.db", statement)?;
+    let fault = fault_over(&rt, &rt, "digest.db", statement)?;
     assert!(rt; matches!(fault, StartFault::Spoiled { row: 2 }));
     Ok(())
 }
@@ -125,6 +132,7 @@ fn another_digest_is_spoiled(rt: HostRuntime) -> Result<(), Fail> {
 #[test]
 fn another_text_of_a_log_is_spoiled(rt: HostRuntime) -> Result<(), Fail> {
     let fault = fault_over(
+        &rt,
         &rt,
         "text.db",
         "UPDATE logs SET body = x'4641494C' WHERE n = 1",

@@ -9,6 +9,7 @@ use keeper_sqlite::SqliteCabinet;
 use std::alloc::Global;
 use std::process::Abort;
 use std::test::Fail;
+use std::thread::Threads;
 
 fn row_of<K: Keeper>(keeper: &mut K, row: u64) -> Result<Option<Deed>, Fail> {
     match keeper.row(row) {
@@ -48,7 +49,7 @@ fn holds_three<R: Abort, C: Cabinet>(rt: &R, cabinet: &mut C, name: &str) -> Res
 }
 
 // The numbers of deeds and faults of a book over the store of this name.
-fn counts_over<R, C: Cabinet>(
+fn counts_over<R: Threads + Sync, C: Cabinet>(
     rt: &R,
     alloc: Global,
     cabinet: &mut C,

@@ -7,9 +7,10 @@ use diagnosis::{Design, DieView, log_of, make_report};
 use scan_model::{Name, NoMemory};
 use std::alloc::Global;
 use std::sync::Arc;
+use std::thread::Threads;
 
 /// The report of a die over one log, which must be one of the design and the die.
-pub(crate) fn report_over<R>(
+pub(crate) fn report_over<R: Threads + Sync>(
     rt: &R,
     alloc: Global,
     design: &Arc<Design>,
@@ -28,7 +29,7 @@ pub(crate) fn report_over<R>(
 }
 
 /// The same of a log of the die D1.
-pub(crate) fn report<R>(
+pub(crate) fn report<R: Threads + Sync>(
     rt: &R,
     alloc: Global,
     design: Design,

@@ -6,6 +6,7 @@ use fault_universe::universe_len;
 use scan_model::{Name, NoMemory};
 use std::alloc::{AllocError, Global};
 use std::sync::Arc;
+use std::thread::Threads;
 
 /// The log that the fault at a place predicts of the die D1 of the design.
 fn predicted(alloc: Global, design: &Design, place: u32) -> Result<Option<Name>, NoMemory> {
@@ -45,7 +46,7 @@ fn own_words(alloc: Global, place: u32, fails: usize) -> Result<String, AllocErr
 }
 
 /// Whether the fault at a place explains the log that it predicts, and no pass speaks against it.
-fn explains_itself<R>(
+fn explains_itself<R: Threads + Sync>(
     rt: &R,
     alloc: Global,
     design: &Arc<Design>,
@@ -63,7 +64,7 @@ fn explains_itself<R>(
 }
 
 /// Whether a design has so many faults, and each explains its own log.
-fn all_explain_themselves<R>(
+fn all_explain_themselves<R: Threads + Sync>(
     rt: &R,
     alloc: Global,
     design: Design,

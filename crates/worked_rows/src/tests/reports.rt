@@ -4,6 +4,7 @@ use diag_report::{PastEnd, Report};
 use diagnosis::BundleFault;
 use scan_model::NoMemory;
 use std::alloc::Global;
+use std::thread::Threads;
 
 /// Whether the report from this line on begins with these words.
 fn begins(report: &Report, line: u64, words: &str) -> bool {
@@ -21,7 +22,7 @@ fn begin(answer: Result<Report, BundleFault>, first: (u64, &str), second: (u64, 
     }
 }
 
-fn without_fails<R>(rt: &R, alloc: Global) -> Result<Report, BundleFault> {
+fn without_fails<R: Threads + Sync>(rt: &R, alloc: Global) -> Result<Report, BundleFault> {
     let design = design_of_s27(alloc, "CAPTURE 0000 000\n")?;
     let log = b"FAILLOG 1\ndie D1\ndesign d\ntested 0 0\nend\n";
     Ok(report(rt, alloc, design, log)?)
@@ -42,7 +43,7 @@ fn repeated(alloc: Global, text: &str, times: u32) -> Result<String, NoMemory> {
     Ok(all)
 }
 
-fn with_65_patterns<R>(rt: &R, alloc: Global) -> Result<Report, BundleFault> {
+fn with_65_patterns<R: Threads + Sync>(rt: &R, alloc: Global) -> Result<Report, BundleFault> {
     let patterns = repeated(alloc, "CAPTURE 11111\n", 65)?;
     let design = design_of_c17(alloc, &patterns)?;
     let log = b"FAILLOG 1\ndie D1\ndesign d\ntested 0 64\nfail 64 out 22\nend\n";
@@ -71,7 +72,7 @@ fn buffers(alloc: Global) -> Result<String, NoMemory> {
     Ok(text)
 }
 
-fn of_buffers<R>(rt: &R, alloc: Global) -> Result<Report, BundleFault> {
+fn of_buffers<R: Threads + Sync>(rt: &R, alloc: Global) -> Result<Report, BundleFault> {
     let netlist = buffers(alloc)?;
     let design = design(alloc, &netlist, "", "CAPTURE 1\n")?;
     let log = b"FAILLOG 1\ndie D1\ndesign d\ntested 0 0\nfail 0 out b240\nend\n";

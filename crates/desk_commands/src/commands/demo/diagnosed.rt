@@ -10,6 +10,7 @@ use diagnosis::{Design, Diagnosis, DieView, make_diagnosis};
 use scan_model::{Name, NoMemory};
 use std::alloc::Global;
 use std::sync::Arc;
+use std::thread::Threads;
 
 // The die with its one log.
 fn view_of(alloc: Global, design: Design, injected: Injected) -> Result<DieView, NoMemory>
@@ -24,7 +25,7 @@ fn view_of(alloc: Global, design: Design, injected: Injected) -> Result<DieView,
 }
 
 /// The report over the log and its candidates.
-pub fn diagnosis_of<R>(
+pub fn diagnosis_of<R: Threads + Sync>(
     rt: &R,
     alloc: Global,
     design: Design,
