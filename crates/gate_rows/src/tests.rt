@@ -1,4 +1,4 @@
-ghost use Rattle.std.specs.Prelude.{All, IfOk};
+ghost use Rattle.std.specs.Prelude.{◌≡◌, All, IfOk};
 ghost use Rattle.desk_http.specs.DeskSeats.{IsSeatOf};
 
 use self::texts::*;
@@ -8,10 +8,8 @@ use desk_rows::start_two;
 use scan_model::{Name, NoMemory, Rows};
 use shared_desk::{Desk, DeskSeat};
 use std::alloc::Global;
-use std::process::Abort;
 use std::sync::Wait;
 use std::sync::atomic::{AtomicU64, Ordering};
-use std::test::Fail;
 use std::thread;
 use std::thread::Threads;
 
@@ -161,82 +159,97 @@ fn both_sides<K: Keeper, L: Link>(
     Ok(sides.into_vec())
 }
 
-fn do_not_wait<R: Abort + Threads + Wait + Sync>(
+// Serves the connection that comes before both.
+fn serve_first<R: Threads + Wait + Sync, K: Keeper>(
+    rt: &R,
+    alloc: Global,
+    desk: &Desk<K>,
+    seat: &mut DeskSeat,
+    texts: &[&[u8]],
+) -> Result<(), NoMemory>
+    requires { IsSeatOf seat.old desk.now }
+    ensures { IsSeatOf seat.new desk.now }
+{
+    let mut cache = ReportCache::make(alloc, 4)?;
+    let mut link = MemLink::make(alloc, joined(alloc, texts)?)?;
+    let _note = session(rt, alloc, desk, seat, &mut cache, &mut link, &mut OpenGate);
+    Ok(())
+}
+
+// A seat with a connection over which these texts come.
+fn side_of(
+    alloc: Global,
+    seat: DeskSeat,
+    texts: &[&[u8]],
+    is_held: bool,
+) -> Result<Side<MemLink>, NoMemory>
+    ensures { IfOk result (λ side. side.seat ≡ seat) }
+{
+    let link = MemLink::make(alloc, joined(alloc, texts)?)?;
+    Ok(Side {
+        seat,
+        link,
+        is_held,
+        opened: false,
+    })
+}
+
+// Whether both connections were sent what is due, and the first was held until the second was answered.
+fn is_met(
+    alloc: Global,
+    sides: Vec<Side<MemLink>>,
+    meeting: &Meeting<'_>,
+) -> Result<bool, NoMemory> {
+    let mut sides = sides;
+    let (Some(free), Some(held)) = (sides.pop(), sides.pop()) else {
+        return Ok(false);
+    };
+    let free_sent = joined(alloc, meeting.free_sent)?;
+    let held_sent = joined(alloc, meeting.held_sent)?;
+    Ok(
+        held.opened
+            && free.link.sent() == free_sent.as_slice()
+            && held.link.sent() == held_sent.as_slice(),
+    )
+}
+
+fn do_not_wait<R: Threads + Wait + Sync>(
     rt: &R,
     alloc: Global,
     meeting: &Meeting<'_>,
-) -> Result<(), Fail> {
+) -> Result<bool, NoMemory> {
     let keeper = MemKeeper::make(alloc, Rows::new(alloc))?;
     let (desk, mut first, second) = start_two(rt, alloc, keeper, 100)?;
-    let mut cache = ReportCache::make(alloc, 4)?;
-    let mut link = MemLink::make(alloc, joined(alloc, meeting.before)?)?;
-    let _note = session(
-        rt,
-        alloc,
-        &desk,
-        &mut first,
-        &mut cache,
-        &mut link,
-        &mut OpenGate,
-    );
-    let held = Side {
-        seat: first,
-        link: MemLink::make(alloc, joined(alloc, meeting.held)?)?,
-        is_held: true,
-        opened: false,
-    };
-    let free = Side {
-        seat: second,
-        link: MemLink::make(alloc, joined(alloc, meeting.free)?)?,
-        is_held: false,
-        opened: false,
-    };
+    serve_first(rt, alloc, &desk, &mut first, meeting.before)?;
+    let held = side_of(alloc, first, meeting.held, true)?;
+    let free = side_of(alloc, second, meeting.free, false)?;
     let mut sides = both_sides(alloc, &desk, held, free)?;
     serve_both(rt, alloc, &desk, sides.as_mut_slice(), &AtomicU64::new(0));
-    let Some(free) = sides.pop() else {
-        return Err(Fail::new("a connection is gone"));
+    is_met(alloc, sides, meeting)
+}
+
+#[test]
+fn an_upload_that_is_held_holds_no_other(rt: HostRuntime) -> Result<(), NoMemory> {
+    let meeting = Meeting {
+        before: &[],
+        held: &[PUT_C17],
+        free: &[b"GET /designs/none HTTP/1.1\r\n\r\n"],
+        held_sent: &[CREATED_C17],
+        free_sent: &[NO_DESIGN],
     };
-    let Some(held) = sides.pop() else {
-        return Err(Fail::new("a connection is gone"));
-    };
-    assert!(rt; held.opened);
-    assert_eq!(rt;
-        free.link.sent(),
-        joined(alloc, meeting.free_sent)?.as_slice()
-    );
-    assert_eq!(rt;
-        held.link.sent(),
-        joined(alloc, meeting.held_sent)?.as_slice()
-    );
+    assert!(rt; do_not_wait(&rt, rt.alloc(), &meeting)?);
     Ok(())
 }
 
 #[test]
-fn an_upload_that_is_held_holds_no_other(rt: HostRuntime) -> Result<(), Fail> {
-    do_not_wait(
-        &rt,
-        rt.alloc(),
-        &Meeting {
-            before: &[],
-            held: &[PUT_C17],
-            free: &[b"GET /designs/none HTTP/1.1\r\n\r\n"],
-            held_sent: &[CREATED_C17],
-            free_sent: &[NO_DESIGN],
-        },
-    )
-}
-
-#[test]
-fn a_sign_off_that_is_held_stays_right(rt: HostRuntime) -> Result<(), Fail> {
-    do_not_wait(
-        &rt,
-        rt.alloc(),
-        &Meeting {
-            before: &[PUT_C17, POST_FAILS],
-            held: &[SIGN_FIRST, GET_SIGN],
-            free: &[POST_PASSES],
-            held_sent: &[CREATED_SIGN, SIGN_TEXT],
-            free_sent: &[CREATED_LOG_2],
-        },
-    )
+fn a_sign_off_that_is_held_stays_right(rt: HostRuntime) -> Result<(), NoMemory> {
+    let meeting = Meeting {
+        before: &[PUT_C17, POST_FAILS],
+        held: &[SIGN_FIRST, GET_SIGN],
+        free: &[POST_PASSES],
+        held_sent: &[CREATED_SIGN, SIGN_TEXT],
+        free_sent: &[CREATED_LOG_2],
+    };
+    assert!(rt; do_not_wait(&rt, rt.alloc(), &meeting)?);
+    Ok(())
 }
