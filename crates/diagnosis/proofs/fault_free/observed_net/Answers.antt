@@ -1,5 +1,5 @@
 use Rattle.scan_model.proofs.Outputs.{output_in_range}
-use Rattle.fault_free_tries.proofs.fault_free.observed_net.Goals as goal
+use Rattle.diagnosis.proofs.fault_free.observed_net.Goals as goal
 
 pub returns-in-Output-clause-below : goal.returns-in-Output-clause-below
 returns-in-Output-clause-below c =

@@ -6,7 +6,7 @@ use Rattle.scan_model.specs.declared.parts.Point.{Point}
 use Rattle.scan_model.specs.ScanTest.{ScanTest}
 use Rattle.scan_model.specs.Response.{observed}
 use Rattle.lane_rows.specs.Planes.{value_of_bits}
-use Rattle.fault_free_tries.specs.declared.fault_free.Shown.{Shown}
+use Rattle.diagnosis.specs.declared.fault_free.Shown.{Shown}
 
 -- the value in pattern i of the 64
 abbrev pub value_in : ℕ → Shown → Tri

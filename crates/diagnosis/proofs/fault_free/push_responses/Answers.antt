@@ -1,8 +1,7 @@
 use Rattle.std.proofs.Common.{◌≡◌, ◌∙◌, ℕ, ◌+◌, ◌*◌, ◌-◌, ◌<◌, None, length, refl, ap, arith}
 use Rattle.std.proofs.lemmas.List.FromFn.{map-range_with_len_more}
-use Rattle.scan_model.specs.ScanTest.{points_of}
 use Rattle.scan_model.specs.Response.{response}
-use Rattle.fault_free_tries.proofs.fault_free.push_responses.Goals as goal
+use Rattle.diagnosis.proofs.fault_free.push_responses.Goals as goal
 
 pub loop-pattern-preserved : goal.loop-pattern-preserved
 loop-pattern-preserved c =
@@ -13,5 +12,5 @@ loop-pattern-preserved c =
     let place : 64 * c.args.word + at ≡ pattern = omega (arith, c.loop-pattern.auto.pattern) in
     let within : at < 64 = omega (arith, c.loop-pattern-test.true, c.min-last.ensures) in
     let row : c.in_ok-response_in.field-0 ≡ response t None pattern =
-        c.in_ok-response_in.ensures ∙ c.requires.shown at within (omega (arith, place, there)) ∙ ap (response t None) place in
+    c.in_ok-response_in.ensures ∙ c.requires.shown at within (omega (arith, place, there)) ∙ ap (response t None) place in
     rw (c.in_ok-push.ensures.items, c.loop-pattern.invariant, row, map-range_with_len_more (response t None) 0 pattern pattern (omega arith)) refl

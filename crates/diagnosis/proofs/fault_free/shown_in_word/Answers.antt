@@ -4,8 +4,8 @@ use Rattle.scan_model.specs.Response.{observed}
 use Rattle.lane_rows.specs.declared.block.Block.{Block}
 use Rattle.lane_rows.specs.Planes.{held}
 use Rattle.lane_rows.specs.GoodRows.{AreBlockRows, pattern_of, no_block}
-use Rattle.fault_free_tries.proofs.BlockShows.{value_of_its_bits}
-use Rattle.fault_free_tries.proofs.fault_free.shown_in_word.Goals as goal
+use Rattle.diagnosis.proofs.BlockShows.{value_of_its_bits}
+use Rattle.diagnosis.proofs.fault_free.shown_in_word.Goals as goal
 
 pub returns : goal.returns
 returns c = λ i lt there.

@@ -1,6 +1,5 @@
 //! The fault-free responses of a test, from the fault-free values of its nets in rows of 512 patterns.
-ghost use Rattle.std.specs.Prelude.{◌≡◌, ℕ, ◌+◌, ◌*◌, ◌/◌, ◌<◌, min, ◌==◌, All, length, map, None, IfOk, OnOk};
-ghost use Rattle.std.specs.Int.{bit_at};
+ghost use Rattle.std.specs.Prelude.{◌≡◌, ℕ, ◌+◌, ◌*◌, ◌<◌, min, All, length, map, None, IfOk, OnOk};
 ghost use Rattle.std.specs.List.{range_with_len};
 ghost use Rattle.scan_model.specs.declared.parts.Point.TheVariants as variant;
 ghost use Rattle.scan_model.specs.declared.parts.PatternKind.TheVariants as kind;
@@ -11,7 +10,7 @@ ghost use Rattle.scan_model.specs.Suspect as suspect;
 ghost use Rattle.scan_model.specs.Response.{observed, response, expected_rows};
 ghost use Rattle.lane_rows.specs.Planes.{held};
 ghost use Rattle.lane_rows.specs.GoodRows.{pattern_of, AreBlockRows, AreGoodRows};
-ghost use Rattle.fault_free_tries.specs.FaultFree as shows;
+ghost use Rattle.diagnosis.specs.FaultFree as shows;
 
 use lane_rows::{Block, GoodRows, Packed};
 use scan_model::{Expected, NoMemory, Parts, Point, Rows, Tri};
