@@ -25,4 +25,5 @@ pub mod AnyOrder
 pub mod LogFits
 pub mod Places
 pub mod Reports
+pub mod BlockShows
 mod CutReports

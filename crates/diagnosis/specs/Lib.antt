@@ -4,3 +4,4 @@ pub mod Sections
 pub mod Reading
 pub mod Designs
 pub mod Adding
+pub mod FaultFree

@@ -10,9 +10,9 @@ ghost use Rattle.diagnosis.specs.Reading.{four, RefusedBy};
 ghost use Rattle.diag_report.specs.PredictedLog.{HasWordNames};
 
 use crate::bundle::{Sections, bundle_text, split};
+use crate::fault_free::fault_free_responses;
 use crate::section::{BundleFault, Section};
 use crate::texts::read_texts;
-use good_sim::expected_all;
 use scan_model::{Digest, Expected, Name, NoMemory, Parts};
 use sha2::Sha256;
 use std::alloc::Global;
@@ -49,7 +49,7 @@ impl Design {
         ensures test { IfOk result (λ design. design.test ≡ parts) }
     {
         let name = Name::copy_of(alloc, name)?;
-        let expected = expected_all(alloc, &parts)?;
+        let expected = fault_free_responses(alloc, &parts)?;
         let digest = Digest::from_bytes(<Sha256 as sha2::Digest>::digest(text.as_slice()));
         Ok(Design {
             name,

@@ -5,6 +5,7 @@
 mod bundle;
 mod checked;
 mod design;
+mod fault_free;
 mod log;
 mod put;
 mod section;
