@@ -1,5 +1,7 @@
+mod byte_sink;
 mod commands;
 mod designs;
+mod failing;
 mod files;
 mod refusals;
 mod reports;

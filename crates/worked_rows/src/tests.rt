@@ -2,6 +2,7 @@ mod chains;
 mod circuits;
 mod dies;
 mod faults;
+mod fronts;
 mod logs;
 mod neighbours;
 mod netlists;

@@ -1,97 +1,192 @@
 //! Connections that are cut off anywhere, and connections that fail.
-use super::texts::NO_DESIGN;
+use super::texts::*;
 use super::*;
+use desk_rows::finish_one;
+
+// A part of what is asked, what is sent once it is there, and the mark where that is a reply and not an interim one.
+struct Piece {
+    asked: &'static [u8],
+    sent: &'static [u8],
+    mark: Option<u64>,
+}
 
 // Three requests, of which the last waits before its body.
-const ASKED: [&[u8]; 3] = [
-    b"GET /designs/none HTTP/1.1\r\nHost: desk\r\n\r\n",
-    b"PUT /designs/c17 HTTP/1.1\r\nContent-Length: 3\r\n\r\nabc",
-    b"PUT /designs/c18 HTTP/1.1\r\nExpect: 100-continue\r\nContent-Length: 3\r\n\r\nabc",
+const PIECES: [Piece; 4] = [
+    Piece {
+        asked: PUT_C17,
+        sent: CREATED_C17,
+        mark: Some(1),
+    },
+    Piece {
+        asked: GET_C17,
+        sent: C17_SHOWN,
+        mark: Some(1),
+    },
+    Piece {
+        asked: b"POST /designs/c17/dies/D1/logs HTTP/1.1\r\nExpect: 100-continue\r\nContent-Length: 57\r\n\r\n",
+        sent: b"HTTP/1.1 100 Continue\r\n\r\n",
+        mark: None,
+    },
+    Piece {
+        asked: b"FAILLOG 1\ndie D1\ndesign c17\ntested 0 0\nfail 0 out 22\nend\n",
+        sent: CREATED_LOG_1,
+        mark: Some(2),
+    },
 ];
 
-const INTERIM: &[u8] = b"HTTP/1.1 100 Continue\r\n\r\n";
+// What was asked so far, and what is due to it.
+#[derive(Drop)]
+struct Due {
+    asked: Name,
+    sent: Name,
+    marks: Rows<u64>,
+}
 
-const NO_BUNDLE: &[u8] =
-    b"HTTP/1.1 422 Unprocessable Content\r\nContent-Type: text/plain\r\nContent-Length: 30\r\n\r\nsection bundle line 1 rule 81\n";
+impl Due {
+    fn nothing(alloc: Global) -> Due {
+        Due {
+            asked: Name::new(alloc),
+            sent: Name::new(alloc),
+            marks: Rows::new(alloc),
+        }
+    }
 
-const SENT: [&[u8]; 4] = [NO_DESIGN, NO_BUNDLE, INTERIM, NO_BUNDLE];
+    // With this piece behind it.
+    fn add(&mut self, piece: &Piece) -> Result<(), NoMemory> {
+        self.asked.append(piece.asked)?;
+        self.sent.append(piece.sent)?;
+        if let Some(mark) = piece.mark {
+            self.marks.push(mark)?;
+        }
+        Ok(())
+    }
+}
 
-// How a session over a new desk ends.
-fn end_of<R: Threads + Wait + Sync>(
+// With these bytes of the next piece as its end, a connection over a new desk is answered as is due, and ends so.
+fn is_answered<R: Abort + Threads + Wait + Sync>(
     rt: &R,
     alloc: Global,
-    link: &mut MemLink,
-) -> Result<SessionEnd, Fail> {
+    due: &Due,
+    more: &[u8],
+    end: SessionEnd,
+) -> Result<(), Fail> {
+    let mut link = MemLink::make(alloc, joined(alloc, &[due.asked.as_slice(), more])?)?;
+    let keeper = MemKeeper::make(alloc, Rows::new(alloc))?;
+    let (desk, mut seat) = start_one(rt, alloc, keeper, 100)?;
+    let mut cache = ReportCache::make(alloc, 1)?;
+    let note = session(
+        rt,
+        alloc,
+        &desk,
+        &mut seat,
+        &mut cache,
+        &mut link,
+        &mut OpenGate,
+    );
+    assert_eq!(rt; note.end, end);
+    assert_eq!(rt; link.sent(), due.sent.as_slice());
+    assert_eq!(rt; note.marks.as_slice(), due.marks.as_slice());
+    Ok(())
+}
+
+// What was asked ends somewhere within this piece.
+fn is_cut_within<R: Abort + Threads + Wait + Sync>(
+    rt: &R,
+    alloc: Global,
+    due: &Due,
+    piece: &[u8],
+) -> Result<(), Fail> {
+    for size in 1..piece.len() {
+        is_answered(rt, alloc, due, &piece[..size], SessionEnd::Cut)?;
+    }
+    Ok(())
+}
+
+#[test]
+fn each_front_of_a_session_is_answered(rt: HostRuntime) -> Result<(), Fail> {
+    let alloc = rt.alloc();
+    let mut due = Due::nothing(alloc);
+    is_answered(&rt, alloc, &due, b"", SessionEnd::Ended)?;
+    for piece in &PIECES {
+        is_cut_within(&rt, alloc, &due, piece.asked)?;
+        due.add(piece)?;
+        let end = match piece.mark {
+            Some(_) => SessionEnd::Ended,
+            None => SessionEnd::Cut,
+        };
+        is_answered(&rt, alloc, &due, b"", end)?;
+    }
+    Ok(())
+}
+
+// All that is asked, and all that is due to it.
+fn whole(alloc: Global) -> Result<Due, NoMemory> {
+    let mut due = Due::nothing(alloc);
+    for piece in &PIECES {
+        due.add(piece)?;
+    }
+    Ok(due)
+}
+
+// A session over a connection that may fail ends so. There are as many deeds as its last mark says.
+fn ends_with_its_deeds<R: Abort + Threads + Wait + Sync, L: Link>(
+    rt: &R,
+    alloc: Global,
+    link: &mut L,
+    end: SessionEnd,
+) -> Result<(), Fail> {
     let keeper = MemKeeper::make(alloc, Rows::new(alloc))?;
     let (desk, mut seat) = start_one(rt, alloc, keeper, 100)?;
     let mut cache = ReportCache::make(alloc, 1)?;
     let note = session(rt, alloc, &desk, &mut seat, &mut cache, link, &mut OpenGate);
-    Ok(note.end)
+    assert_eq!(rt; note.end, end);
+    let deeds = finish_one(alloc, desk, seat)?.deeds();
+    assert_eq!(rt; deeds, note.marks.as_slice().last().copied().unwrap_or(0));
+    Ok(())
 }
 
-// The session over this link ends so, and sends a front of the replies to all three.
+// A connection that asks for all and fails in the call with this number.
+fn failing(alloc: Global, call: u64) -> Result<MemLink, NoMemory> {
+    let mut calls = Rows::new(alloc);
+    calls.push(call)?;
+    MemLink::make_failing(alloc, whole(alloc)?.asked, calls)
+}
+
+// A connection that fails in the call with this number: its session ends so, at once and byte by byte, and sends a front of
+// what is due.
 fn sends_front<R: Abort + Threads + Wait + Sync>(
     rt: &R,
     alloc: Global,
-    link: &mut MemLink,
-    end: SessionEnd,
-) -> Result<(), Fail> {
-    let whole = joined(alloc, &SENT)?;
-    assert_eq!(rt; end_of(rt, alloc, link)?, end);
-    assert!(rt; whole.as_slice().starts_with(link.sent()));
-    Ok(())
-}
-
-// What was asked ends somewhere within this request, behind those before.
-fn is_cut_within<R: Abort + Threads + Wait + Sync>(
-    rt: &R,
-    alloc: Global,
-    before: &[u8],
-    request: &[u8],
-) -> Result<(), Fail> {
-    for size in 1..request.len() {
-        let mut text = Name::copy_of(alloc, before)?;
-        text.append(&request[..size])?;
-        let mut link = MemLink::make(alloc, text)?;
-        sends_front(rt, alloc, &mut link, SessionEnd::Cut)?;
-    }
-    Ok(())
-}
-
-#[test]
-fn each_front_of_a_session_sends_a_front(rt: HostRuntime) -> Result<(), Fail> {
-    let alloc = rt.alloc();
-    let mut before = Name::new(alloc);
-    for request in ASKED {
-        let mut link = MemLink::make(alloc, Name::copy_of(alloc, before.as_slice())?)?;
-        sends_front(&rt, alloc, &mut link, SessionEnd::Ended)?;
-        is_cut_within(&rt, alloc, before.as_slice(), request)?;
-        before.append(request)?;
-    }
-    let mut link = MemLink::make(alloc, before)?;
-    assert_eq!(rt; end_of(&rt, alloc, &mut link)?, SessionEnd::Ended);
-    assert_eq!(rt; link.sent(), joined(alloc, &SENT)?.as_slice());
-    Ok(())
-}
-
-// The session over a link whose call with this number fails.
-fn is_faulty_at<R: Abort + Threads + Wait + Sync>(
-    rt: &R,
-    alloc: Global,
     call: u64,
-    end: SessionEnd,
+    at_once: SessionEnd,
+    by_bytes: SessionEnd,
 ) -> Result<(), Fail> {
-    let mut calls = Rows::new(alloc);
-    calls.push(call)?;
-    let mut link = MemLink::make_failing(alloc, joined(alloc, &ASKED)?, calls)?;
-    sends_front(rt, alloc, &mut link, end)
+    let due = whole(alloc)?.sent;
+    let mut link = failing(alloc, call)?;
+    ends_with_its_deeds(rt, alloc, &mut link, at_once)?;
+    assert!(rt; due.as_slice().starts_with(link.sent()));
+    let mut link = ByteLink::over(failing(alloc, call)?);
+    ends_with_its_deeds(rt, alloc, &mut link, by_bytes)?;
+    assert!(rt; due.as_slice().starts_with(link.link().sent()));
+    Ok(())
 }
 
 #[test]
 fn a_connection_that_fails_ends_its_session(rt: HostRuntime) -> Result<(), Fail> {
+    let alloc = rt.alloc();
     // Two reads, and seven writes: the interim reply, and the heads and bodies of three others.
     for call in 1..10 {
-        is_faulty_at(&rt, rt.alloc(), call, SessionEnd::LinkFault)?;
+        sends_front(
+            &rt,
+            alloc,
+            call,
+            SessionEnd::LinkFault,
+            SessionEnd::LinkFault,
+        )?;
     }
-    is_faulty_at(&rt, rt.alloc(), 10, SessionEnd::Ended)
+    // Byte by byte there is a read for each of 441 bytes, and one at the end.
+    for call in 10..450 {
+        sends_front(&rt, alloc, call, SessionEnd::Ended, SessionEnd::LinkFault)?;
+    }
+    sends_front(&rt, alloc, 450, SessionEnd::Ended, SessionEnd::Ended)
 }

@@ -85,12 +85,14 @@ fn heads_are_refused_or_close(rt: HostRuntime) -> Result<(), Fail> {
     Ok(())
 }
 
-// Serves these bytes over a new desk, and answers what was sent and how many marks there are.
-fn sent_for<R: Threads + Wait + Sync>(
+// Serves these bytes over a new desk: ends so, with so many marks. Answers the connection.
+fn link_after<R: Abort + Threads + Wait + Sync>(
     rt: &R,
     alloc: Global,
     asked: Name,
-) -> Result<(MemLink, usize), Fail> {
+    marks: usize,
+    end: SessionEnd,
+) -> Result<MemLink, Fail> {
     let keeper = MemKeeper::make(alloc, Rows::new(alloc))?;
     let (desk, mut seat) = start_one(rt, alloc, keeper, 100)?;
     let mut cache = ReportCache::make(alloc, 1)?;
@@ -104,7 +106,8 @@ fn sent_for<R: Threads + Wait + Sync>(
         &mut link,
         &mut OpenGate,
     );
-    Ok((link, note.marks.len()))
+    assert_eq!(rt; (note.marks.len(), note.end), (marks, end));
+    Ok(link)
 }
 
 #[test]
@@ -123,24 +126,31 @@ fn a_session_answers_a_thousand(rt: HostRuntime) -> Result<(), Fail> {
     sent.append(
         b"HTTP/1.1 404 Not Found\r\nContent-Type: text/plain\r\nContent-Length: 9\r\nConnection: close\r\n\r\nno route\n",
     )?;
-    let (link, marks) = sent_for(&rt, alloc, asked)?;
-    assert_eq!(rt; marks, 1000);
+    let link = link_after(&rt, alloc, asked, 1000, SessionEnd::Closed)?;
     assert!(rt; link.sent() == sent.as_slice());
     Ok(())
+}
+
+// So many bytes that end no line.
+fn without_end(alloc: Global, size: u32) -> Result<Name, NoMemory> {
+    let mut text = Name::new(alloc);
+    for _ in 0..size {
+        text.append(b"a")?;
+    }
+    Ok(text)
 }
 
 #[test]
 fn a_head_has_at_most_8192_bytes(rt: HostRuntime) -> Result<(), Fail> {
     let alloc = rt.alloc();
-    let mut asked = Name::new(alloc);
-    for _ in 0..1024u32 {
-        asked.append(b"no end, ")?;
-    }
-    let (link, marks) = sent_for(&rt, alloc, asked)?;
-    assert_eq!(rt; marks, 1);
+    let whole = without_end(alloc, 8192)?;
+    let link = link_after(&rt, alloc, whole, 1, SessionEnd::Closed)?;
     assert_eq!(rt;
         link.sent(),
         b"HTTP/1.1 431 Request Header Fields Too Large\r\nContent-Type: text/plain\r\nContent-Length: 15\r\nConnection: close\r\n\r\nhead too large\n".as_slice()
     );
+    let shorter = without_end(alloc, 8191)?;
+    let link = link_after(&rt, alloc, shorter, 0, SessionEnd::Cut)?;
+    assert!(rt; link.sent().is_empty());
     Ok(())
 }

@@ -43,11 +43,8 @@ fn a_design_is_read(rt: HostRuntime) -> Result<(), Fail> {
         &Row {
             failing: &[],
             max_deeds: 1000000,
-            asked: &[PUT_C17, b"GET /designs/c17 HTTP/1.1\r\n\r\n"],
-            sent: &[
-                CREATED_C17,
-                b"HTTP/1.1 200 OK\r\nContent-Type: text/plain\r\nContent-Length: 175\r\n\r\ndesign c17\ndigest 0db8ca6599e21775b9088f81c44184e655f03e1daec6da940562db27be24948c\ninputs 5\noutputs 2\nnets 11\npins 14\nchains 0\ncells 0\npatterns 1\npairs 0\nleft-out 0\nfaults 34\n",
-            ],
+            asked: &[PUT_C17, GET_C17],
+            sent: &[CREATED_C17, C17_SHOWN],
             marks: &[1, 1],
             end: SessionEnd::Ended,
         },

@@ -28,6 +28,11 @@ pub(super) const GET_SIGN: &[u8] = b"GET /designs/c17/dies/D1/signoffs/1 HTTP/1.
 
 pub(super) const GET_FIRST: &[u8] = b"GET /designs/c17/dies/D1/reports/1 HTTP/1.1\r\n\r\n";
 
+pub(super) const GET_C17: &[u8] = b"GET /designs/c17 HTTP/1.1\r\n\r\n";
+
+pub(super) const C17_SHOWN: &[u8] =
+    b"HTTP/1.1 200 OK\r\nContent-Type: text/plain\r\nContent-Length: 175\r\n\r\ndesign c17\ndigest 0db8ca6599e21775b9088f81c44184e655f03e1daec6da940562db27be24948c\ninputs 5\noutputs 2\nnets 11\npins 14\nchains 0\ncells 0\npatterns 1\npairs 0\nleft-out 0\nfaults 34\n";
+
 pub(super) const CREATED_C17: &[u8] =
     b"HTTP/1.1 201 Created\r\nContent-Type: text/plain\r\nContent-Length: 76\r\n\r\ndesign c17 0db8ca6599e21775b9088f81c44184e655f03e1daec6da940562db27be24948c\n";
 
