@@ -6,7 +6,5 @@ pub mod SeenSteps
 pub mod HeadStays
 pub mod HeadLaws
 pub mod ItemLaws
-pub mod SeenFronts
 pub mod IncomingSteps
 pub mod IncomingLaws
-pub mod NextItem
