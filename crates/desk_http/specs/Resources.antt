@@ -5,8 +5,8 @@ use Rattle.matchit.specs.Seek.{first}
 use Rattle.matchit.specs.Params.{walk}
 use Rattle.matchit.specs.declared.params.Params.{Params}
 use Rattle.scan_model.specs.Words.{is_tag, number_of}
-use Rattle.desk_http.specs.declared.routes.methods.Methods.{Methods}
-use Rattle.desk_http.specs.declared.routes.methods.Methods.TheVariants as methods
+use Rattle.desk_replies.specs.declared.methods.Methods.{Methods}
+use Rattle.desk_replies.specs.declared.methods.Methods.TheVariants as methods
 use Rattle.desk_http.specs.declared.routes.resource.Resource.{Resource}
 use Rattle.desk_http.specs.declared.routes.resource.Resource.TheVariants as resource
 use Rattle.desk_http.specs.declared.routes.Route.{Route}

@@ -15,18 +15,18 @@ use Rattle.diagnosis.specs.declared.section.Section.{Section}
 use Rattle.diagnosis.specs.Bundle.{bundle_reading}
 use Rattle.book.specs.Deeds.{test_of_text}
 use Rattle.book.specs.Answers.{design_answer, log_answer, sign_answer, design_look, die_look, sign_look}
-use Rattle.desk_http.specs.declared.reply.status.Status.TheVariants as status
-use Rattle.desk_http.specs.declared.head.method.Method.{Method}
-use Rattle.desk_http.specs.declared.head.method.Method.TheVariants as method
-use Rattle.desk_http.specs.declared.reply.bodies.TextKind.TheVariants as kind
-use Rattle.desk_http.specs.declared.reply.bodies.Refusal.TheVariants as refusal
+use Rattle.desk_replies.specs.declared.status.Status.TheVariants as status
+use Rattle.desk_heads.specs.declared.head.method.Method.{Method}
+use Rattle.desk_heads.specs.declared.head.method.Method.TheVariants as method
+use Rattle.desk_replies.specs.declared.bodies.TextKind.TheVariants as kind
+use Rattle.desk_replies.specs.declared.bodies.Refusal.TheVariants as refusal
 use Rattle.desk_http.specs.declared.routes.resource.Resource.{Resource}
 use Rattle.desk_http.specs.declared.routes.resource.Resource.TheVariants as resource
 use Rattle.desk_http.specs.declared.answers.signoff.SignBody.{SignBody}
-use Rattle.desk_http.specs.Methods.{allows}
+use Rattle.desk_replies.specs.Methods.{allows}
 use Rattle.desk_http.specs.Resources.{methods_of}
-use Rattle.desk_http.specs.Bodies.{design_body, log_body, sign_off_line, sign_off_body, design_head, unknown_fault_body, unknown_line_body}
-use Rattle.desk_http.specs.Answers.{Answer, plain, refused, other_method, unprocessable, kind_of, put, look}
+use Rattle.desk_replies.specs.Bodies.{design_body, log_body, sign_off_line, sign_off_body, design_head, unknown_fault_body, unknown_line_body}
+use Rattle.desk_replies.specs.Answers.{Answer, plain, refused, other_method, unprocessable, kind_of, put, look}
 
 -- ---- designs that are there
 

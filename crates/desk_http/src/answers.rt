@@ -18,13 +18,12 @@ mod designs;
 mod dies;
 mod signs;
 
-use crate::head::method::Method;
-use crate::reply::bodies::Refusal;
-use crate::reply::response::{Response, Unanswered};
 use crate::routes::Routes;
 use crate::routes::resource::Resource;
 use crate::sessions::seat::SeatAt;
+use desk_heads::Method;
 use desk_outside::Gate;
+use desk_replies::{Refusal, Response, Unanswered};
 use report_cache::ReportCache;
 use std::alloc::Global;
 use std::thread::Threads;

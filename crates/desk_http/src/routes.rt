@@ -1,6 +1,5 @@
 //! The routes of the desk, and which of them a target takes.
 
-pub(crate) mod methods;
 pub(crate) mod resource;
 
 ghost use Rattle.std.specs.Prelude.{◌≡◌, IfOk};

@@ -3,14 +3,16 @@ ghost use Rattle.std.specs.Prelude.{◌≡◌, [], true, IfOk};
 ghost use Rattle.scan_model.specs.Words.{is_tag};
 ghost use Rattle.desk_http.specs.RouteAnswers.{design_put, design_get, fails_get, predicted};
 ghost use Rattle.desk_http.specs.Seats.{Did};
-ghost use Rattle.desk_http.specs.Answering.{AnsweredBy, response_of};
+ghost use Rattle.desk_http.specs.Answering.{AnsweredBy};
+ghost use Rattle.desk_replies.specs.Responses.{response_of};
 
-use crate::reply::bodies::{design_body, design_head, unknown_fault_body};
-use crate::reply::response::{Body, Response, Unanswered, kind_of, refused_look, refused_put};
-use crate::reply::status::Status;
 use crate::sessions::seat::SeatAt;
 use book::{BundleFault, Put, read_bundle};
 use desk_outside::Gate;
+use desk_replies::{
+    Body, Response, Status, Unanswered, design_body, design_head, kind_of, refused_look,
+    refused_put, unknown_fault_body,
+};
 use diag_report::{fails_text, summary_text};
 use fault_universe::universe_len;
 use scan_model::{Name, NoMemory};

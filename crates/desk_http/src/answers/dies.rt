@@ -5,14 +5,16 @@ ghost use Rattle.report_cache.specs.Truth.{IsTrueFor};
 ghost use Rattle.desk_http.specs.RouteAnswers.{log_post, report_get, page_get};
 ghost use Rattle.desk_outside.specs.declared.deed.Deed.{Deed};
 ghost use Rattle.desk_http.specs.Seats.{IsPrefix, Did};
-ghost use Rattle.desk_http.specs.Answering.{AnsweredBy, response_of};
+ghost use Rattle.desk_http.specs.Answering.{AnsweredBy};
+ghost use Rattle.desk_replies.specs.Responses.{response_of};
 
-use crate::reply::bodies::{TextKind, log_body, unknown_line_body};
-use crate::reply::response::{Body, Response, Unanswered, refused_look, refused_put};
-use crate::reply::status::Status;
 use crate::sessions::seat::SeatAt;
 use book::{Put, log_of};
 use desk_outside::Gate;
+use desk_replies::{
+    Body, Response, Status, TextKind, Unanswered, log_body, refused_look, refused_put,
+    unknown_line_body,
+};
 use report_cache::ReportCache;
 use scan_model::{Name, NoMemory};
 use std::alloc::Global;

@@ -6,15 +6,16 @@ ghost use Rattle.scan_model.specs.Words.{is_tag};
 ghost use Rattle.desk_http.specs.declared.answers.signoff.SignBody.{SignBody};
 ghost use Rattle.desk_http.specs.RouteAnswers.{sign_post, sign_get};
 ghost use Rattle.desk_http.specs.Seats.{IsPrefix, Did};
-ghost use Rattle.desk_http.specs.Answering.{Answered, AnsweredBy, ReadsSign, response_of};
+ghost use Rattle.desk_http.specs.Answering.{Answered, AnsweredBy, ReadsSign};
+ghost use Rattle.desk_replies.specs.Responses.{response_of};
 
 use crate::answers::signoff::{BodyFault, SignBody, sign_body};
-use crate::reply::bodies::{TextKind, sign_off_body, sign_off_line};
-use crate::reply::response::{Response, Unanswered, refused_look, refused_put};
-use crate::reply::status::Status;
 use crate::sessions::seat::SeatAt;
 use book::{Checked, Put};
 use desk_outside::Gate;
+use desk_replies::{
+    Response, Status, TextKind, Unanswered, refused_look, refused_put, sign_off_body, sign_off_line,
+};
 use report_cache::ReportCache;
 use scan_model::NoMemory;
 use std::alloc::Global;

@@ -4,8 +4,8 @@ ghost use Rattle.std.specs.Str.{IsAscii};
 ghost use Rattle.desk_http.specs.declared.routes.resource.Miss.TheVariants as miss;
 ghost use Rattle.desk_http.specs.Resources.{methods_of, named, number_at, resource_of, tag_at, taken};
 
-use crate::routes::methods::Methods;
 use crate::routes::{Route, Routes};
+use desk_replies::Methods;
 use matchit::Params;
 use scan_model::{Name, NoMemory};
 use std::alloc::Global;

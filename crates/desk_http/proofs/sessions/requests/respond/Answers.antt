@@ -1,7 +1,7 @@
 use Rattle.std.proofs.Common.{◌≡◌, ℕ, List, Some, Result, Err, ap, subst, rules}
-use Rattle.desk_http.specs.declared.reply.response.Response.{Response}
-use Rattle.desk_http.specs.declared.reply.response.Unanswered.{Unanswered}
-use Rattle.desk_http.specs.declared.reply.response.Unanswered.TheVariants as failed
+use Rattle.desk_replies.specs.declared.response.Response.{Response}
+use Rattle.desk_replies.specs.declared.response.Unanswered.{Unanswered}
+use Rattle.desk_replies.specs.declared.response.Unanswered.TheVariants as failed
 use Rattle.desk_http.specs.Answering.{IsAnswer, Answered}
 use Rattle.desk_http.specs.Turns.{Replied}
 use Rattle.desk_http.proofs.sessions.requests.respond.Goals as goal

@@ -1,5 +1,5 @@
 use Rattle.std.proofs.Common.{◌≡◌, ◌∙◌, ℕ, List, ◌++◌, length, subst, ap}
-use Rattle.desk_http.specs.Replies.{reply_head, reply_text}
+use Rattle.desk_replies.specs.Replies.{reply_head, reply_text}
 use Rattle.desk_http.specs.Turns.{Replied}
 use Rattle.desk_http.proofs.sessions.requests.send_response.Goals as goal
 

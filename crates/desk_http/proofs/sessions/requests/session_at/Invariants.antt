@@ -1,7 +1,7 @@
 use Rattle.std.proofs.Common.{◌≡◌, ◌-◌, ◌<◌, ◌≤◌, length, vec_len}
 use Rattle.std.specs.Io.KnownBytes.{prepend_known}
 use Rattle.report_cache.specs.Truth.{IsTrueFor}
-use Rattle.desk_http.specs.Items.{item_limit}
+use Rattle.desk_heads.specs.Items.{item_limit}
 use Rattle.desk_http.proofs.SessionSteps.{SoFar}
 use Rattle.desk_http.proofs.sessions.requests.session_at.Given as goal
 

@@ -1,0 +1,10 @@
+pub mod HeadEnd
+pub mod FieldSteps
+pub mod Room
+pub mod CheckSteps
+pub mod SeenSteps
+pub mod HeadStays
+pub mod HeadLaws
+pub mod ItemLaws
+pub mod IncomingSteps
+pub mod IncomingLaws

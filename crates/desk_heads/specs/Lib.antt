@@ -1,0 +1,5 @@
+pub mod Heads
+pub mod Items
+pub mod Fields
+pub mod Sees
+pub mod Incoming

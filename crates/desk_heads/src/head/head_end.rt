@@ -1,0 +1,32 @@
+//! Where the head of a request ends.
+ghost use Rattle.std.specs.Prelude.{◌≡◌, ◌≤◌, length, IfSome};
+ghost use Rattle.desk_heads.specs.Heads.{blank_length, head_length};
+
+// The length of the empty line, LF or CR LF, at the front.
+fn blank_length(bytes: &[u8]) -> Option<usize>
+    ensures length { result ≡ blank_length bytes.now }
+    ensures within { IfSome result (λ n. n ≤ length bytes.now) }
+{
+    match bytes {
+        [b'\n', ..] => Some(1),
+        [b'\r', b'\n', ..] => Some(2),
+        _ => None,
+    }
+}
+
+/// The length of the head at the front (RFC 9112, section 2.1): up to and with its first empty line, which directly follows an LF.
+#[tactic(auto, using(crate::proofs::HeadEnd::found_at, crate::proofs::HeadEnd::steps_over, crate::proofs::HeadEnd::steps_over_lf, crate::proofs::HeadEnd::none_at_end))]
+pub(crate) fn head_length(bytes: &[u8]) -> Option<usize>
+    ensures length { result ≡ head_length bytes.now }
+    ensures within { IfSome result (λ n. n ≤ length bytes.now) }
+{
+    for (place, byte) in bytes.iter().enumerate() {
+        let next = place + 1;
+        if *byte == b'\n' {
+            if let Some(blank) = blank_length(&bytes[next..]) {
+                return Some(next + blank);
+            }
+        }
+    }
+    None
+}

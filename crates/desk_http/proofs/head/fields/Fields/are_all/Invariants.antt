@@ -1,9 +1,0 @@
-use Rattle.std.proofs.Common.{◌≡◌}
-use Rattle.std.specs.List.{list_all}
-use Rattle.std.specs.Str.{bytes_eq}
-use Rattle.desk_http.specs.Fields.{named}
-use Rattle.desk_http.proofs.FieldSteps.{values_from}
-use Rattle.desk_http.proofs.head.fields.Fields.are_all.Given as goal
-
-abbrev pub invariant-loop-span : goal.invariant-loop-span
-invariant-loop-span l = list_all (bytes_eq l.value) (values_from l.name l.self-inside.head.now l.span-items l.span-index) ≡ list_all (bytes_eq l.value) (named l.name l.self)

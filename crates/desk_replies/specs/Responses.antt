@@ -1,0 +1,25 @@
+-- The responses of answers, and what a look or a change is answered that is refused.
+use Rattle.std.specs.Prelude.{◌≡◌, Result, Ok, Err, ⊤}
+use Rattle.scan_model.specs.declared.rows.NoMemory.{NoMemory}
+use Rattle.book.specs.declared.answers.PutFault.{PutFault}
+use Rattle.book.specs.declared.answers.PutFault.TheVariants as put_fault
+use Rattle.book.specs.declared.answers.LookFault.{LookFault}
+use Rattle.desk_replies.specs.declared.response.Response.{Response}
+use Rattle.desk_replies.specs.declared.response.Unanswered.{Unanswered}
+use Rattle.desk_replies.specs.declared.response.Unanswered.TheVariants as unanswered
+use Rattle.desk_replies.specs.Answers.{Answer, look_refused, put_refused}
+
+-- the response of an answer
+abbrev pub response_of : Answer → Response
+response_of answer = record { status = answer.status; methods = answer.methods; body = answer.body }
+
+-- what a look is answered that found nothing; memory may have run out
+abbrev pub RefusedLook : LookFault → Result Response NoMemory → Type 0
+RefusedLook fault (Ok response) = response ≡ response_of (look_refused fault)
+RefusedLook fault (Err _) = ⊤
+
+-- what a change is answered that was refused
+abbrev pub RefusedPut : PutFault → Result Response Unanswered → Type 0
+RefusedPut fault (Ok response) = response ≡ response_of (put_refused fault)
+RefusedPut fault (Err unanswered.KeeperFault) = fault ≡ put_fault.Failed
+RefusedPut fault (Err unanswered.NoMemory) = fault ≡ put_fault.NoMemory

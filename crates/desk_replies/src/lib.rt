@@ -1,0 +1,20 @@
+//! Replies (RFC 9112): their statuses, heads and bodies, and the responses to what a book refuses.
+#![tactic(auto)]
+
+mod bodies;
+mod methods;
+mod reply;
+mod response;
+mod short;
+mod status;
+
+pub use bodies::{
+    Refusal, TextKind, design_body, design_head, digest_differs_body, full_body, log_body,
+    name_taken_body, sign_off_body, sign_off_line, text_fault_body, unknown_fault_body,
+    unknown_line_body, unknown_revision_body, unknown_sign_body,
+};
+pub use methods::Methods;
+pub use reply::{Reply, interim, keeper_fault, no_memory};
+pub use response::{Body, Response, Unanswered, kind_of, refused_look, refused_put};
+pub use short::Short;
+pub use status::Status;
