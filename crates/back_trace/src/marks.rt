@@ -244,7 +244,15 @@ fn mark_chain(
     ensures { MarksOn parts.now block.now trace.now first (first + 4 * count) marks.old marks.new }
 {
     for pos in 0..count {
-        mark_cell(marks, first + 4 * pos, chain, pos as u32, parts, block, trace);
+        mark_cell(
+            marks,
+            first + 4 * pos,
+            chain,
+            pos as u32,
+            parts,
+            block,
+            trace,
+        );
     }
 }
 

@@ -120,15 +120,7 @@ pub fn suspects_over(
     let blocks = good.blocks();
     for b in 0..blocks.len() {
         let fails = fail_rows(alloc, expected, joined, patterns, b as u32, points)?;
-        mark_block(
-            alloc,
-            parts,
-            &blocks[b],
-            fails,
-            &observed,
-            &own,
-            &mut marks,
-        )?;
+        mark_block(alloc, parts, &blocks[b], fails, &observed, &own, &mut marks)?;
     }
     marked_places(alloc, &marks)
 }
