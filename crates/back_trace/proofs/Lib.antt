@@ -5,3 +5,6 @@ pub mod Points
 pub mod ChainTraces
 pub mod Explained
 pub mod Marking
+pub mod Slots
+pub mod Unreached
+pub mod Standing

@@ -1,5 +1,5 @@
 -- The faults that are marked after each block, and the list of the suspects.
-use Rattle.std.proofs.Common.{◌≡◌, ℕ, suc, ◌+◌, ◌*◌, ◌-◌, ◌/◌, ◌<◌, Bool, true, false, nat_lt, ◌&&◌, ◌||◌, List, [], ◌∷◌, length, map, get_or, set, Some, Result, Ok, Err, refl, sym, ap, subst, ◌∙◌, inl, inr, arith}
+use Rattle.std.proofs.Common.{◌≡◌, ℕ, zero, suc, ◌+◌, ◌*◌, ◌-◌, ◌/◌, ◌<◌, Bool, true, false, nat_lt, ◌&&◌, ◌||◌, List, [], ◌∷◌, length, map, replicate, get_or, set, Some, Result, Ok, Err, refl, sym, ap, subst, ◌∙◌, inl, inr, arith}
 use Rattle.std.specs.Prelude.{Contains, flat_map, filter, slice_get, IfOk}
 use Rattle.std.specs.List.{list_any, range_with_len, enumerate_from}
 use Rattle.std.proofs.lemmas.Bool.{cases_Bool, cases_lt, cases_eq, both_ways, and_parts, and_from, lt-ltb, le-ltb, ltb-true}
@@ -136,6 +136,14 @@ module _ (t : ScanTest) (logs : List LogFacts) where
 
 -- ---- fault by fault
 
+pub marks_begin : (t : ScanTest) (b : ℕ) (rows : List (List ℕ)) (faults : List Fault) (marks : List Bool) → AreMarked t b rows faults 0 marks marks
+marks_begin t b rows faults marks = record {
+  len = refl;
+  found = λ p e. inl e;
+  kept = λ p e. e;
+  all = λ p j lp lj e. absurd (omega arith);
+}
+
 module _ (t : ScanTest) (b : ℕ) (rows : List (List ℕ)) (faults : List Fault) (i : ℕ) (old marks : List Bool) (so_far : AreMarked t b rows faults i old marks) (inside : i < length marks) where
   -- one that has no mark yet
   pub one_marked : (answer : Bool) → is_marked marks i ≡ false → Tells answer (explains_in t (get_or faults i no_fault) b rows) → AreMarked t b rows faults (i + 1) old (set marks i answer)
@@ -175,6 +183,15 @@ module _ (t : ScanTest) (b : ℕ) (rows : List (List ℕ)) (faults : List Fault)
     ];
   }
 
+-- no mark is set yet
+pub blank_marks : (marks : List Bool) (n : ℕ) → marks ≡ replicate n false → (p : ℕ) → is_marked marks p ≡ false
+blank_marks marks n is p = ap (λ (ms : List Bool). is_marked ms p) is ∙ go n p
+  where
+    go : (k m : ℕ) → get_or {A = Bool} (replicate k false) m false ≡ false
+    go zero m = refl
+    go (suc k) zero = refl
+    go (suc k) (suc m) = go k m
+
 -- ---- block by block
 
 fails_same : (t : ScanTest) (logs : List LogFacts) (rows : List (List Tri)) (w k : ℕ) → rows ≡ expected_rows t → fails_among (length t.patterns) logs rows w k ≡ fails_in t logs w k
@@ -183,16 +200,16 @@ fails_same t logs rows w k is = elim (cases_lt w (length t.patterns)) [
   | inr past ↦ rw (le-ltb w (length t.patterns) past) refl
 ]
 
-pub block_more : (t : ScanTest) (logs : List LogFacts) (b : ℕ) (rows : List (List ℕ)) (old new : List Bool) (expected : List (List Tri)) (faults : List Fault) (block : Block) → expected ≡ expected_rows t → faults ≡ universe t
+pub block_more : (t : ScanTest) (logs : List LogFacts) (b : ℕ) (rows : List (List ℕ)) (old new : List Bool) (expected : List (List Tri)) (block : Block) → expected ≡ expected_rows t
     → length rows ≡ length (points_of t) → ((j k : ℕ) → j < 512 → k < length (points_of t) → fails_at rows j k ≡ fails_among (length t.patterns) logs expected (512 * b + j) k) → AreBlockRows t b block
-    → ((i : ℕ) → AreBlockRows t i block → IsWithin t i rows → AreMarked t i rows faults (length faults) old new) → AreMarkedTo t logs b old → AreMarkedTo t logs (b + 1) new
-block_more t logs b rows old new expected faults block is_expected is_faults len fails good marks so_far =
+    → ((i : ℕ) → AreBlockRows t i block → IsWithin t i rows → AreMarked t i rows (universe t) (length (universe t)) old new) → AreMarkedTo t logs b old → AreMarkedTo t logs (b + 1) new
+block_more t logs b rows old new expected block is_expected len fails good marks so_far =
     let have : (j k : ℕ) → j < 512 → k < length (points_of t) → fails_at rows j k ≡ fails_in t logs (pattern_of b j) k = λ j k lj lk. fails j k lj lk ∙ fails_same t logs expected (pattern_of b j) k is_expected in
     let within : IsWithin t b rows = record {
       len = len;
       pattern = λ j k lj lk e. ltb-true (pattern_of b j) (length t.patterns) (and_parts (nat_lt (pattern_of b j) (length t.patterns)) (is_failing (class t logs (bit_of (pattern_of b j) k))) (sym (have j k lj lk) ∙ e)).0;
     } in
-    marked_more t logs b rows old new (record { len = len; fails = have }) (subst (λ (fs : List Fault). AreMarked t b rows fs (length fs) old new) is_faults (marks b good within)) so_far
+    marked_more t logs b rows old new (record { len = len; fails = have }) (marks b good within) so_far
 
 pub if_ok : {A E : Type 0} (r : Result A E) (P Q : A → Type 0) → ((x : A) → P x → Q x) → IfOk r P → IfOk r Q
 if_ok (Ok x) P Q more h = more x h

@@ -1,5 +1,6 @@
 -- Rows of lanes, net by net.
-use Rattle.std.proofs.Common.{◌≡◌, ℕ, ◌+◌, ◌<◌, Bool, true, false, eqb, ◌||◌, ◌&&◌, List, [], ◌∷◌, ◌++◌, length, get_or, set, Option, None, refl, sym, ap, ◌∙◌, inl, inr, arith}
+use Rattle.std.proofs.Common.{◌≡◌, ℕ, ◌+◌, ◌<◌, Bool, true, false, eqb, ◌||◌, ◌&&◌, List, [], ◌∷◌, ◌++◌, length, get_or, set, Option, None, Result, Ok, Err, refl, sym, ap, ◌∙◌, inl, inr, arith}
+use Rattle.std.specs.Prelude.{OnOk}
 use Rattle.std.specs.List.{list_any, range_with_len}
 use Rattle.std.proofs.lemmas.Bool.{cases_eq, eq-eqb, ne_eqb, and_from, and_parts, eqb-true}
 use Rattle.std.proofs.lemmas.List.{get_or-set_same, get_or-set_other, get_or_append_left, get_or-append-add, length_push}
@@ -32,6 +33,11 @@ lanes_added rows at row j added lt is n = elim (cases_eq at n) [
     no_more false true = refl
     no_more false false = refl
 
+-- no lane more
+pub none_added : (old : Bool) (row key : Bool) → row ≡ false → old ≡ (old || (row && key))
+none_added true row key none = refl
+none_added false row key none = rw none refl
+
 -- one point more
 point_step : (lanes some point key : Bool) → ((lanes && some) || ((point && lanes) && key)) ≡ (lanes && (some || (point && key)))
 point_step true true true true = refl
@@ -46,6 +52,11 @@ point_step false some false key = refl
 pub gathered_more : (lanes : Bool) (p : ℕ → Bool) (k : ℕ) (old new point key : Bool) → old ≡ (lanes && list_any p (range_with_len 0 k)) → new ≡ (old || ((point && lanes) && key)) → p k ≡ (point && key)
     → new ≡ (lanes && list_any p (range_with_len 0 (k + 1)))
 gathered_more lanes p k old new point key so_far is here = is ∙ rw (so_far, any_more p k, here) (point_step lanes (list_any p (range_with_len 0 k)) point key)
+
+-- what follows where a call is right
+pub on_ok : {A E : Type 0} (r : Result A E) (P Q : Type 0) → (P → Q) → OnOk r P → OnOk r Q
+on_ok (Ok x) P Q more h = more h
+on_ok (Err e) P Q more h = tt
 
 -- one read more
 read_step : (old row some here : Bool) → ((old || (row && some)) || (row && here)) ≡ (old || (row && (some || here)))

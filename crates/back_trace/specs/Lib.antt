@@ -1,3 +1,5 @@
 pub mod Fails
 pub mod Keys
 pub mod Traces
+pub mod Slots
+pub mod Marking

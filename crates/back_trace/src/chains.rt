@@ -4,6 +4,7 @@ ghost use Rattle.lane_rows.specs.Lanes.{lane};
 ghost use Rattle.back_trace.specs.Fails.{Tells};
 ghost use Rattle.back_trace.specs.Traces.{is_shifted_through, is_from, IsFirst, IsLastReached};
 
+use crate::net_rows::NetRows;
 use lane_rows::Row;
 use scan_model::{NoMemory, Parts, Point, Rows};
 use std::alloc::Global;
@@ -66,13 +67,13 @@ pub(crate) fn firsts(
 }
 
 /// The last of the positions whose cell reaches a failing bit, or 0.
-fn last_reached(cells: &[u32], reach: &[Row]) -> usize
+fn last_reached(cells: &[u32], reach: &NetRows) -> usize
     requires { All (λ n. n < length reach.now) cells.now }
     ensures { IsLastReached reach.now cells.now result }
 {
     let mut last = 0;
     for i in 0..cells.len() {
-        if !reach[cells[i] as usize].is_empty() {
+        if !reach.is_empty_at(cells[i] as usize) {
             last = i;
         }
     }
@@ -80,7 +81,7 @@ fn last_reached(cells: &[u32], reach: &[Row]) -> usize
 }
 
 /// That of each chain.
-pub(crate) fn lasts(alloc: Global, parts: &Parts, reach: &[Row]) -> Result<Rows<usize>, NoMemory>
+pub(crate) fn lasts(alloc: Global, parts: &Parts, reach: &NetRows) -> Result<Rows<usize>, NoMemory>
     requires { length reach.now ≡ length parts.now.netlist.nets }
     ensures len { IfOk result (λ rows. length rows ≡ length parts.now.chains) }
     ensures lasts { IfOk result (λ rows. (h : ℕ) → h < length parts.now.chains → IsLastReached reach.now (chain_at parts.now h).cells (slice_index_or rows h 0)) }

@@ -46,7 +46,7 @@ fn driver(parts: &Parts, net: u32) -> Driver
 }
 
 /// A pin.
-fn pin_of(parts: &Parts, pin: u32) -> Pin
+pub(crate) fn pin_of(parts: &Parts, pin: u32) -> Pin
     requires { pin < length parts.now.netlist.pins }
     ensures pin { result ≡ pin_at parts.now.netlist pin }
     ensures net { (pin_at parts.now.netlist pin).net < length parts.now.netlist.nets }
@@ -66,8 +66,8 @@ fn place_row(parts: &Parts, block: &Block, trace: &Trace, place: PinPlace) -> Ro
         PinPlace::Operand { net, .. } => {
             match driver(parts, net) {
                 Driver::Input => Row::none(),
-                Driver::Flop => trace.cells.as_slice()[net as usize],
-                Driver::Gate(_) => trace.reach.as_slice()[net as usize],
+                Driver::Flop => trace.cells.row(net as usize),
+                Driver::Gate(_) => trace.reach.row(net as usize),
             }
         }
         PinPlace::Output { place } => trace.fails.as_slice()[place as usize].and(block.capture),
@@ -83,7 +83,7 @@ fn stem_row(parts: &Parts, block: &Block, trace: &Trace, net: u32, value: Stuck)
         → (j : ℕ) → j < 512 → lane result j ≡ explains_in parts.now (fault.Stem net value) b trace.now.fails j }
 {
     let at = net as usize;
-    other_lanes(block.values.as_slice()[at], value).and(trace.reach.as_slice()[at])
+    other_lanes(block.values.as_slice()[at], value).and(trace.reach.row(at))
 }
 
 /// The lanes in which a stuck pin explains a failing bit.
@@ -109,11 +109,10 @@ fn bridge_row(parts: &Parts, block: &Block, trace: &Trace, a: u32, b: u32, kind:
         → (j : ℕ) → j < 512 → lane result j ≡ explains_in parts.now (fault.Bridge a b kind) index trace.now.fails j }
 {
     let values = block.values.as_slice();
-    let reach = trace.reach.as_slice();
     let (first, second) = (values[a as usize], values[b as usize]);
     let both = bridged(kind, first, second);
-    let by_first = first.opposite(both).and(reach[a as usize]);
-    let by_second = second.opposite(both).and(reach[b as usize]);
+    let by_first = first.opposite(both).and(trace.reach.row(a as usize));
+    let by_second = second.opposite(both).and(trace.reach.row(b as usize));
     by_first.or(by_second)
 }
 

@@ -5,6 +5,8 @@ mod chains;
 mod explain;
 mod fails;
 mod keys;
+mod marks;
+mod net_rows;
 mod reach;
 mod trace;
 mod tracing;

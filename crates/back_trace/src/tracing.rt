@@ -1,9 +1,9 @@
-ghost use Rattle.std.specs.Prelude.{◌≡◌, ℕ, ◌<◌, List, length, filter, Some, slice_get, Contains, All, IfOk, OnOk};
+ghost use Rattle.std.specs.Prelude.{◌≡◌, ℕ, ◌<◌, List, length, filter, Some, slice_get, Contains, IfOk, OnOk};
 ghost use Rattle.std.specs.List.{range_with_len};
 ghost use Rattle.scan_model.specs.declared.fault.Fault.{Fault};
 ghost use Rattle.scan_model.specs.declared.logs.LogFacts.{LogFacts};
 ghost use Rattle.scan_model.specs.Marks.{is_marked};
-ghost use Rattle.scan_model.specs.ScanTest.{points_of, HasSite};
+ghost use Rattle.scan_model.specs.ScanTest.{points_of};
 ghost use Rattle.scan_model.specs.Response.{expected_rows};
 ghost use Rattle.scan_model.specs.Universe as listed;
 ghost use Rattle.scan_model.specs.MatchCounts.{counts_of};
@@ -15,15 +15,15 @@ ghost use Rattle.back_trace.specs.Keys.{AreKeys};
 ghost use Rattle.back_trace.specs.Traces.{observes, IsTraceOf, AreMarked};
 
 use crate::chains::{firsts, lasts};
-use crate::explain::is_explained;
 use crate::fails::fail_rows;
 use crate::keys::{cell_keys, observed_keys};
+use crate::marks::mark_explained;
 use crate::reach::{gathered, spread_back};
 use crate::trace::Trace;
-use fault_universe::{universe, universe_len};
+use fault_universe::universe_len;
 use lane_rows::{Block, GoodRows, Row};
 use log_join::Joined;
-use scan_model::{Expected, Fault, NoMemory, Parts, Rows};
+use scan_model::{Expected, NoMemory, Parts, Rows};
 use std::alloc::Global;
 
 /// Traces the failing bits of a block back.
@@ -44,33 +44,17 @@ fn trace_back(
     let nets = parts.circuit().nets().len();
     let points = fails.as_slice();
     let mut reach = gathered(alloc, nets, points, observed, block.capture)?;
-    spread_back(parts.circuit(), &mut reach);
+    spread_back(parts.circuit(), &mut reach)?;
     let cells = gathered(alloc, nets, points, own, block.capture)?;
     let firsts = firsts(alloc, parts, points, block.shift)?;
     let lasts = lasts(alloc, parts, &reach)?;
     Ok(Trace {
         fails,
-        reach: Rows::from_vec(reach),
-        cells: Rows::from_vec(cells),
+        reach,
+        cells,
         firsts,
         lasts,
     })
-}
-
-/// Marks the faults that explain a failing bit of the block.
-fn mark_explained(marks: &mut [bool], faults: &[Fault], parts: &Parts, block: &Block, trace: &Trace)
-    requires trace { IsTraceOf parts.now block.now.capture block.now.shift trace.now }
-    requires fails { length trace.now.fails ≡ length (points_of parts.now) }
-    requires values { length block.now.values ≡ length parts.now.netlist.nets }
-    requires sites { All (HasSite parts.now) faults.now }
-    requires marks { length marks.old ≡ length faults.now }
-    ensures { (b : ℕ) → AreBlockRows parts.now b block.now → IsWithin parts.now b trace.now.fails → AreMarked parts.now b trace.now.fails faults.now (length faults.now) marks.old marks.new }
-{
-    for i in 0..faults.len() {
-        if !marks[i] {
-            marks[i] = is_explained(parts, block, trace, faults[i]);
-        }
-    }
 }
 
 /// Traces the failing bits of a block back, and marks the faults that explain one of them.
@@ -81,19 +65,19 @@ fn mark_block(
     fails: Rows<Row>,
     observed: &[Option<u32>],
     own: &[Option<u32>],
-    faults: &[Fault],
     marks: &mut [bool],
 ) -> Result<(), NoMemory>
     requires fails { length fails ≡ length (points_of parts.now) }
     requires observed { AreKeys parts.now (observes parts.now) (length (points_of parts.now)) observed.now }
     requires own { AreKeys parts.now (definition.is_cell parts.now) (length (points_of parts.now)) own.now }
     requires values { length block.now.values ≡ length parts.now.netlist.nets }
-    requires sites { All (HasSite parts.now) faults.now }
-    requires marks { length marks.old ≡ length faults.now }
-    ensures { OnOk result ((b : ℕ) → AreBlockRows parts.now b block.now → IsWithin parts.now b fails → AreMarked parts.now b fails faults.now (length faults.now) marks.old marks.new) }
+    requires marks { length marks.old ≡ length (listed.universe parts.now) }
+    requires few { length (listed.universe parts.now) < 4294967296 }
+    ensures { OnOk result ((b : ℕ) → AreBlockRows parts.now b block.now → IsWithin parts.now b fails → AreMarked parts.now b fails (listed.universe parts.now) (length (listed.universe parts.now)) marks.old marks.new) }
 {
+    let _ = parts.circuit();
     let trace = trace_back(alloc, parts, block, fails, observed, own)?;
-    mark_explained(marks, faults, parts, block, &trace);
+    mark_explained(marks, parts, block, &trace);
     Ok(())
 }
 
@@ -128,7 +112,6 @@ pub fn suspects_over(
         → IfOk result (λ places. (k : ℕ) (f : Fault) → slice_get (listed.universe parts.now) k ≡ Some f → ¬ (Contains places k) → (counts_of parts.now logs f).tfsf ≡ 0) }
 {
     let _order = parts.circuit().order();
-    let faults = universe(alloc, parts)?;
     let observed = observed_keys(alloc, parts)?;
     let own = cell_keys(alloc, parts)?;
     let patterns = parts.patterns().len() as u32;
@@ -137,16 +120,7 @@ pub fn suspects_over(
     let blocks = good.blocks();
     for b in 0..blocks.len() {
         let fails = fail_rows(alloc, expected, joined, patterns, b as u32, points)?;
-        mark_block(
-            alloc,
-            parts,
-            &blocks[b],
-            fails,
-            &observed,
-            &own,
-            faults.as_slice(),
-            &mut marks,
-        )?;
+        mark_block(alloc, parts, &blocks[b], fails, &observed, &own, &mut marks)?;
     }
     marked_places(alloc, &marks)
 }

@@ -12,7 +12,7 @@ use Rattle.back_trace.proofs.explain.place_row.Goals as goal
 pub bounds-as_slice-place : goal.bounds-as_slice-place
 bounds-as_slice-place c =
     let lt = rw c.in-Output.is at c.requires.place in
-    omega (arith, lt, outputs_are_points c.args.parts.now, c.requires.fails, ap length c.as_slice-in-Output.ensures)
+    omega (arith, lt, outputs_are_points c.args.parts.now, c.requires.fails, ap length c.as_slice.ensures)
 
 pub returns-in-Input : goal.returns-in-Input
 returns-in-Input c = λ j lj.
@@ -29,8 +29,8 @@ returns-in-Flop c = λ j lj.
     let C = lane c.args.block.now.capture j in
     let lt : n < length t.netlist.nets = rw c.in-Operand.is at c.requires.place in
     let rows = c.args.trace.now.cells in
-    let row = c.index-as_slice-net.result in
-    let row_is : row ≡ get_or rows n [] = rw c.as_slice.ensures at c.index-as_slice-net.is ∙ get_or_default rows n row [] (omega (arith, lt, c.requires.trace.lengths.1)) in
+    let row = c.row.result in
+    let row_is : row ≡ get_or rows n [] = c.row.ensures in
     operand_is t c.args.trace.now.fails j n c.in-Operand.index C Flop (lane row j) c.in-Flop.ensures (ap (λ (r : List ℕ). lane r j) row_is ∙ c.requires.trace.cells j n lj lt)
     ∙ ap (λ (p : PinPlace). C && any_fail t c.args.trace.now.fails j (place_reaches t p)) (sym c.in-Operand.is)
 
@@ -41,8 +41,8 @@ returns-in-Gate c = λ j lj.
     let C = lane c.args.block.now.capture j in
     let lt : n < length t.netlist.nets = rw c.in-Operand.is at c.requires.place in
     let rows = c.args.trace.now.reach in
-    let row = c.index-as_slice-net-in-Gate.result in
-    let row_is : row ≡ get_or rows n [] = rw c.as_slice-in-Gate.ensures at c.index-as_slice-net-in-Gate.is ∙ get_or_default rows n row [] (omega (arith, lt, c.requires.trace.lengths.0)) in
+    let row = c.row-in-Gate.result in
+    let row_is : row ≡ get_or rows n [] = c.row-in-Gate.ensures in
     operand_is t c.args.trace.now.fails j n c.in-Operand.index C (Gate c.in-Gate.field-0) (lane row j) c.in-Gate.ensures (ap (λ (r : List ℕ). lane r j) row_is ∙ c.requires.trace.reach j n lj lt)
     ∙ ap (λ (p : PinPlace). C && any_fail t c.args.trace.now.fails j (place_reaches t p)) (sym c.in-Operand.is)
 
@@ -54,7 +54,7 @@ returns-in-Output c = λ j lj.
     let lt : k < length t.netlist.outputs = rw c.in-Output.is at c.requires.place in
     let inside : k < length fails = omega (arith, lt, outputs_are_points t, c.requires.fails) in
     let row = c.index-as_slice-place.result in
-    let row_is : row ≡ get_or fails k [] = rw c.as_slice-in-Output.ensures at c.index-as_slice-place.is ∙ get_or_default fails k row [] inside in
+    let row_is : row ≡ get_or fails k [] = rw c.as_slice.ensures at c.index-as_slice-place.is ∙ get_or_default fails k row [] inside in
     c.and.ensures j lj
     ∙ and_turned (lane row j) (lane c.args.block.now.capture j)
     ∙ ap (λ (b : Bool). lane c.args.block.now.capture j && b) (ap (λ (r : List ℕ). lane r j) row_is ∙ sym (output_fails t fails j k lt) ∙ ap (λ (p : PinPlace). any_fail t fails j (place_reaches t p)) (sym c.in-Output.is))

@@ -28,8 +28,8 @@ returns c = λ b good within j lj.
     let value = c.index-as_slice-at.result in
     let value_is : value ≡ get_or values n no_planes = rw c.as_slice.ensures at c.index-as_slice-at.is ∙ get_or_default values n value no_planes (omega (arith, c.requires.site, c.requires.values)) in
     let reach = c.args.trace.now.reach in
-    let row = c.index-as_slice-at-2.result in
-    let row_is : row ≡ get_or reach n [] = rw c.as_slice-2.ensures at c.index-as_slice-at-2.is ∙ get_or_default reach n row [] (omega (arith, c.requires.site, c.requires.trace.lengths.0)) in
+    let row = c.row.result in
+    let row_is : row ≡ get_or reach n [] = c.row.ensures in
     one_site_is t b block good fails within j lj (lane c.and.result j) (lane c.other_lanes.result j) (lane row j) (are_opposite (good_value t w n) (stuck_value c.args.value)) (net_reaches t n)
     (c.and.ensures j lj)
     (ap (λ (r : List ℕ). lane r j) row_is ∙ c.requires.trace.reach j n lj c.requires.site)

@@ -1,5 +1,5 @@
-use Rattle.std.proofs.Common.{◌≡◌, ◌∙◌, ℕ, ◌&&◌, ◌||◌, ◌++◌, Bool, List, [], None, length, take, drop, get_or, sym, ap}
-use Rattle.std.proofs.lemmas.List.{take_at, get_or_default}
+use Rattle.std.proofs.Common.{◌≡◌, ◌∙◌, ℕ, ◌&&◌, ◌||◌, Bool, List, [], None, get_or, sym, ap}
+use Rattle.std.proofs.lemmas.List.{get_or_default}
 use Rattle.lane_rows.specs.Lanes.{lane}
 use Rattle.back_trace.specs.Keys.{is_key}
 use Rattle.back_trace.specs.Traces.{lane_at}
@@ -8,19 +8,17 @@ use Rattle.back_trace.proofs.reach.gathered.Goals as goal
 
 pub loop-k-preserved : goal.loop-k-preserved
 loop-k-preserved c =
-    let new = c.add_lanes.new.rows in
-    let old = c.loop-k.rows.items in
+    let new = c.add_at_key.new.rows in
+    let old = c.loop-k.rows in
     let k = c.loop-k.k in
     let points = c.args.points.now in
     let keys = c.args.keys.now in
     let row = c.index-points-k.result in
-    let whole : take c.loop-k.rows.len (new ++ drop (length new) old) ≡ new = take_at new (drop (length new) old) c.loop-k.rows.len (c.add_lanes.auto.rows ∙ c.deref_mut.ensures.len) in
     let row_is : row ≡ get_or points k [] = c.index-points-k.is ∙ get_or_default points k row [] c.loop-k-test.true in
-    let added = rw c.deref_mut.ensures.value at c.add_lanes.ensures in
     record {
-      len = ap length whole ∙ c.add_lanes.auto.rows ∙ ap length c.deref_mut.ensures.value ∙ c.loop-k.invariant.len;
-      rows = rw whole (λ j n lj ln. gathered_more (lane c.args.lanes j) (λ m. lane_at points j m && is_key (get_or keys m None) n) k (lane_at old j n) (lane_at new j n) (lane row j) (is_key (get_or keys k None) n)
+      len = c.add_at_key.ensures.len ∙ c.loop-k.invariant.len;
+      rows = λ j n lj ln. gathered_more (lane c.args.lanes j) (λ m. lane_at points j m && is_key (get_or keys m None) n) k (lane_at old j n) (lane_at new j n) (lane row j) (is_key (get_or keys k None) n)
           (c.loop-k.invariant.rows j n lj ln)
-          (added j n lj ∙ ap (λ (b : Bool). lane_at old j n || (b && is_key (get_or keys k None) n)) (c.and.ensures j lj))
-          (ap (λ (r : List ℕ). lane r j && is_key (get_or keys k None) n) (sym row_is)));
+          (c.in_ok-add_at_key.ensures.lanes j n lj ∙ ap (λ (b : Bool). lane_at old j n || (b && is_key (get_or keys k None) n)) (c.and.ensures j lj))
+          (ap (λ (r : List ℕ). lane r j && is_key (get_or keys k None) n) (sym row_is));
     }

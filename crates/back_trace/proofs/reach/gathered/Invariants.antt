@@ -7,6 +7,6 @@ use Rattle.back_trace.proofs.reach.gathered.Given as goal
 
 abbrev pub invariant-loop-k : goal.invariant-loop-k
 invariant-loop-k l = record {
-  len : length l.rows.items ≡ l.nets;
-  rows : (j n : ℕ) → j < 512 → n < l.nets → lane_at l.rows.items j n ≡ (lane l.lanes j && list_any (λ k. lane_at l.points j k && is_key (get_or l.keys k None) n) (range_with_len 0 l.k));
+  len : length l.rows ≡ l.nets;
+  rows : (j n : ℕ) → j < 512 → n < l.nets → lane_at l.rows j n ≡ (lane l.lanes j && list_any (λ k. lane_at l.points j k && is_key (get_or l.keys k None) n) (range_with_len 0 l.k));
 }

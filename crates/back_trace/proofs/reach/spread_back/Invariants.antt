@@ -1,4 +1,4 @@
-use Rattle.std.proofs.Common.{ℕ, ◌<◌, ◌≤◌, length}
+use Rattle.std.proofs.Common.{◌≡◌, ℕ, ◌<◌, ◌≤◌, length}
 use Rattle.back_trace.specs.Traces.{lane_at}
 use Rattle.back_trace.proofs.SweptBack.{IsSweptBack}
 use Rattle.back_trace.proofs.reach.spread_back.Given as goal
@@ -6,6 +6,7 @@ use Rattle.back_trace.proofs.reach.spread_back.Given as goal
 abbrev pub invariant-loop-k : goal.invariant-loop-k
 invariant-loop-k l = record {
   within : l.k ≤ length l.order;
+  len : length l.rows ≡ length l.initial.rows;
   swept : (j : ℕ) → j < 512 → IsSweptBack l.circuit l.order (lane_at l.initial.rows j) l.k (lane_at l.rows j);
 }
 

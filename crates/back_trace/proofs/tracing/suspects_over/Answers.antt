@@ -1,24 +1,30 @@
-use Rattle.std.proofs.Common.{◌≡◌, ◌∙◌, ℕ, ◌+◌, ◌/◌, ◌<◌, ◌++◌, Some, length, take, drop, get_or, sym, ap, subst, arith}
+use Rattle.std.proofs.Common.{◌≡◌, ◌∙◌, ℕ, ◌+◌, ◌/◌, ◌<◌, ◌++◌, Some, length, take, drop, get_or, replicate, false, sym, ap, subst, arith}
 use Rattle.std.specs.Prelude.{Contains, filter, slice_get}
 use Rattle.std.specs.List.{range_with_len}
-use Rattle.std.proofs.lemmas.List.{take_at, get_or_default}
+use Rattle.std.proofs.lemmas.List.{take_at, get_or_default, length-replicate}
 use Rattle.scan_model.specs.declared.fault.Fault.{Fault}
 use Rattle.scan_model.specs.Marks.{is_marked}
 use Rattle.scan_model.specs.ScanTest.{points_of}
 use Rattle.scan_model.specs.Universe.{universe}
 use Rattle.scan_model.specs.MatchCounts.{counts_of}
 use Rattle.scan_model.specs.Suspect.{suspects}
-use Rattle.scan_model.proofs.Sites.{universe_there}
 use Rattle.log_join.proofs.Fitting.{fits_expected}
 use Rattle.lane_rows.specs.GoodRows.{AreBlockRows, no_block}
-use Rattle.back_trace.proofs.Marking.{block_more, marks_are_suspects, outside_counts_none, if_ok}
+use Rattle.back_trace.proofs.Marking.{block_more, marked_none, blank_marks, marks_are_suspects, outside_counts_none, if_ok}
 use Rattle.back_trace.proofs.tracing.suspects_over.Goals as goal
 
 pub fail_rows-requires-clause-expected : goal.fail_rows-requires-clause-expected
 fail_rows-requires-clause-expected c = fits_expected c.args.parts.now c.args.expected.now c.args.joined.now c.requires.expected c.requires.joined
 
-pub mark_block-requires-clause-sites : goal.mark_block-requires-clause-sites
-mark_block-requires-clause-sites c = rw (c.as_slice.ensures, c.in_ok-faults.ensures) (universe_there c.args.parts.now c.points.ensures.fits)
+pub loop-b-init : goal.loop-b-init
+loop-b-init c =
+    let t = c.args.parts.now in
+    let marks = c.in_ok-marks.marks.items in
+    let is : marks ≡ replicate c.universe_len.result false = c.in_ok-marks.ensures.items_if_clones_equal (λ y e. e) in
+    record {
+      len = ap length is ∙ length-replicate c.universe_len.result false ∙ c.universe_len.ensures;
+      marked = λ logs stands. marked_none t logs marks (blank_marks marks c.universe_len.result is);
+    }
 
 pub loop-b-preserved : goal.loop-b-preserved
 loop-b-preserved c =
@@ -34,10 +40,9 @@ loop-b-preserved c =
     let good : AreBlockRows t b block = subst (AreBlockRows t b) (sym block_is) (c.requires.good.each b lt) in
     let points_is : c.len-points.result ≡ length (points_of t) = c.len-points.ensures ∙ ap length c.points.ensures.value in
     let patterns_is : c.len-patterns.result ≡ length t.patterns = c.len-patterns.ensures ∙ ap length c.patterns.ensures.value in
-    let faults_is : c.as_slice.result.now ≡ universe t = c.as_slice.ensures ∙ c.in_ok-faults.ensures in
     record {
       len = ap length whole ∙ c.mark_block.auto.marks ∙ ap length c.deref_mut.ensures.value ∙ c.loop-b.invariant.len;
-      marked = λ logs stands. rw whole (block_more t logs b c.in_ok-fails.fails old new c.args.expected.now c.as_slice.result.now block c.requires.expected faults_is (c.in_ok-fails.ensures.len ∙ points_is)
+      marked = λ logs stands. rw whole (block_more t logs b c.in_ok-fails.fails old new c.args.expected.now block c.requires.expected (c.in_ok-fails.ensures.len ∙ points_is)
           (rw (points_is, patterns_is) at (c.in_ok-fails.ensures.fails logs stands)) good (rw c.deref_mut.ensures.value at c.in_ok-mark_block.ensures) (c.loop-b.invariant.marked logs stands));
     }
 
