@@ -5,8 +5,8 @@
 
 `diagnose` of the stored files ends with status 8 and the line `memory`, or with the whole report (where the allocation is one that the C
 library can do without). `serve` of one session, which puts a design and looks at it, answers both requests, or the last of its
-replies is 507, or it reads nothing and the run ends with 8; another run over the same store then finds the design exactly where
-its reply was 201. Ends at the first run of which none of this holds, else prints one line with the numbers.
+replies is 507, or it reads nothing and the run ends with 8, or the street, whose doors have no answer for want of memory, fails before
+anything is read; another run over the same store then finds the design exactly where its reply was 201. Ends at the first run of which none of this holds, else prints one line with the numbers.
 """
 import concurrent.futures
 import os
@@ -106,7 +106,8 @@ def exchange(port, asked):
             s.shutdown(socket.SHUT_WR)
             while piece := s.recv(1 << 16):
                 got += piece
-        except (ConnectionResetError, BrokenPipeError):
+        except OSError:
+            # The session had no memory, and the connection is closed unread.
             pass
     return got
 
@@ -141,8 +142,8 @@ def served(refusing, whole, at):
         return 'whole'
     if status == 0 and got in ([(507, b'memory\n')], [whole[0], (507, b'memory\n')]):
         return '507'
-    if status == 8 and not got and lines.endswith(b'memory\n'):
-        return 'memory'
+    if not got and (status, lines.splitlines()[-1:]) in ((8, [b'memory']), (10, [b'street fault'])):
+        return {8: 'memory', 10: 'street'}[status]
     return None
 
 
@@ -175,9 +176,9 @@ def main():
         second = each(of_serve, lambda at: served(refusing, whole, at), 'serve',
                       lambda at: refusing.serve(at, os.path.join(folder, 'again%d' % at), PUT + LOOK))
         print('%d allocations of diagnose, each refused once: %d end with memory, %d with the report; %d of a session: %d end with memory, '
-              '%d with a 507 and no deed of it, %d with all replies'
+              '%d with a 507 and no deed of it, %d with a street fault, %d with all replies'
               % (of_diagnose, first.get('memory', 0), first.get('whole', 0), of_serve, second.get('memory', 0), second.get('507', 0),
-                 second.get('whole', 0)))
+                 second.get('street', 0), second.get('whole', 0)))
 
 
 if __name__ == '__main__':
