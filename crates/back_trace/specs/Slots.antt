@@ -1,5 +1,5 @@
 -- The rows of nets by slots: a net's slot is the place of its row, and nets without lanes share the first.
-use Rattle.std.specs.Prelude.{◌≡◌, ◌⊎◌, ℕ, ◌<◌, List, [], length, map, Bool, false, slice_index_or}
+use Rattle.std.specs.Prelude.{◌≡◌, ◌⊎◌, ℕ, ◌<◌, List, [], length, map, false, slice_index_or}
 use Rattle.lane_rows.specs.Lanes.{lane}
 
 abbrev pub row_of : List (List ℕ) → ℕ → List ℕ

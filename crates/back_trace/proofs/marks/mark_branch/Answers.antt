@@ -1,6 +1,3 @@
-use Rattle.std.proofs.Common.{◌<◌, length, subst, arith}
-use Rattle.back_trace.specs.Traces.{IsPlaceIn}
-use Rattle.back_trace.specs.Marking.{IsUnreached}
 use Rattle.back_trace.proofs.Unreached.{branch_stays}
 use Rattle.back_trace.proofs.marks.mark_branch.Goals as goal
 

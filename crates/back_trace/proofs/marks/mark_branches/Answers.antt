@@ -1,8 +1,6 @@
-use Rattle.std.proofs.Common.{◌≡◌, ◌∙◌, ℕ, ◌+◌, ◌*◌, ◌<◌, List, Some, length, get_or, ap, sym, subst, arith}
+use Rattle.std.proofs.Common.{◌≡◌, ◌∙◌, ℕ, ◌+◌, ◌*◌, List, length, get_or, ap, sym, subst, arith}
 use Rattle.std.specs.Prelude.{filter, slice_get}
 use Rattle.std.proofs.lemmas.Option.{slice_get-get_or}
-use Rattle.scan_model.specs.declared.fault.Fault.TheVariants as fault
-use Rattle.scan_model.specs.declared.fault.Stuck.TheVariants as stuck
 use Rattle.scan_model.specs.Netlist.{Netlist, is_branch, pin_numbers}
 use Rattle.scan_model.specs.Universe.{branches, branch_faults}
 use Rattle.back_trace.specs.Marking.{MarksOn, StandAt}

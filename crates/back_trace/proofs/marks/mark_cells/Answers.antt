@@ -1,7 +1,7 @@
-use Rattle.std.proofs.Common.{◌≡◌, ◌∙◌, ℕ, ◌+◌, ◌*◌, ◌<◌, List, [], length, get_or, take, ap, sym, subst, arith}
+use Rattle.std.proofs.Common.{◌≡◌, ◌∙◌, ℕ, ◌<◌, List, length, get_or, take, ap, subst, arith}
 use Rattle.std.proofs.Math.Seq.{take-length}
 use Rattle.scan_model.specs.declared.parts.Chain.{Chain}
-use Rattle.scan_model.specs.ScanTest.{cells_of, no_chain}
+use Rattle.scan_model.specs.ScanTest.{cells_of}
 use Rattle.scan_model.specs.Universe.{universe}
 use Rattle.back_trace.specs.Marking.{MarksOn}
 use Rattle.back_trace.proofs.Standing.{cell_stands_at, chain_more, chain_inside, universe_count, cell_count}

@@ -1,4 +1,4 @@
-use Rattle.std.proofs.Common.{◌≡◌, ℕ, ◌+◌, ◌*◌, ◌<◌, subst, arith}
+use Rattle.std.proofs.Common.{◌≡◌, ℕ, ◌+◌, ◌*◌, subst, arith}
 use Rattle.scan_model.specs.Universe.{cell_faults}
 use Rattle.back_trace.specs.Marking.{MarksOn}
 use Rattle.back_trace.specs.Traces.{no_fault}

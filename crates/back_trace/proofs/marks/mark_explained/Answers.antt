@@ -1,4 +1,4 @@
-use Rattle.std.proofs.Common.{◌≡◌, ◌∙◌, ℕ, ◌+◌, ◌*◌, ◌<◌, List, Bool, length, ap, subst, arith}
+use Rattle.std.proofs.Common.{◌≡◌, ◌∙◌, ℕ, ◌+◌, ◌*◌, List, Bool, length, ap, subst, arith}
 use Rattle.std.specs.Prelude.{filter}
 use Rattle.scan_model.specs.declared.parts.Pairs.{Pairs}
 use Rattle.scan_model.specs.Netlist.{Netlist, is_branch, pin_numbers}

@@ -1,4 +1,3 @@
-use Rattle.std.proofs.Common.{◌<◌, length, arith}
 use Rattle.back_trace.proofs.Unreached.{stem_stays}
 use Rattle.back_trace.proofs.marks.mark_stem.Goals as goal
 

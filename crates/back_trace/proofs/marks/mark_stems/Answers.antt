@@ -1,4 +1,4 @@
-use Rattle.std.proofs.Common.{◌≡◌, ◌∙◌, ℕ, ◌+◌, ◌*◌, ◌<◌, length, ap, subst, arith}
+use Rattle.std.proofs.Common.{◌≡◌, ◌∙◌, ℕ, ◌+◌, ◌*◌, length, ap, subst, arith}
 use Rattle.scan_model.specs.Netlist.{Netlist}
 use Rattle.scan_model.specs.Universe.{stems}
 use Rattle.back_trace.specs.Marking.{MarksOn}

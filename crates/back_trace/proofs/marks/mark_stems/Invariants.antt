@@ -1,4 +1,4 @@
-use Rattle.std.proofs.Common.{◌+◌, ◌*◌}
+use Rattle.std.proofs.Common.{◌*◌}
 use Rattle.back_trace.specs.Marking.{MarksOn}
 use Rattle.back_trace.proofs.marks.mark_stems.Given as goal
 

@@ -1,4 +1,4 @@
-use Rattle.std.proofs.Common.{◌≡◌, ◌∙◌, ℕ, ◌<◌, ◌&&◌, ◌||◌, ◌==◌, List, [], set, get_or, sym, ap}
+use Rattle.std.proofs.Common.{◌≡◌, ◌∙◌, ℕ, ◌<◌, ◌&&◌, ◌||◌, ◌==◌, List, set, ap}
 use Rattle.lane_rows.specs.Lanes.{lane}
 use Rattle.back_trace.specs.Traces.{lane_at}
 use Rattle.back_trace.proofs.NetRows.{lanes_added, on_ok}

@@ -1,4 +1,4 @@
-use Rattle.std.proofs.Common.{◌≡◌, ◌∙◌, ℕ, ◌<◌, ◌&&◌, ◌||◌, Bool, length, sym, ap, ◌+◌, ◌∷◌, ◌++◌, [], arith}
+use Rattle.std.proofs.Common.{◌≡◌, ◌∙◌, ℕ, ◌&&◌, ◌||◌, Bool, sym, ap, ◌+◌, ◌∷◌, ◌++◌, []}
 use Rattle.scan_model.proofs.FanSweeps.{first_reads, first_reads_more}
 use Rattle.lane_rows.specs.Lanes.{lane}
 use Rattle.back_trace.specs.Traces.{lane_at}

@@ -1,4 +1,4 @@
-use Rattle.std.proofs.Common.{◌≡◌, ◌∙◌, List, length, ap}
+use Rattle.std.proofs.Common.{◌∙◌, length, ap}
 use Rattle.back_trace.proofs.Marking.{marks_begin}
 use Rattle.scan_model.specs.Universe.{universe}
 use Rattle.back_trace.proofs.tracing.mark_block.Goals as goal

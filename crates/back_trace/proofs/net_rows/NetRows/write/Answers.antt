@@ -1,4 +1,4 @@
-use Rattle.std.proofs.Common.{◌≡◌, ◌<◌, ◌+◌, get_or, length, ap, sym, ◌∙◌, arith}
+use Rattle.std.proofs.Common.{◌≡◌, ◌<◌, get_or, length, ap, arith}
 use Rattle.std.proofs.lemmas.List.{get_or_read, length-map}
 use Rattle.back_trace.specs.Slots.{row_of}
 use Rattle.back_trace.proofs.Slots.{rows_more, rows_set}
