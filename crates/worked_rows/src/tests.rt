@@ -7,6 +7,7 @@ mod neighbours;
 mod netlists;
 mod patterns;
 mod predicted;
+mod ranking;
 mod refusal;
 mod reports;
 mod responses;
