@@ -3,3 +3,4 @@ pub mod BitTally
 pub mod Layout
 pub mod Summary
 pub mod PredictedLog
+pub mod WordFails

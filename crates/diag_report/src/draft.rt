@@ -21,6 +21,19 @@ pub(crate) fn new_draft(alloc: Global) -> Draft
     }
 }
 
+/// An empty text with room for so many bytes and lines; more of either takes more memory.
+pub(crate) fn draft_with_room(alloc: Global, bytes: usize, lines: usize) -> Result<Draft, NoMemory>
+    ensures text { IfOk result (λ draft. draft.text ≡ []) }
+    ensures ends { IfOk result (λ draft. draft.ends ≡ []) }
+{
+    let text = Vec::with_capacity(alloc, bytes)?;
+    let ends = Vec::with_capacity(alloc, lines)?;
+    Ok(Draft {
+        text: Rows::from_vec(text),
+        ends: Rows::from_vec(ends),
+    })
+}
+
 /// Ends a line whose words are written.
 pub(crate) fn end_line(draft: &mut Draft) -> Result<(), NoMemory>
     ensures text { OnOk result (draft.new.text ≡ draft.old.text ++ 10 ∷ []) }

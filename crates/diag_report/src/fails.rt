@@ -1,51 +1,43 @@
-ghost use Rattle.std.specs.Prelude.{◌≡◌, ◌++◌, ◌∷◌, [], ◌<◌, length, Ok, IfOk, OnOk, IsTrue};
-ghost use Rattle.scan_model.specs.ScanTest.{points_of, HasSite, IsScanTest};
-ghost use Rattle.scan_model.specs.Values as values;
+ghost use Rattle.std.specs.Prelude.{◌≡◌, ◌+◌, ◌*◌, ◌/◌, ◌++◌, ◌∷◌, [], ◌<◌, ◌≤◌, ◌==◌, length, map, All, Contains, Ok, IfOk, OnOk, IsTrue};
+ghost use Rattle.std.specs.Int.{bit_at};
+ghost use Rattle.scan_model.specs.declared.fault.Fault.{Fault};
+ghost use Rattle.scan_model.specs.ScanTest.{points_of, IsScanTest};
 ghost use Rattle.scan_model.specs.Universe.{universe};
-ghost use Rattle.scan_model.specs.Coverage.{bits_of};
+ghost use Rattle.scan_model.specs.Coverage.{bit_of, bits_of};
 ghost use Rattle.scan_model.specs.Words.{is_tag};
 ghost use Rattle.scan_model.specs.LogText.{log_frame, log_reading};
 ghost use Rattle.scan_model.specs.ReportText as text_of;
-ghost use Rattle.fault_universe.specs.BitRows.{row_bits};
+ghost use Rattle.packed_sim.specs.Belongs.{BelongsTo, AreFails};
 ghost use Rattle.diag_report.specs.LineEnds.{AddsLines};
 ghost use Rattle.diag_report.specs.PredictedLog as log;
+ghost use Rattle.diag_report.specs.WordFails.{points_with_fails, word_bits};
 
 use crate::draft::{Draft, end_line, new_draft};
-use crate::lines::{bit_line, name_line};
-use fault_universe::{fault_at, push_number};
-use good_sim::plain_response;
-use scan_model::{Bit, Fault, Name, NoMemory, Parts, Tri};
+use crate::lines::{bit_line, name_line, push_number};
+use fault_universe::fault_at;
+use packed_sim::{PackedGood, Scratch};
+use scan_model::{Bit, Fault, Name, NoMemory, Parts, Rows, Steps};
 use std::alloc::Global;
+use std::marker::Brand;
+use std::sync::ledger::{Blank, Ledger};
 
-fn are_opposite(a: Tri, b: Tri) -> bool
-    ensures { result ≡ values.are_opposite a b }
-{
-    matches!((a, b), (Tri::Zero, Tri::One) | (Tri::One, Tri::Zero))
-}
-
-fn push_tested(alloc: Global, line: &mut Name, last: u32) -> Result<(), NoMemory>
+fn push_tested(line: &mut Name, last: u32) -> Result<(), NoMemory>
     ensures { OnOk result (line.new ≡ line.old ++ text_of.spaced (log.tested_words last)) }
 {
     line.append(b"tested")?;
-    push_number(alloc, line, 0)?;
-    push_number(alloc, line, u64::from(last))
+    push_number(line, 0)?;
+    push_number(line, u64::from(last))
 }
 
 /// Adds the line that says that the patterns up to the last are tested.
-fn tested_line(alloc: Global, draft: &mut Draft, last: u32) -> Result<(), NoMemory>
+fn tested_line(draft: &mut Draft, last: u32) -> Result<(), NoMemory>
     ensures { OnOk result (AddsLines (text_of.line (log.tested_words last) ∷ []) draft.old draft.new) }
 {
-    push_tested(alloc, &mut draft.text, last)?;
+    push_tested(&mut draft.text, last)?;
     end_line(draft)
 }
 
-fn head(
-    alloc: Global,
-    draft: &mut Draft,
-    parts: &Parts,
-    design: &[u8],
-    die: &[u8],
-) -> Result<(), NoMemory>
+fn head(draft: &mut Draft, parts: &Parts, design: &[u8], die: &[u8]) -> Result<(), NoMemory>
     ensures lines { OnOk result (AddsLines (log.head_lines parts.now design.now die.now) draft.old draft.new) }
     ensures fits { IsScanTest parts.now }
 {
@@ -53,41 +45,119 @@ fn head(
     name_line(draft, b"FAILLOG", b"1")?;
     name_line(draft, b"die", die)?;
     name_line(draft, b"design", design)?;
-    tested_line(alloc, draft, last)
+    tested_line(draft, last)
 }
 
-/// Adds a line for each point of a pattern at which the fault predicts a fail.
+/// The points that fail in some pattern of a word, in rising order.
+fn failing_points(alloc: Global, fails: &[u64]) -> Result<Rows<u32>, NoMemory>
+    requires { length fails.now ≤ 131072 }
+    ensures { IfOk result (λ points. points ≡ points_with_fails fails.now) }
+{
+    let mut points = Rows::new(alloc);
+    for point in 0..fails.len() {
+        let word = fails[point];
+        if word != 0 {
+            points.push(point as u32)?;
+        }
+    }
+    Ok(points)
+}
+
+/// Whether a word has a bit.
+fn has_bit(word: u64, bit: u32) -> bool
+    requires { bit < 64 }
+    ensures { result ≡ (bit_at word bit == 1) }
+{
+    (word >> bit) & 1 == 1
+}
+
+/// Adds a line for each of some points that fails in a pattern.
 fn pattern_fails(
-    alloc: Global,
     draft: &mut Draft,
     parts: &Parts,
-    fault: Fault,
+    fails: &[u64],
+    points: &[u32],
     pattern: u32,
 ) -> Result<(), NoMemory>
-    requires fault { HasSite parts.now fault }
+    requires fails { length fails.now ≡ length (points_of parts.now) }
+    requires points { All (λ k. k < length (points_of parts.now)) points.now }
     requires pattern { pattern < length parts.now.patterns }
-    ensures { OnOk result (AddsLines (log.fail_lines parts.now fault (row_bits pattern (length (points_of parts.now)))) draft.old draft.new) }
+    ensures { OnOk result ((f : Fault) → AreFails parts.now f (pattern / 64) fails.now → AddsLines (log.fail_lines parts.now f (map (bit_of pattern) points.now)) draft.old draft.new) }
 {
-    let good = plain_response(alloc, parts, pattern, None)?;
-    let faulty = plain_response(alloc, parts, pattern, Some(fault))?;
-    for point in 0..parts.points().len() as u32 {
-        let k = point as usize;
-        if are_opposite(good.as_slice()[k], faulty.as_slice()[k]) {
-            bit_line(alloc, draft, parts, b"fail", &Bit { pattern, point })?;
+    for i in 0..points.len() {
+        let point = points[i];
+        if has_bit(fails[point as usize], pattern % 64) {
+            bit_line(draft, parts, b"fail", &Bit { pattern, point })?;
         }
     }
     Ok(())
 }
 
-/// Adds a line for each predicted fail of a fault, pattern by pattern.
-fn fail_lines(alloc: Global, draft: &mut Draft, parts: &Parts, fault: Fault) -> Result<(), NoMemory>
-    requires { HasSite parts.now fault }
-    ensures { OnOk result (AddsLines (log.fail_lines parts.now fault (bits_of parts.now)) draft.old draft.new) }
+/// Adds a line for each fail in the patterns of a word.
+fn word_fails(
+    alloc: Global,
+    draft: &mut Draft,
+    parts: &Parts,
+    fails: &[u64],
+    word: u32,
+) -> Result<(), NoMemory>
+    requires fails { length fails.now ≡ length (points_of parts.now) }
+    requires word { 64 * word < length parts.now.patterns }
+    ensures { OnOk result ((f : Fault) → AreFails parts.now f word fails.now → AddsLines (log.fail_lines parts.now f (word_bits parts.now word)) draft.old draft.new) }
 {
-    for pattern in 0..parts.patterns().len() as u32 {
-        pattern_fails(alloc, draft, parts, fault, pattern)?;
+    let _ = parts.points();
+    let patterns = parts.patterns().len() as u32;
+    let points = failing_points(alloc, fails)?;
+    let first = 64 * word;
+    let end = (first + 64).min(patterns);
+    for pattern in first..end {
+        pattern_fails(draft, parts, fails, points.as_slice(), pattern)?;
     }
     Ok(())
+}
+
+/// Adds a line for each predicted fail of a fault, word by word. `fails` has room for a word of each point.
+fn fails_by_word<L: Ledger>(
+    alloc: Global,
+    draft: &mut Draft,
+    parts: &Parts,
+    good: &PackedGood,
+    fault: &Fault,
+    fails: &mut [u64],
+    steps: &mut Steps<L>,
+) -> Result<(), NoMemory>
+    requires good { BelongsTo parts.now good.now }
+    requires fault { Contains (universe parts.now) fault.now }
+    requires fails { length fails.old ≡ length (points_of parts.now) }
+    ensures { OnOk result (AddsLines (log.fail_lines parts.now fault.now (bits_of parts.now)) draft.old draft.new) }
+{
+    let mut scratch = Scratch::make(alloc, good)?;
+    let words = (parts.patterns().len() as u32 + 63) / 64;
+    for word in 0..words {
+        good.fails_of(parts, &mut scratch, fault, word, fails, steps);
+        word_fails(alloc, draft, parts, fails, word)?;
+    }
+    Ok(())
+}
+
+/// Adds a line for each predicted fail of a fault, with a ledger for the steps of simulation.
+fn fail_lines<L: Ledger>(
+    alloc: Global,
+    draft: &mut Draft,
+    parts: &Parts,
+    fault: &Fault,
+    blank: Blank,
+) -> Result<(), NoMemory>
+    requires fault { Contains (universe parts.now) fault.now }
+    requires name { blank.name ≡ L.name }
+    requires parts { blank.parts ≡ L.parts }
+    requires some { 0 < blank.parts }
+    ensures { OnOk result (AddsLines (log.fail_lines parts.now fault.now (bits_of parts.now)) draft.old draft.new) }
+{
+    let mut steps = Steps::<L>::open(blank);
+    let good = PackedGood::make(alloc, parts)?;
+    let mut fails = vec![in alloc; 0u64; parts.points().len()]?;
+    fails_by_word(alloc, draft, parts, &good, fault, &mut fails, &mut steps)
 }
 
 /// Adds the last line.
@@ -99,7 +169,7 @@ fn last_line(draft: &mut Draft) -> Result<(), NoMemory>
 }
 
 /// The fail log that the fault at a place predicts: all patterns are tested, and exactly its predicted fails are listed.
-/// Besides the simulation it takes time linear in the patterns and points.
+/// The fault is simulated in 64 patterns at a time; besides it takes time linear in the patterns and points.
 pub fn fails_text(
     alloc: Global,
     parts: &Parts,
@@ -118,8 +188,8 @@ pub fn fails_text(
         unreachable!()
     };
     let mut draft = new_draft(alloc);
-    head(alloc, &mut draft, parts, design, die)?;
-    fail_lines(alloc, &mut draft, parts, fault)?;
+    head(&mut draft, parts, design, die)?;
+    fail_lines::<Brand>(alloc, &mut draft, parts, &fault, Blank::new(1))?;
     last_line(&mut draft)?;
     let Draft { text, .. } = draft;
     Ok(text)

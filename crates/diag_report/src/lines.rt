@@ -7,7 +7,8 @@ ghost use Rattle.diag_report.specs.LineEnds.{AddsLines};
 ghost use Rattle.diag_report.specs.Layout.{score_words};
 
 use crate::draft::{Draft, end_line};
-use fault_universe::{chain_name, fault_at, net_name, push_fault, push_number, push_word};
+use fault_universe::{chain_name, fault_at, net_name, push_fault, push_word};
+use itoa::Buffer;
 use scan_model::{Bit, Name, NoMemory, Parts, Point, Scored};
 use std::alloc::Global;
 
@@ -20,22 +21,26 @@ pub(crate) fn name_line(draft: &mut Draft, word: &[u8], name: &[u8]) -> Result<(
     end_line(draft)
 }
 
+/// Adds a space and a number in decimal digits, which are made without memory of their own.
+pub(crate) fn push_number(line: &mut Name, number: u64) -> Result<(), NoMemory>
+    ensures { OnOk result (line.new ≡ line.old ++ 32 ∷ decimal number) }
+{
+    let mut buffer = Buffer::new();
+    let digits = buffer.format(number);
+    push_word(line, digits.as_bytes())
+}
+
 /// Adds a line of a word and a number.
-pub(crate) fn number_line(
-    alloc: Global,
-    draft: &mut Draft,
-    word: &[u8],
-    number: u64,
-) -> Result<(), NoMemory>
+pub(crate) fn number_line(draft: &mut Draft, word: &[u8], number: u64) -> Result<(), NoMemory>
     ensures { OnOk result (AddsLines (text_of.line (word.now ∷ decimal number ∷ []) ∷ []) draft.old draft.new) }
 {
     draft.text.append(word)?;
-    push_number(alloc, &mut draft.text, number)?;
+    push_number(&mut draft.text, number)?;
     end_line(draft)
 }
 
 /// Adds the words of a point.
-fn push_point(alloc: Global, line: &mut Name, parts: &Parts, point: Point) -> Result<(), NoMemory>
+fn push_point(line: &mut Name, parts: &Parts, point: Point) -> Result<(), NoMemory>
     requires { IsPoint parts.now point }
     ensures { OnOk result (line.new ≡ line.old ++ after_spaces (text_of.point_words parts.now point)) }
 {
@@ -48,14 +53,13 @@ fn push_point(alloc: Global, line: &mut Name, parts: &Parts, point: Point) -> Re
         Point::Cell { chain, pos } => {
             push_word(line, b"cell")?;
             push_word(line, chain_name(parts, chain))?;
-            push_number(alloc, line, u64::from(pos))
+            push_number(line, u64::from(pos))
         }
     }
 }
 
 /// Adds a line that names a bit.
 pub(crate) fn bit_line(
-    alloc: Global,
     draft: &mut Draft,
     parts: &Parts,
     word: &[u8],
@@ -66,29 +70,29 @@ pub(crate) fn bit_line(
 {
     let point = parts.points().as_slice()[bit.point as usize];
     draft.text.append(word)?;
-    push_number(alloc, &mut draft.text, u64::from(bit.pattern))?;
-    push_point(alloc, &mut draft.text, parts, point)?;
+    push_number(&mut draft.text, u64::from(bit.pattern))?;
+    push_point(&mut draft.text, parts, point)?;
     end_line(draft)
 }
 
 /// Adds a word and a number.
-fn push_labelled(alloc: Global, line: &mut Name, label: &[u8], number: u64) -> Result<(), NoMemory>
+fn push_labelled(line: &mut Name, label: &[u8], number: u64) -> Result<(), NoMemory>
     ensures { OnOk result (line.new ≡ line.old ++ after_spaces (label.now ∷ decimal number ∷ [])) }
 {
     push_word(line, label)?;
-    push_number(alloc, line, number)
+    push_number(line, number)
 }
 
 /// Adds the words of a candidate, up to its fault.
-fn push_scores(alloc: Global, line: &mut Name, rank: u64, row: &Scored) -> Result<(), NoMemory>
+fn push_scores(line: &mut Name, rank: u64, row: &Scored) -> Result<(), NoMemory>
     ensures { OnOk result (line.new ≡ line.old ++ text_of.spaced (score_words rank row.now)) }
 {
     line.append(b"candidate")?;
-    push_number(alloc, line, rank)?;
-    push_labelled(alloc, line, b"fault", u64::from(row.place))?;
-    push_labelled(alloc, line, b"tfsf", row.counts.tfsf)?;
-    push_labelled(alloc, line, b"tfsp", row.counts.tfsp)?;
-    push_labelled(alloc, line, b"tpsf", row.counts.tpsf)
+    push_number(line, rank)?;
+    push_labelled(line, b"fault", u64::from(row.place))?;
+    push_labelled(line, b"tfsf", row.counts.tfsf)?;
+    push_labelled(line, b"tfsp", row.counts.tfsp)?;
+    push_labelled(line, b"tpsf", row.counts.tpsf)
 }
 
 /// Adds the line of a candidate of a rank.
@@ -105,7 +109,7 @@ pub(crate) fn candidate_line(
     let Some(fault) = fault_at(parts, row.place) else {
         unreachable!()
     };
-    push_scores(alloc, &mut draft.text, rank, row)?;
+    push_scores(&mut draft.text, rank, row)?;
     draft.text.push(b' ')?;
     push_fault(alloc, &mut draft.text, parts, &fault)?;
     end_line(draft)

@@ -5,8 +5,8 @@ ghost use Rattle.diag_report.specs.LineEnds.{AddsLines};
 ghost use Rattle.diag_report.specs.Summary as summary;
 
 use crate::draft::{Draft, end_line, new_draft};
-use crate::lines::number_line;
-use fault_universe::{net_name, push_number, push_word, universe_len};
+use crate::lines::{number_line, push_number};
+use fault_universe::{net_name, push_word, universe_len};
 use scan_model::{Name, NoMemory, Pair, Parts};
 use std::alloc::Global;
 
@@ -22,66 +22,56 @@ fn cell_count(parts: &Parts) -> u64
     count
 }
 
-fn circuit_counts(alloc: Global, draft: &mut Draft, parts: &Parts) -> Result<(), NoMemory>
+fn circuit_counts(draft: &mut Draft, parts: &Parts) -> Result<(), NoMemory>
     ensures { OnOk result (AddsLines (summary.circuit_lines parts.now) draft.old draft.new) }
 {
     let circuit = parts.circuit();
-    number_line(alloc, draft, b"inputs", circuit.inputs().len() as u64)?;
-    number_line(alloc, draft, b"outputs", circuit.outputs().len() as u64)?;
-    number_line(alloc, draft, b"nets", circuit.nets().len() as u64)?;
-    number_line(alloc, draft, b"pins", circuit.pins().len() as u64)
+    number_line(draft, b"inputs", circuit.inputs().len() as u64)?;
+    number_line(draft, b"outputs", circuit.outputs().len() as u64)?;
+    number_line(draft, b"nets", circuit.nets().len() as u64)?;
+    number_line(draft, b"pins", circuit.pins().len() as u64)
 }
 
-fn test_counts(alloc: Global, draft: &mut Draft, parts: &Parts) -> Result<(), NoMemory>
+fn test_counts(draft: &mut Draft, parts: &Parts) -> Result<(), NoMemory>
     ensures { OnOk result (AddsLines (summary.test_lines parts.now) draft.old draft.new) }
 {
     let pairs = parts.pairs();
-    number_line(alloc, draft, b"chains", parts.chains().len() as u64)?;
-    number_line(alloc, draft, b"cells", cell_count(parts))?;
-    number_line(alloc, draft, b"patterns", parts.patterns().len() as u64)?;
-    number_line(alloc, draft, b"pairs", pairs.kept.len() as u64)?;
-    number_line(alloc, draft, b"left-out", pairs.left_out.len() as u64)?;
-    number_line(alloc, draft, b"faults", u64::from(universe_len(parts)))
+    number_line(draft, b"chains", parts.chains().len() as u64)?;
+    number_line(draft, b"cells", cell_count(parts))?;
+    number_line(draft, b"patterns", parts.patterns().len() as u64)?;
+    number_line(draft, b"pairs", pairs.kept.len() as u64)?;
+    number_line(draft, b"left-out", pairs.left_out.len() as u64)?;
+    number_line(draft, b"faults", u64::from(universe_len(parts)))
 }
 
 /// Adds the words of a pair that was left out.
-fn push_left_out(alloc: Global, line: &mut Name, parts: &Parts, pair: &Pair) -> Result<(), NoMemory>
+fn push_left_out(line: &mut Name, parts: &Parts, pair: &Pair) -> Result<(), NoMemory>
     requires a { pair.now.a < length parts.now.netlist.nets }
     requires b { pair.now.b < length parts.now.netlist.nets }
     ensures { OnOk result (line.new ≡ line.old ++ text_of.spaced (summary.left_out_words parts.now pair.now)) }
 {
     line.append(b"left-out-row")?;
-    push_number(alloc, line, pair.row)?;
+    push_number(line, pair.row)?;
     push_word(line, net_name(parts, pair.a))?;
     push_word(line, net_name(parts, pair.b))
 }
 
 /// Adds the line of a pair that was left out.
-fn left_out_line(
-    alloc: Global,
-    draft: &mut Draft,
-    parts: &Parts,
-    pair: &Pair,
-) -> Result<(), NoMemory>
+fn left_out_line(draft: &mut Draft, parts: &Parts, pair: &Pair) -> Result<(), NoMemory>
     requires a { pair.now.a < length parts.now.netlist.nets }
     requires b { pair.now.b < length parts.now.netlist.nets }
     ensures { OnOk result (AddsLines (summary.left_out_line parts.now pair.now ∷ []) draft.old draft.new) }
 {
-    push_left_out(alloc, &mut draft.text, parts, pair)?;
+    push_left_out(&mut draft.text, parts, pair)?;
     end_line(draft)
 }
 
-fn left_out_lines(
-    alloc: Global,
-    draft: &mut Draft,
-    parts: &Parts,
-    pairs: &[Pair],
-) -> Result<(), NoMemory>
+fn left_out_lines(draft: &mut Draft, parts: &Parts, pairs: &[Pair]) -> Result<(), NoMemory>
     requires { All (λ p. (p.a < length parts.now.netlist.nets) × (p.b < length parts.now.netlist.nets)) pairs.now }
     ensures { OnOk result (AddsLines (map (summary.left_out_line parts.now) pairs.now) draft.old draft.new) }
 {
     for i in 0..pairs.len() {
-        left_out_line(alloc, draft, parts, &pairs[i])?;
+        left_out_line(draft, parts, &pairs[i])?;
     }
     Ok(())
 }
@@ -91,9 +81,9 @@ pub fn summary_text(alloc: Global, parts: &Parts) -> Result<Name, NoMemory>
     ensures { IfOk result (λ text. text ≡ summary.summary_text parts.now) }
 {
     let mut draft = new_draft(alloc);
-    circuit_counts(alloc, &mut draft, parts)?;
-    test_counts(alloc, &mut draft, parts)?;
-    left_out_lines(alloc, &mut draft, parts, parts.pairs().left_out.as_slice())?;
+    circuit_counts(&mut draft, parts)?;
+    test_counts(&mut draft, parts)?;
+    left_out_lines(&mut draft, parts, parts.pairs().left_out.as_slice())?;
     let Draft { text, .. } = draft;
     Ok(text)
 }

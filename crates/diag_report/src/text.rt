@@ -1,4 +1,4 @@
-ghost use Rattle.std.specs.Prelude.{◌≡◌, ◌<◌, List, All, map, length, IfOk, OnOk};
+ghost use Rattle.std.specs.Prelude.{◌≡◌, ◌<◌, [], List, All, map, length, IfOk, OnOk};
 ghost use Rattle.std.specs.List.{enumerate_from};
 ghost use Rattle.scan_model.specs.declared.logs.LogFacts.{LogFacts};
 ghost use Rattle.scan_model.specs.ScanTest.{points_of};
@@ -9,13 +9,18 @@ ghost use Rattle.log_join.specs.Joining.{StandsFor, IsJoinedOf, FitsExpected};
 ghost use Rattle.diag_report.specs.LineEnds.{AddsLines};
 ghost use Rattle.diag_report.specs.Layout.{title_lines, total_lines, layout};
 
-use crate::draft::{Draft, new_draft};
+use crate::draft::{Draft, draft_with_room};
 use crate::lines::{bit_line, candidate_line, name_line, number_line};
 use crate::report::{Report, finished};
 use crate::tally::{Tally, tally_bits};
 use log_join::Joined;
 use scan_model::{Bit, Expected, Name, NoMemory, Parts, Rows, Scored};
 use std::alloc::Global;
+
+/// About the bytes of a line that names a bit, and of the line of a candidate.
+const BIT_BYTES: usize = 32;
+
+const CANDIDATE_BYTES: usize = 80;
 
 /// What a report begins with: the tags of design and die, and the number of its logs.
 #[derive(Debug, Drop)]
@@ -25,37 +30,31 @@ pub struct Head {
     pub logs: u64,
 }
 
-fn title(alloc: Global, draft: &mut Draft, head: &Head) -> Result<(), NoMemory>
+fn title(draft: &mut Draft, head: &Head) -> Result<(), NoMemory>
     ensures { OnOk result (AddsLines (title_lines head.now.design head.now.die head.now.logs) draft.old draft.new) }
 {
-    number_line(alloc, draft, b"REPORT", 1)?;
+    number_line(draft, b"REPORT", 1)?;
     name_line(draft, b"design", head.design.as_slice())?;
     name_line(draft, b"die", head.die.as_slice())?;
-    number_line(alloc, draft, b"logs", head.logs)
+    number_line(draft, b"logs", head.logs)
 }
 
-fn totals(alloc: Global, draft: &mut Draft, tally: &Tally, candidates: u64) -> Result<(), NoMemory>
+fn totals(draft: &mut Draft, tally: &Tally, candidates: u64) -> Result<(), NoMemory>
     ensures { OnOk result (AddsLines (total_lines tally.now candidates) draft.old draft.new) }
 {
-    number_line(alloc, draft, b"failing", tally.failing)?;
-    number_line(alloc, draft, b"passing", tally.passing)?;
-    number_line(alloc, draft, b"conflicts", tally.conflict.len() as u64)?;
-    number_line(alloc, draft, b"masked", tally.masked.len() as u64)?;
-    number_line(alloc, draft, b"candidates", candidates)
+    number_line(draft, b"failing", tally.failing)?;
+    number_line(draft, b"passing", tally.passing)?;
+    number_line(draft, b"conflicts", tally.conflict.len() as u64)?;
+    number_line(draft, b"masked", tally.masked.len() as u64)?;
+    number_line(draft, b"candidates", candidates)
 }
 
-fn bit_lines(
-    alloc: Global,
-    draft: &mut Draft,
-    parts: &Parts,
-    word: &[u8],
-    bits: &[Bit],
-) -> Result<(), NoMemory>
+fn bit_lines(draft: &mut Draft, parts: &Parts, word: &[u8], bits: &[Bit]) -> Result<(), NoMemory>
     requires { All (λ b. b.point < length (points_of parts.now)) bits.now }
     ensures { OnOk result (AddsLines (map (text_of.bit_line parts.now word.now) bits.now) draft.old draft.new) }
 {
     for i in 0..bits.len() {
-        bit_line(alloc, draft, parts, word, &bits[i])?;
+        bit_line(draft, parts, word, &bits[i])?;
     }
     Ok(())
 }
@@ -75,6 +74,17 @@ fn candidate_lines(
     Ok(())
 }
 
+/// An empty report, with about the room that so many lines of bits and of candidates take after the nine of its head.
+fn report_draft(alloc: Global, bits: usize, candidates: usize) -> Result<Draft, NoMemory>
+    ensures text { IfOk result (λ draft. draft.text ≡ []) }
+    ensures ends { IfOk result (λ draft. draft.ends ≡ []) }
+{
+    let lines = bits.saturating_add(candidates).saturating_add(9);
+    let more = candidates.saturating_mul(CANDIDATE_BYTES - BIT_BYTES);
+    let bytes = lines.saturating_mul(BIT_BYTES).saturating_add(more);
+    draft_with_room(alloc, bytes, lines)
+}
+
 fn write_lines(
     alloc: Global,
     parts: &Parts,
@@ -87,17 +97,12 @@ fn write_lines(
     requires places { All (λ row. row.place < length (universe parts.now)) rows.now }
     ensures { IfOk result (λ r. r ≡ layout (universe parts.now) parts.now head.now.design head.now.die head.now.logs tally.now rows.now) }
 {
-    let mut draft = new_draft(alloc);
-    title(alloc, &mut draft, head)?;
-    totals(alloc, &mut draft, tally, rows.len() as u64)?;
-    bit_lines(
-        alloc,
-        &mut draft,
-        parts,
-        b"conflict",
-        tally.conflict.as_slice(),
-    )?;
-    bit_lines(alloc, &mut draft, parts, b"masked", tally.masked.as_slice())?;
+    let bits = tally.conflict.len().saturating_add(tally.masked.len());
+    let mut draft = report_draft(alloc, bits, rows.len())?;
+    title(&mut draft, head)?;
+    totals(&mut draft, tally, rows.len() as u64)?;
+    bit_lines(&mut draft, parts, b"conflict", tally.conflict.as_slice())?;
+    bit_lines(&mut draft, parts, b"masked", tally.masked.as_slice())?;
     candidate_lines(alloc, &mut draft, parts, rows)?;
     Ok(finished(draft))
 }

@@ -8,6 +8,7 @@ mod neighbours;
 mod netlists;
 mod patterns;
 mod predicted;
+mod ranking;
 mod refusal;
 mod reports;
 mod responses;

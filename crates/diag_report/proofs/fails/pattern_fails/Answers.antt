@@ -1,29 +1,28 @@
-use Rattle.std.proofs.Common.{◌≡◌, ◌+◌, ◌<◌, length, sym, ap, subst, ◌∙◌, arith}
+use Rattle.std.proofs.Common.{◌≡◌, ◌+◌, ◌<◌, ◌/◌, ◌%◌, map, take, length, get_or, sym, subst, ◌∙◌, arith}
+use Rattle.scan_model.specs.Coverage.{bit_of}
 use Rattle.scan_model.specs.ScanTest.{points_of}
 use Rattle.scan_model.specs.Response.{predicts_fail}
-use Rattle.scan_model.specs.Coverage.{bit_of}
-use Rattle.fault_universe.specs.BitRows.{row_bits}
 use Rattle.diag_report.specs.declared.draft.Draft.{Draft}
 use Rattle.diag_report.specs.LineEnds.{AddsLines}
 use Rattle.diag_report.specs.PredictedLog.{fail_lines}
-use Rattle.diag_report.proofs.FailSteps.{predicted_is, bit_listed, bit_skipped}
-use Rattle.diag_report.proofs.fails.pattern_fails.Goals.{then-are_opposite+in_ok-bit_line, else-are_opposite}
+use Rattle.diag_report.proofs.FailSteps.{bit_tells, bit_listed, bit_skipped}
+use Rattle.diag_report.proofs.fails.pattern_fails.Goals.{then-has_bit+in_ok-bit_line, else-has_bit}
 use Rattle.diag_report.proofs.fails.pattern_fails.Goals as goal
 
-pub loop-point-preserved : goal.loop-point-preserved
-loop-point-preserved c =
+pub loop-i-preserved : goal.loop-i-preserved
+loop-i-preserved c = λ f are.
     let t = c.args.parts.now in
-    let f = c.args.fault in
     let w = c.args.pattern in
-    let k = c.loop-point.point in
+    let points = c.args.points.now in
+    let i = c.loop-i.i in
     let start = c.args.draft.now in
-    let inside : k < length (points_of t) = omega (arith, c.loop-point-test.true, c.len-point-end.ensures, ap length c.points.ensures.value) in
-    let is : c.are_opposite.result ≡ predicts_fail t f (bit_of w k) =
-    c.are_opposite.ensures ∙ predicted_is t f w k c.as_slice.result.now c.as_slice-in-loop-point.result.now _ _ inside (c.as_slice.ensures ∙ c.in_ok-good.ensures) (c.as_slice-in-loop-point.ensures ∙ c.in_ok-faulty.ensures) in
-    elim c.if-are_opposite.branch [
-      | then-are_opposite+in_ok-bit_line b ↦
-          subst (λ (d : Draft). AddsLines (fail_lines t f (row_bits w (k + 1))) start d) (sym b.draft-is)
-          (bit_listed t f w k start c.loop-point.draft b.bit_line.new.draft (sym is ∙ b.if-are_opposite.true) c.loop-point.invariant b.in_ok-bit_line.ensures)
-      | else-are_opposite b ↦
-          subst (λ (d : Draft). AddsLines (fail_lines t f (row_bits w (k + 1))) start d) (sym b.draft-is) (bit_skipped t f w k start c.loop-point.draft (sym is ∙ b.if-are_opposite.false) c.loop-point.invariant)
+    let k = get_or points i 0 in
+    let is : c.has_bit.result ≡ predicts_fail t f (bit_of w k) = c.has_bit.ensures ∙ bit_tells t f w k c.args.fails.now _ (c.requires.points i 0 c.loop-i-test.true) c.requires.pattern c.requires.fails are in
+    elim c.if-has_bit.branch [
+      | then-has_bit+in_ok-bit_line b ↦
+          subst (λ (d : Draft). AddsLines (fail_lines t f (map (bit_of w) (take (i + 1) points))) start d) (sym b.draft-is)
+          (bit_listed t f w points i 0 start c.loop-i.draft b.bit_line.new.draft c.loop-i-test.true (sym is ∙ b.if-has_bit.true) (c.loop-i.invariant f are) b.in_ok-bit_line.ensures)
+      | else-has_bit b ↦
+          subst (λ (d : Draft). AddsLines (fail_lines t f (map (bit_of w) (take (i + 1) points))) start d) (sym b.draft-is)
+          (bit_skipped t f w points i 0 start c.loop-i.draft c.loop-i-test.true (sym is ∙ b.if-has_bit.false) (c.loop-i.invariant f are))
     ]

@@ -25,7 +25,7 @@ finished-requires c =
     let lines = layout (universe t) t head.design head.die head.logs tally rows in
     let has =
     five_added (title_lines head.design head.die head.logs) (total_lines tally (length rows)) conflict masked (map (candidate_line (universe t) t) (enumerate_from 1 rows))
-    c.new_draft-draft.result c.title.new.draft d2 d3 d4 c.candidate_lines.new.draft c.new_draft-draft.ensures.text c.new_draft-draft.ensures.ends
+    c.in_ok-draft.draft c.title.new.draft d2 d3 d4 c.candidate_lines.new.draft c.in_ok-draft.ensures.text c.in_ok-draft.ensures.ends
     c.in_ok-title.ensures c.in_ok-totals.ensures third fourth c.in_ok-candidate_lines.ensures in
     (lines, has)
 
@@ -45,6 +45,6 @@ returns c =
     let lines = layout (universe t) t head.design head.die head.logs tally rows in
     let has =
     five_added (title_lines head.design head.die head.logs) (total_lines tally (length rows)) conflict masked (map (candidate_line (universe t) t) (enumerate_from 1 rows))
-    c.new_draft-draft.result c.title.new.draft d2 d3 d4 c.candidate_lines.new.draft c.new_draft-draft.ensures.text c.new_draft-draft.ensures.ends
+    c.in_ok-draft.draft c.title.new.draft d2 d3 d4 c.candidate_lines.new.draft c.in_ok-draft.ensures.text c.in_ok-draft.ensures.ends
     c.in_ok-title.ensures c.in_ok-totals.ensures third fourth c.in_ok-candidate_lines.ensures in
     c.finished.ensures lines has
