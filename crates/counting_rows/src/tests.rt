@@ -2,6 +2,7 @@ mod chains;
 mod counts;
 mod designs;
 mod fails;
+mod joined;
 mod logs;
 mod plain;
 mod steps;
