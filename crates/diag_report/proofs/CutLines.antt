@@ -1,6 +1,6 @@
 -- The lines of a report are its text cut behind each line feed, where no name has one.
-use Rattle.std.proofs.Common.{◌≡◌, ℕ, zero, suc, ◌+◌, ◌/◌, ◌%◌, ◌<◌, ◌≤◌, Bool, true, false, cond, eqb, ltb, List, [], ◌∷◌, ◌++◌, length, map, get_or, refl, ap, ◌∙◌, subst, sym, append_assoc, inl, inr, arith}
-use Rattle.std.specs.Prelude.{All, IsTrue, codes, decimal}
+use Rattle.std.proofs.Common.{◌≡◌, ℕ, zero, suc, ◌+◌, ◌/◌, ◌%◌, Bool, true, false, cond, eqb, ltb, List, [], ◌∷◌, ◌++◌, length, map, get_or, refl, ap, ◌∙◌, subst, sym, inl, inr, arith}
+use Rattle.std.specs.Prelude.{codes, decimal}
 use Rattle.std.specs.Fmt.{digit_glyph, digits_onto, digits}
 use Rattle.std.specs.List.{AllByRecursion, enumerate_from}
 use Rattle.std.proofs.lemmas.Bool.{cases_lt, ne_eqb}
@@ -25,11 +25,11 @@ use Rattle.scan_model.specs.declared.logs.Scored.{Scored}
 use Rattle.scan_model.specs.Netlist.{no_net, pin_at}
 use Rattle.scan_model.specs.ScanTest.{ScanTest, name_of, no_chain, chain_at, point_at}
 use Rattle.scan_model.specs.Lines.{pieces}
-use Rattle.scan_model.specs.Words.{is_filled, is_name_byte, is_tag}
+use Rattle.scan_model.specs.Words.{is_filled, is_tag}
 use Rattle.scan_model.specs.Classes.{is_conflict, is_masked, is_failing, is_passing}
 use Rattle.scan_model.specs.ReportText.{spaced, line, joined, stuck_word, cell_word, bridge_word, branch_words, fault_words, point_words, bit_line, no_fault, candidate_line, bits_in, layout_by_class}
 use Rattle.diag_report.specs.PredictedLog.{is_word_name, HasWordNames}
-use Rattle.diag_report.specs.Layout.{score_words, title_lines, total_lines}
+use Rattle.diag_report.specs.Layout.{score_words}
 use Rattle.diag_report.proofs.Bools.{right_true}
 use Rattle.diag_report.proofs.PlainWords.{not_byte, none_in_name, append_all, tag_is_name}
 

@@ -1,4 +1,4 @@
-use Rattle.std.proofs.Common.{◌≡◌, ℕ, ◌+◌, ◌-◌, ◌*◌, ◌<◌, length, ap, subst, arith, rules}
+use Rattle.std.proofs.Common.{◌≡◌, ℕ, ◌+◌, ◌-◌, ◌*◌, ◌<◌, length, ap, subst, arith}
 use Rattle.std.specs.Prelude.{min}
 use Rattle.fault_universe.specs.BitRows.{bits_upto}
 use Rattle.diag_report.specs.LineEnds.{AddsLines}

@@ -1,6 +1,5 @@
-use Rattle.std.proofs.Common.{◌≡◌, ◌+◌, ◌<◌, ◌/◌, ◌%◌, map, take, length, get_or, sym, subst, ◌∙◌, arith}
+use Rattle.std.proofs.Common.{◌≡◌, ◌+◌, map, take, get_or, sym, subst, ◌∙◌}
 use Rattle.scan_model.specs.Coverage.{bit_of}
-use Rattle.scan_model.specs.ScanTest.{points_of}
 use Rattle.scan_model.specs.Response.{predicts_fail}
 use Rattle.diag_report.specs.declared.draft.Draft.{Draft}
 use Rattle.diag_report.specs.LineEnds.{AddsLines}
