@@ -1,5 +1,5 @@
 -- What a reader's answer says of the first fault of a text.
-use Rattle.std.proofs.Common.{◌≡◌, ℕ, Option, Some, None, Result, Ok, Err, is_none, refl}
+use Rattle.std.proofs.Common.{◌≡◌, ℕ, Option, Some, None, Result, Ok, Err, refl}
 use Rattle.std.specs.Prelude.{IfOk}
 use Rattle.scan_model.specs.TextFaults.{refused_or}
 use Rattle.text_parts.specs.declared.fault.ReadFault.{ReadFault}

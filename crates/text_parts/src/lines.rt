@@ -1,10 +1,12 @@
-ghost use Rattle.std.specs.Prelude.{◌≡◌, map, IfOk, ◌==◌, not};
-ghost use Rattle.std.specs.List.{slice_split, before_first};
+ghost use Rattle.std.specs.Prelude.{◌≡◌, map, IfOk, ◌==◌, not, MatchOption};
+ghost use Rattle.std.specs.List.{position_or_len, before_first};
 ghost use Rattle.std.specs.Str.Lines.{strip_carriage_return};
 ghost use Rattle.scan_model.specs.Lines.{text_lines, has_refused_byte, is_accepted, without_comment};
 ghost use Rattle.text_parts.specs.Ended.{is_ended};
+ghost use Rattle.text_parts.specs.FirstLine.{HasNoEnd, BeginsWith};
 ghost use Rattle.text_parts.specs.Views.{nows};
 
+use memchr::memchr;
 use std::alloc::{AllocError, Global};
 
 fn is_accepted(b: u8) -> bool
@@ -17,23 +19,26 @@ fn is_accepted(b: u8) -> bool
 pub fn has_refused_byte(line: &[u8]) -> bool
     ensures { result ≡ has_refused_byte line.now }
 {
-    line.iter().any(|b| !is_accepted(*b))
+    let mut found = false;
+    for b in line {
+        // No branch, so that many bytes are judged at once.
+        found |= !is_accepted(*b);
+    }
+    found
 }
 
-fn parts_of(alloc: Global, bytes: &[u8]) -> Result<Vec<&[u8]>, AllocError>
-    ensures { IfOk result (λ v. nows v.items ≡ slice_split (λ b. b == 10) bytes.now) }
+// The place of the first of such bytes, or else the number of bytes.
+fn place_of(byte: u8, bytes: &[u8]) -> usize
+    ensures { result ≡ position_or_len (λ b. b == byte) bytes.now }
 {
-    bytes.split(|b| *b == b'\n').collect(alloc)
+    memchr(byte, bytes).unwrap_or(bytes.len())
 }
 
 /// The line without its comment.
 pub fn without_comment(line: &[u8]) -> &[u8]
     ensures { result.now ≡ without_comment line.now }
 {
-    match line.iter().position(|b| *b == b'#') {
-        Some(i) => &line[..i],
-        None => line,
-    }
+    &line[..place_of(b'#', line)]
 }
 
 /// Whether a text is empty or ends with LF.
@@ -46,20 +51,29 @@ pub fn is_ended(text: &[u8]) -> bool
     }
 }
 
+// The first line of a text that has an LF, and what follows it.
+fn first_line(bytes: &[u8]) -> Option<(&[u8], &[u8])>
+    ensures { MatchOption result (HasNoEnd bytes.now) (λ parts. BeginsWith bytes.now parts.0.now parts.1.now) }
+{
+    let end = place_of(b'\n', bytes);
+    if end == bytes.len() {
+        return None;
+    }
+    Some((without_return(&bytes[..end]), &bytes[end + 1..]))
+}
+
 /// The lines of a text.
 pub fn lines_of(alloc: Global, bytes: &[u8]) -> Result<Vec<&[u8]>, AllocError>
     ensures { IfOk result (λ v. nows v.items ≡ text_lines bytes.now) }
 {
-    let parts = parts_of(alloc, bytes)?;
     let mut lines = Vec::new(alloc);
-    let mut rest = parts.as_slice();
-    while let [part, after @ ..] = rest {
-        if !after.is_empty() {
-            lines.push(without_return(part))?;
-        } else if !part.is_empty() {
-            lines.push(*part)?;
-        }
+    let mut rest = bytes;
+    while let Some((line, after)) = first_line(rest) {
+        lines.push(line)?;
         rest = after;
+    }
+    if !rest.is_empty() {
+        lines.push(rest)?;
     }
     Ok(lines)
 }

@@ -2,18 +2,19 @@ ghost use Rattle.std.specs.Prelude.{◌≡◌, ◌≤◌, ℕ, [], ◌∷◌, �
 ghost use Rattle.std.specs.List.{list_any, position_or_len};
 ghost use Rattle.std.specs.Str.{bytes_eq};
 ghost use Rattle.scan_model.specs.ScanText.{net_names, stands_again};
-ghost use Rattle.text_parts.specs.Views.{nows, before_repeat};
+ghost use Rattle.text_parts.specs.Views.{nows, before_repeat, with_name};
 
+use crate::key::Key;
 use scan_model::Net;
 use std::alloc::{AllocError, Global};
-use std::collections::BTreeMap;
+use std::collections::HashMap;
 use std::marker::Model;
 
 /// Names in the order in which they were added, with a quick look-up.
 #[derive(Drop)]
 pub struct Names<'a> {
     list: Vec<&'a [u8]>,
-    places: BTreeMap<&'a [u8], usize>,
+    places: HashMap<Key<'a>, usize>,
 }
 
 impl<'a> Model for Names<'a> {
@@ -34,7 +35,7 @@ impl<'a> Names<'a> {
     {
         Names {
             list: Vec::new(alloc),
-            places: BTreeMap::new(alloc),
+            places: HashMap::new(alloc),
         }
     }
 
@@ -66,7 +67,7 @@ impl<'a> Names<'a> {
     pub fn place(&self, word: &[u8]) -> Option<usize>
         ensures { result ≡ position (bytes_eq word.now) self.now }
     {
-        self.places.get(word).copied()
+        self.places.get(&Key { bytes: word }).copied()
     }
 
     /// Whether a name equals the word.
@@ -107,10 +108,24 @@ impl<'a> Names<'a> {
         ensures err { OnErr result (self.new ≡ self.old) }
     {
         self.list.reserve(1)?;
-        if self.places.get(name).is_none() {
-            self.places.insert(name, self.list.len())?;
-        }
+        let next = self.list.len();
+        self.places.entry(Key { bytes: name })?.or_insert(next);
         self.list.push_reserved(name);
         Ok(())
+    }
+
+    /// The place of the first name that equals the word, which is added at the end where there is none.
+    pub fn place_or_add(&mut self, name: &'a [u8]) -> Result<usize, AllocError>
+        ensures place { IfOk result (λ i. i ≡ position_or_len (bytes_eq name.now) self.old) }
+        ensures ok { OnOk result (self.new ≡ with_name self.old name.now) }
+        ensures err { OnErr result (self.new ≡ self.old) }
+    {
+        self.list.reserve(1)?;
+        let next = self.list.len();
+        let place = *self.places.entry(Key { bytes: name })?.or_insert(next);
+        if place == next {
+            self.list.push_reserved(name);
+        }
+        Ok(place)
     }
 }

@@ -1,8 +1,8 @@
-use Rattle.std.proofs.Common.{◌≡◌, ◌-◌, length, arith, ap, ◌∙◌, sym, Ok, refl, map}
+use Rattle.std.proofs.Common.{◌≡◌, ◌≤◌, ◌-◌, length, arith, ap, ◌∙◌, sym, Ok, refl, map, []}
 use Rattle.text_parts.specs.Views.{nows}
 use Rattle.scan_model.specs.Lines.{text_lines}
 use Rattle.scan_model.specs.ScanText.{chains_before, numbered}
-use Rattle.scan_text.proofs.ScanLoop.{line_is_faulty, no_fault_more, after_more, sound_more}
+use Rattle.scan_text.proofs.ScanLoop.{line_is_faulty, no_fault_more, after_more, sound_more, text_is_whole}
 use Rattle.scan_text.proofs.SoundChains.{AreSound, none_sound, numbered_fit}
 use Rattle.scan_text.proofs.scan.read_chains.Goals as goal
 
@@ -26,6 +26,12 @@ loop-i-preserved c =
       after = after_more c.args.nets.now c.args.bytes.now c.deref-line-items.result.now c.loop-i.i _ c.loop-i.chains same c.loop-i.invariant.no_fault_yet c.loop-i.invariant.after c.take_line.new.self c.loop-i-test.true taken;
       sound = sound_more c.args.nets.now c.args.bytes.now c.deref-line-items.result.now c.loop-i.i _ c.loop-i.chains same c.loop-i.invariant.no_fault_yet c.loop-i.invariant.after c.loop-i-test.true none c.loop-i.invariant.sound;
     }
+
+pub returns-clause-reading : goal.returns-clause-reading
+returns-clause-reading c =
+    let same : nows c.deref-line-items.result.now ≡ text_lines c.args.bytes.now = ap nows c.deref-line-items.ensures.value ∙ c.in_ok-lines.ensures in
+    let past : length c.deref-line-items.result.now ≤ c.loop-i.i = omega (arith, c.loop-i-test.false) in
+    text_is_whole c.args.nets.now c.args.bytes.now c.deref-line-items.result.now c.loop-i.i (record { ref_ptr = (0, 0); now = [] }) c.loop-i.chains same c.loop-i.invariant.no_fault_yet c.loop-i.invariant.after past
 
 pub returns-clause-fits : goal.returns-clause-fits
 returns-clause-fits c = λ k same.
