@@ -1,4 +1,4 @@
-ghost use Rattle.std.specs.Prelude.{◌≡◌, ℕ, ◌+◌, ◌^◌, ◌<◌, ◌≤◌, All, length, slice_index, IfOk, OnOk};
+ghost use Rattle.std.specs.Prelude.{◌≡◌, ℕ, ◌+◌, ◌^◌, ◌<◌, ◌≤◌, [], All, Contains, length, slice_index, slice_index_or, IfOk, OnOk};
 ghost use Rattle.scan_model.specs.ScanTest.{HasSite};
 ghost use Rattle.scan_model.specs.Universe.{universe};
 ghost use Rattle.fault_universe.specs.LineWords.{IsPlaceOf};
@@ -92,4 +92,23 @@ pub(crate) fn owners_of(
     }
     let groups = Groups::of(alloc, &keys, parts.circuit().nets().len() + 3)?;
     Ok(groups)
+}
+
+/// The nets that own a suspect.
+pub(crate) fn owned_nets(
+    alloc: Global,
+    parts: &Parts,
+    owners: &Groups,
+) -> Result<Vec<u32>, NoMemory>
+    requires { length owners.now ≡ length parts.now.netlist.nets + 3 }
+    ensures within { IfOk result (λ nets. All (λ n. n < length parts.now.netlist.nets) nets.items) }
+    ensures all { IfOk result (λ nets. (n : ℕ) → n < length parts.now.netlist.nets → 0 < length (slice_index_or owners.now n []) → Contains nets.items n) }
+{
+    let mut nets = Vec::new(alloc);
+    for net in 0..parts.circuit().nets().len() as u32 {
+        if !owners.group(net).is_empty() {
+            nets.push(net)?;
+        }
+    }
+    Ok(nets)
 }
