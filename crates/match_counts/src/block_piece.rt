@@ -1,5 +1,6 @@
 ghost use Rattle.std.specs.Prelude.{◌≡◌, ℕ, ◌+◌, ◌<◌, [], All, Contains, length, IfOk};
-ghost use Rattle.match_counts.specs.Owners.{Shares, suspect_at};
+ghost use Rattle.packed_sim.specs.Belongs.{BelongsTo};
+ghost use Rattle.match_counts.specs.Owners.{IsSuspectOf, AreOwners, Shares, suspect_at};
 ghost use Rattle.match_counts.specs.Owners as owning;
 
 use crate::block_work::BlockWork;
@@ -17,6 +18,9 @@ fn logic_shares<R: Threads + Sync>(
     work: &BlockWork<'_>,
     nets: &[u32],
 ) -> Result<Rows<Share>, NoMemory>
+    requires good { BelongsTo work.now.parts.now work.now.good.now }
+    requires suspects { All (IsSuspectOf work.now.parts.now) work.now.suspects.now }
+    requires owners { AreOwners work.now.parts.now work.now.suspects.now work.now.owners.now }
     requires nets { All (λ n. n < length work.now.parts.now.netlist.nets) nets.now }
     requires all { (i : ℕ) → i < length work.now.suspects.now → owning.owner work.now.parts.now (suspect_at work.now.suspects.now i).fault < length work.now.parts.now.netlist.nets → Contains nets.now (owning.owner work.now.parts.now (suspect_at work.now.suspects.now i).fault) }
     ensures { IfOk result (Shares work.now.parts.now work.now.rows.now work.now.block work.now.suspects.now (λ i. owning.owner work.now.parts.now (suspect_at work.now.suspects.now i).fault < length work.now.parts.now.netlist.nets + 2) []) }
@@ -38,6 +42,9 @@ pub(crate) fn block_shares<R: Threads + Sync>(
     work: &BlockWork<'_>,
     nets: &[u32],
 ) -> Result<Rows<Share>, NoMemory>
+    requires good { BelongsTo work.now.parts.now work.now.good.now }
+    requires suspects { All (IsSuspectOf work.now.parts.now) work.now.suspects.now }
+    requires owners { AreOwners work.now.parts.now work.now.suspects.now work.now.owners.now }
     requires nets { All (λ n. n < length work.now.parts.now.netlist.nets) nets.now }
     requires all { (i : ℕ) → i < length work.now.suspects.now → owning.owner work.now.parts.now (suspect_at work.now.suspects.now i).fault < length work.now.parts.now.netlist.nets → Contains nets.now (owning.owner work.now.parts.now (suspect_at work.now.suspects.now i).fault) }
     ensures { IfOk result (Shares work.now.parts.now work.now.rows.now work.now.block work.now.suspects.now (λ i. owning.owner work.now.parts.now (suspect_at work.now.suspects.now i).fault < length work.now.parts.now.netlist.nets + 3) []) }

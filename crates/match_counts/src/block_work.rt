@@ -1,7 +1,5 @@
-ghost use Rattle.std.specs.Prelude.{◌≡◌, ◌+◌, ◌<◌, All, length};
+ghost use Rattle.std.specs.Prelude.{◌≡◌, ◌+◌, ◌<◌, length};
 ghost use Rattle.scan_model.specs.ScanTest.{points_of};
-ghost use Rattle.packed_sim.specs.Belongs.{BelongsTo};
-ghost use Rattle.match_counts.specs.Owners.{IsSuspectOf, AreOwners};
 
 use crate::point_row::PointRow;
 use crate::suspect::Suspect;
@@ -17,10 +15,7 @@ pub(crate) struct BlockWork<'a> {
     pub rows: &'a [PointRow],
     pub suspects: &'a [Suspect],
     pub owners: &'a Groups,
-    ghost good_belongs: { BelongsTo parts.now good.now },
     ghost block_within: { block < length good.now.rows },
     ghost rows_len: { length rows.now ≡ length (points_of parts.now) },
-    ghost each_suspect: { All (IsSuspectOf parts.now) suspects.now },
     ghost owners_len: { length owners.now ≡ length parts.now.netlist.nets + 3 },
-    ghost owners_are: { AreOwners parts.now suspects.now owners.now },
 }

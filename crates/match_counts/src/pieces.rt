@@ -1,8 +1,8 @@
 ghost use Rattle.std.specs.Prelude.{◌≡◌, ℕ, ◌+◌, ◌<◌, ◌≤◌, ◌++◌, List, [], All, length, IfOk, OnOk};
 ghost use Rattle.std.specs.List.{flat_map};
-ghost use Rattle.packed_sim.specs.Belongs.{IsScratchOf};
+ghost use Rattle.packed_sim.specs.Belongs.{BelongsTo, IsScratchOf};
 ghost use Rattle.match_counts.specs.declared.share.Share.{Share};
-ghost use Rattle.match_counts.specs.Owners.{Shares};
+ghost use Rattle.match_counts.specs.Owners.{IsSuspectOf, AreOwners, Shares};
 ghost use Rattle.match_counts.specs.Pieces.{IsItem, IsServed};
 
 use crate::block_work::BlockWork;
@@ -31,6 +31,9 @@ fn share_items<L: Ledger>(
     shares: &mut Rows<Share>,
     steps: &mut Steps<L>,
 ) -> Result<(), NoMemory>
+    requires good { BelongsTo work.now.parts.now work.now.good.now }
+    requires suspects { All (IsSuspectOf work.now.parts.now) work.now.suspects.now }
+    requires owners { AreOwners work.now.parts.now work.now.suspects.now work.now.owners.now }
     requires items { All (IsItem work.now.parts.now work.now.suspects.now kind) items.now }
     requires scratch { IsScratchOf work.now.good.now scratch.old }
     ensures { OnOk result (Shares work.now.parts.now work.now.rows.now work.now.block work.now.suspects.now (IsServed work.now.parts.now work.now.suspects.now kind items.now) shares.old shares.new) }
@@ -72,6 +75,9 @@ fn piece_in<L: Ledger>(
     items: &[u32],
     blank: Blank,
 ) -> Result<Rows<Share>, NoMemory>
+    requires good { BelongsTo work.now.parts.now work.now.good.now }
+    requires suspects { All (IsSuspectOf work.now.parts.now) work.now.suspects.now }
+    requires owners { AreOwners work.now.parts.now work.now.suspects.now work.now.owners.now }
     requires items { All (IsItem work.now.parts.now work.now.suspects.now kind) items.now }
     requires name { blank.name ≡ L.name }
     requires parts { blank.parts ≡ L.parts }
@@ -100,6 +106,9 @@ fn piece(
     kind: WorkKind,
     items: &[u32],
 ) -> Result<Rows<Share>, NoMemory>
+    requires good { BelongsTo work.now.parts.now work.now.good.now }
+    requires suspects { All (IsSuspectOf work.now.parts.now) work.now.suspects.now }
+    requires owners { AreOwners work.now.parts.now work.now.suspects.now work.now.owners.now }
     requires items { All (IsItem work.now.parts.now work.now.suspects.now kind) items.now }
     ensures { IfOk result (Shares work.now.parts.now work.now.rows.now work.now.block work.now.suspects.now (IsServed work.now.parts.now work.now.suspects.now kind items.now) []) }
 {
@@ -135,6 +144,9 @@ fn pieces<R: Threads + Sync>(
     items: &[u32],
     size: usize,
 ) -> Result<Vec<Rows<Share>>, NoMemory>
+    requires good { BelongsTo work.now.parts.now work.now.good.now }
+    requires suspects { All (IsSuspectOf work.now.parts.now) work.now.suspects.now }
+    requires owners { AreOwners work.now.parts.now work.now.suspects.now work.now.owners.now }
     requires items { All (IsItem work.now.parts.now work.now.suspects.now kind) items.now }
     requires size { 0 < size }
     ensures { IfOk result (λ all. Shares work.now.parts.now work.now.rows.now work.now.block work.now.suspects.now (IsServed work.now.parts.now work.now.suspects.now kind items.now) [] (flat_map (λ shares. shares) all.items)) }
@@ -144,7 +156,7 @@ fn pieces<R: Threads + Sync>(
         .with_min_len(1)
         .map(
             |part: &[u32]| -> Result<Rows<Share>, NoMemory>
-                requires { All (IsItem work.now.parts.now work.now.suspects.now kind) part.now }
+                requires { BelongsTo work.now.parts.now work.now.good.now × All (IsSuspectOf work.now.parts.now) work.now.suspects.now × AreOwners work.now.parts.now work.now.suspects.now work.now.owners.now × All (IsItem work.now.parts.now work.now.suspects.now kind) part.now }
                 ensures { IfOk result (Shares work.entry.now.parts.now work.entry.now.rows.now work.entry.now.block work.entry.now.suspects.now (IsServed work.entry.now.parts.now work.entry.now.suspects.now kind part.entry.now) []) }
             { piece(alloc, work, kind, part) },
         )
@@ -183,6 +195,9 @@ pub(crate) fn share_in_pieces<R: Threads + Sync>(
     items: &[u32],
     shares: &mut Rows<Share>,
 ) -> Result<(), NoMemory>
+    requires good { BelongsTo work.now.parts.now work.now.good.now }
+    requires suspects { All (IsSuspectOf work.now.parts.now) work.now.suspects.now }
+    requires owners { AreOwners work.now.parts.now work.now.suspects.now work.now.owners.now }
     requires items { All (IsItem work.now.parts.now work.now.suspects.now kind) items.now }
     ensures { OnOk result (Shares work.now.parts.now work.now.rows.now work.now.block work.now.suspects.now (IsServed work.now.parts.now work.now.suspects.now kind items.now) shares.old shares.new) }
 {

@@ -14,7 +14,7 @@ use Rattle.match_counts.proofs.BlockTotals.{sums_next, sum_by_block, failing_is,
 use Rattle.match_counts.proofs.counting.count_blocks.Goals as goal
 
 pub block_shares-requires-clause-all : goal.block_shares-requires-clause-all
-block_shares-requires-clause-all g c = λ i lt below.
+block_shares-requires-clause-all g c κs within = λ i lt below.
     let owner_at = owner c.args.parts.now (suspect_at c.args.suspects.now i).fault in
     let there = c.requires.owners.all i lt in
     let In : List ℕ → Type 0 = λ nets. Contains nets owner_at in

@@ -1,4 +1,4 @@
 use Rattle.match_counts.proofs.pieces.piece.Given as goal
 
 abbrev pub ghosts-piece_in : goal.ghosts-piece_in
-ghosts-piece_in g a = record { name = a.blank.name; parts = a.blank.parts }
+ghosts-piece_in a = record { name = a.blank.name; parts = a.blank.parts }
