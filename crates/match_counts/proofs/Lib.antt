@@ -9,6 +9,7 @@ mod FlipSums
 mod OneFault
 mod Owned
 mod ShareLists
+mod PieceShares
 mod OwnerGroups
 mod NetShares
 mod PinShares

@@ -7,8 +7,7 @@ use Rattle.scan_model.proofs.Orders.{filter_range_all}
 use Rattle.packed_sim.specs.Grouped.{members}
 use Rattle.match_counts.proofs.FlipSums.{filtered}
 use Rattle.match_counts.specs.declared.suspect.Suspect.{Suspect}
-use Rattle.match_counts.specs.Owners.{owner, suspect_at, IsOwned, AreOwners, IsAmong}
-use Rattle.match_counts.proofs.ShareLists.{among_from}
+use Rattle.match_counts.specs.Owners.{owner, suspect_at, IsOwned, AreOwners}
 
 pub grouped : (t : ScanTest) (suspects : List Suspect) (keys : List ℕ) (groups : List (List ℕ)) (count : ℕ) → length keys ≡ length suspects → length groups ≡ count → ((i : ℕ) → i < length suspects → slice_index keys i ≡ owner t (suspect_at suspects i).fault)
     → ((i : ℕ) → i < length suspects → owner t (suspect_at suspects i).fault < count)
@@ -26,7 +25,7 @@ grouped t suspects keys groups count len size key below is = record {
         record { within = within; owned = sym (key i within) ∙ eqb-true (slice_index keys i) n passes.1 }
 
 -- a suspect is in the group of its owner
-pub owned_among : (t : ScanTest) (suspects : List Suspect) (groups : List (List ℕ)) (n : ℕ) (group : List ℕ) → AreOwners t suspects groups → group ≡ get_or groups n [] → (i : ℕ) → i < length suspects → owner t (suspect_at suspects i).fault ≡ n → IsAmong group (length group) i
-owned_among t suspects groups n group owners is i lt same =
+pub owned_in : (t : ScanTest) (suspects : List Suspect) (groups : List (List ℕ)) (n : ℕ) (group : List ℕ) → AreOwners t suspects groups → group ≡ get_or groups n [] → (i : ℕ) → i < length suspects → owner t (suspect_at suspects i).fault ≡ n → Contains group i
+owned_in t suspects groups n group owners is i lt same =
     let In : List ℕ → Type 0 = λ xs. Contains xs i in
-    among_from group i (subst In (ap (λ (x : ℕ). get_or groups x []) same ∙ sym is) (owners.all i lt))
+    subst In (ap (λ (x : ℕ). get_or groups x []) same ∙ sym is) (owners.all i lt)

@@ -8,3 +8,4 @@ pub mod Cells
 pub mod Walks
 pub mod Owners
 pub mod Totals
+pub mod Pieces

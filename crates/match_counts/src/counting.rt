@@ -13,19 +13,22 @@ ghost use Rattle.match_counts.specs.Owners as owning;
 ghost use Rattle.match_counts.specs.Totals.{total_at, no_total, AreKnown};
 
 use crate::block_piece::block_shares;
+use crate::block_work::BlockWork;
 use crate::lane_tally::failing_count;
+use crate::owners::owned_nets;
 use crate::point_rows::point_rows;
 use crate::share::Total;
 use crate::suspect::Suspect;
 use crate::totals::add_shares;
 use log_join::Joined;
-use packed_sim::{Groups, PackedGood, Scratch};
-use scan_model::{Expected, NoMemory, Parts, Steps};
+use packed_sim::{Groups, PackedGood};
+use scan_model::{Expected, NoMemory, Parts};
 use std::alloc::Global;
-use std::sync::ledger::Ledger;
+use std::thread::Threads;
 
 /// Adds up, block by block, what the suspects explain and mispredict. The answer is the number of Failing bits.
-pub(crate) fn count_blocks<L: Ledger>(
+pub(crate) fn count_blocks<R: Threads + Sync>(
+    rt: &R,
     alloc: Global,
     parts: &Parts,
     good: &PackedGood,
@@ -34,7 +37,6 @@ pub(crate) fn count_blocks<L: Ledger>(
     suspects: &[Suspect],
     owners: &Groups,
     totals: &mut [Total],
-    steps: &mut Steps<L>,
 ) -> Result<u64, NoMemory>
     requires good { BelongsTo parts.now good.now }
     requires expected { expected.now ≡ expected_rows parts.now }
@@ -48,21 +50,19 @@ pub(crate) fn count_blocks<L: Ledger>(
     ensures known { (logs : List LogFacts) → StandsFor logs joined.now → OnOk result (AreKnown parts.now logs suspects.now (λ i. owning.owner parts.now (suspect_at suspects.now i).fault < length parts.now.netlist.nets + 3) totals.new) }
 {
     let _ = parts.points();
-    let mut scratch = Scratch::make(alloc, good)?;
+    let nets = owned_nets(alloc, parts, owners)?;
     let mut failing = 0u64;
     for block in 0..good.blocks().len() {
         let rows = point_rows(alloc, parts, joined, expected, block as u32)?;
-        let shares = block_shares(
-            alloc,
+        let work = BlockWork {
             parts,
             good,
-            &mut scratch,
             block,
-            rows.as_slice(),
+            rows: rows.as_slice(),
             suspects,
             owners,
-            steps,
-        )?;
+        };
+        let shares = block_shares(rt, alloc, &work, &nets)?;
         add_shares(alloc, totals, shares.as_slice())?;
         failing += u64::from(failing_count(rows.as_slice()));
     }

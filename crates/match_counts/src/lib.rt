@@ -2,6 +2,7 @@
 #![tactic(auto)]
 
 mod block_piece;
+mod block_work;
 mod bridge_piece;
 mod cell_piece;
 mod counting;
@@ -12,6 +13,7 @@ mod loaded;
 mod net_piece;
 mod notes;
 mod owners;
+mod pieces;
 mod pin_piece;
 mod plain;
 mod point_row;
@@ -24,6 +26,7 @@ mod suspect_counts;
 mod tally;
 mod totals;
 mod walk;
+mod work_kind;
 
 pub use plain::plain_counts;
 pub use suspect_counts::counts;

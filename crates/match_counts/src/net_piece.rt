@@ -131,7 +131,7 @@ fn share_net<L: Ledger>(
     )
 }
 
-/// Adds the shares of all suspects that nets own, and flips these nets alone.
+/// Adds the shares of all suspects that some nets own, and flips these nets alone.
 pub(crate) fn share_nets<L: Ledger>(
     alloc: Global,
     parts: &Parts,
@@ -141,6 +141,7 @@ pub(crate) fn share_nets<L: Ledger>(
     rows: &[PointRow],
     suspects: &[Suspect],
     owners: &Groups,
+    nets: &[u32],
     shares: &mut Rows<Share>,
     steps: &mut Steps<L>,
 ) -> Result<(), NoMemory>
@@ -151,14 +152,15 @@ pub(crate) fn share_nets<L: Ledger>(
     requires suspects { All (IsSuspectOf parts.now) suspects.now }
     requires count { length owners.now ≡ length parts.now.netlist.nets + 3 }
     requires owners { AreOwners parts.now suspects.now owners.now }
+    requires nets { All (λ n. n < length parts.now.netlist.nets) nets.now }
     ensures scratch { IsScratchOf good.now scratch.new }
-    ensures shares { OnOk result (Shares parts.now rows.now block suspects.now (λ i. owning.owner parts.now (suspect_at suspects.now i).fault < length parts.now.netlist.nets) shares.old shares.new) }
+    ensures shares { OnOk result (Shares parts.now rows.now block suspects.now (λ i. IsAmong nets.now (length nets.now) (owning.owner parts.now (suspect_at suspects.now i).fault)) shares.old shares.new) }
 {
     let mut shown = Shown::new(alloc);
-    for net in 0..parts.circuit().nets().len() as u32 {
-        let group = owners.group(net);
+    for net in nets {
+        let group = owners.group(*net);
         share_net(
-            parts, good, scratch, block, rows, &mut shown, net, suspects, group, shares, steps,
+            parts, good, scratch, block, rows, &mut shown, *net, suspects, group, shares, steps,
         )?;
     }
     Ok(())

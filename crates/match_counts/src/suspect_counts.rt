@@ -19,10 +19,8 @@ use back_trace::suspects_over;
 use fault_universe::universe_len;
 use log_join::Joined;
 use packed_sim::{Groups, PackedGood};
-use scan_model::{Expected, NoMemory, Parts, Rows, Scored, Steps};
+use scan_model::{Expected, NoMemory, Parts, Rows, Scored};
 use std::alloc::Global;
-use std::marker::Brand;
-use std::sync::ledger::{Blank, Ledger};
 use std::thread::Threads;
 
 /// The places, as long as they aren't more than there are faults.
@@ -38,7 +36,8 @@ fn few_places<'a>(parts: &Parts, places: &'a [u32]) -> &'a [u32]
 }
 
 /// Counts the suspects over blank totals, and lists those that explain a Failing bit.
-fn counts_over<L: Ledger>(
+fn counts_over<R: Threads + Sync>(
+    rt: &R,
     alloc: Global,
     parts: &Parts,
     good: &PackedGood,
@@ -47,7 +46,6 @@ fn counts_over<L: Ledger>(
     suspects: &[Suspect],
     owners: &Groups,
     totals: &mut [Total],
-    steps: &mut Steps<L>,
 ) -> Result<Rows<Scored>, NoMemory>
     requires good { BelongsTo parts.now good.now }
     requires expected { expected.now ≡ expected_rows parts.now }
@@ -62,29 +60,26 @@ fn counts_over<L: Ledger>(
 {
     let _ = parts.circuit();
     let failing = count_blocks(
-        alloc, parts, good, expected, joined, suspects, owners, totals, steps,
+        rt, alloc, parts, good, expected, joined, suspects, owners, totals,
     )?;
     list_candidates(alloc, parts, totals, failing)
 }
 
-/// `counts` with a ledger for the steps of simulation.
-fn counts_in<L: Ledger>(
+/// The faults that explain at least one failing bit, with their counts, in the order of their places. Suspects alone are
+/// counted, 512 patterns at a time, in as many threads as there are processors: one flip of a net serves all faults there.
+pub fn counts<R: Threads + Sync>(
+    rt: &R,
     alloc: Global,
     parts: &Parts,
     good: &PackedGood,
     expected: &Expected,
     joined: &Joined,
-    blank: Blank,
 ) -> Result<Rows<Scored>, NoMemory>
     requires good { BelongsTo parts.now good.now }
     requires expected { expected.now ≡ expected_rows parts.now }
     requires joined { IsJoinedOf (length parts.now.patterns) (length (points_of parts.now)) joined.now }
-    requires name { blank.name ≡ L.name }
-    requires parts { blank.parts ≡ L.parts }
-    requires some { 0 < blank.parts }
     ensures { (logs : List LogFacts) → StandsFor logs joined.now → IfOk result (λ rows. rows ≡ candidates parts.now logs) }
 {
-    let mut steps = Steps::<L>::open(blank);
     let faults = universe_len(parts);
     let traced = suspects_over(alloc, parts, good.rows(), expected, joined)?;
     let places = few_places(parts, traced.as_slice());
@@ -92,6 +87,7 @@ fn counts_in<L: Ledger>(
     let owners = owners_of(alloc, parts, suspects.as_slice())?;
     let mut totals = blank_totals(alloc, faults)?;
     counts_over(
+        rt,
         alloc,
         parts,
         good,
@@ -100,24 +96,5 @@ fn counts_in<L: Ledger>(
         suspects.as_slice(),
         &owners,
         &mut totals,
-        &mut steps,
     )
-}
-
-/// The faults that explain at least one failing bit, with their counts, in the order of their places. Suspects alone are
-/// counted, 512 patterns at a time: one flip of a net serves all faults there.
-pub fn counts<R: Threads + Sync>(
-    _rt: &R,
-    alloc: Global,
-    parts: &Parts,
-    good: &PackedGood,
-    expected: &Expected,
-    joined: &Joined,
-) -> Result<Rows<Scored>, NoMemory>
-    requires good { BelongsTo parts.now good.now }
-    requires expected { expected.now ≡ expected_rows parts.now }
-    requires joined { IsJoinedOf (length parts.now.patterns) (length (points_of parts.now)) joined.now }
-    ensures { (logs : List LogFacts) → StandsFor logs joined.now → IfOk result (λ rows. rows ≡ candidates parts.now logs) }
-{
-    counts_in::<Brand>(alloc, parts, good, expected, joined, Blank::new(1))
 }

@@ -1,4 +1,5 @@
 use Rattle.std.proofs.Common.{ℕ, ◌+◌, ◌*◌, ◌^◌, ◌<◌, List, [], length, sym, ap, subst, ◌∙◌, arith}
+use Rattle.std.specs.Prelude.{Contains}
 use Rattle.std.proofs.lemmas.List.Elements.{All-nil}
 use Rattle.std.proofs.lemmas.Option.{slice_get_within}
 use Rattle.scan_model.specs.Universe.{universe}
@@ -12,6 +13,13 @@ use Rattle.match_counts.proofs.Sums.{sum_next}
 use Rattle.match_counts.proofs.BlockTotals.{sums_next, sum_by_block, failing_is, by_blocks, sums_known, AreTotalsAtMost-le}
 use Rattle.match_counts.proofs.counting.count_blocks.Goals as goal
 
+pub block_shares-requires-clause-all : goal.block_shares-requires-clause-all
+block_shares-requires-clause-all g c κs within = λ i lt below.
+    let owner_at = owner c.args.parts.now (suspect_at c.args.suspects.now i).fault in
+    let there = c.requires.owners.all i lt in
+    let In : List ℕ → Type 0 = λ nets. Contains nets owner_at in
+    subst In (sym c.deref.ensures.value) (c.in_ok-nets.ensures.all owner_at below (omega (arith, there.1)))
+
 pub loop-block-preserved : goal.loop-block-preserved
 loop-block-preserved g c =
     let t = c.args.parts.now in
@@ -23,10 +31,9 @@ loop-block-preserved g c =
     let old = c.loop-block.totals in
     let new = c.add_shares.new.totals in
     let Part : List Share → Type 0 = λ xs. Shares t rows b suspects (λ i. owner t (suspect_at suspects i).fault < length t.netlist.nets + 3) [] xs in
-    let part = subst Part (sym c.as_slice-in-loop-block.ensures) c.in_ok-shares.ensures.shares in
+    let part = subst Part (sym c.as_slice-in-loop-block.ensures) c.in_ok-shares.ensures in
     let added = c.in_ok-add_shares.ensures in
     record {
-      scratch = c.in_ok-shares.ensures.scratch;
       at_most = AreTotalsAtMost-le (b * 2 ^ 32 + 2 ^ 32) ((b + 1) * 2 ^ 32) new (omega arith) (added.at_most (b * 2 ^ 32) inv.at_most);
       few = omega (arith, inv.few, c.failing_count.type_inv, c.from-failing.ensures);
       sums = λ logs stands.

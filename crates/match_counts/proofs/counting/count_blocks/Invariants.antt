@@ -3,7 +3,6 @@ use Rattle.std.specs.Prelude.{sum_by}
 use Rattle.std.specs.List.{range_with_len}
 use Rattle.scan_model.specs.declared.logs.LogFacts.{LogFacts}
 use Rattle.log_join.specs.Joining.{StandsFor}
-use Rattle.packed_sim.specs.Belongs.{IsScratchOf}
 use Rattle.match_counts.specs.declared.side.Side.TheVariants.{Failing}
 use Rattle.match_counts.specs.PointRows.{counts_on}
 use Rattle.match_counts.specs.Shares.{hits_in}
@@ -12,7 +11,6 @@ use Rattle.match_counts.proofs.counting.count_blocks.Given as goal
 
 abbrev pub invariant-loop-block : goal.invariant-loop-block
 invariant-loop-block g l = record {
-  scratch : IsScratchOf l.good l.scratch;
   at_most : AreTotalsAtMost (l.block * 2 ^ 32) l.totals;
   few : l.failing ≤ l.block * 2 ^ 32;
   sums : (logs : List LogFacts) → StandsFor logs l.joined → AreSums l.parts logs l.suspects l.block l.totals;

@@ -6,7 +6,7 @@ use Rattle.scan_model.specs.Universe.{universe}
 use Rattle.match_counts.specs.declared.suspect.Suspect.{Suspect}
 use Rattle.match_counts.specs.Owners.{HasSuspect}
 use Rattle.match_counts.proofs.BlockTotals.{each_place, suspects_few}
-use Rattle.match_counts.proofs.suspect_counts.counts_in.Goals as goal
+use Rattle.match_counts.proofs.suspect_counts.counts.Goals as goal
 
 pub owners_of-requires-clause-few : goal.owners_of-requires-clause-few
 owners_of-requires-clause-few g c = omega (arith, ap length c.as_slice-2.ensures, c.in_ok-suspects.ensures.few, c.few_places-places.ensures.few, c.universe_len-faults.ensures, c.universe_len-faults.type_inv)
