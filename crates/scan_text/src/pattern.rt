@@ -6,7 +6,7 @@ ghost use Rattle.text_parts.specs.Views.{nows};
 ghost use Rattle.scan_text.specs.Frames.{frame_view};
 
 use scan_model::{Chain, NoMemory, Pattern, PatternKind, Rows, Tri};
-use std::alloc::Global;
+use std::alloc::{AllocError, Global};
 
 /// What a pattern is for: so many inputs, and chains in file order.
 #[derive(Clone, Copy)]
@@ -95,13 +95,18 @@ pub fn has_wrong_length(frame: &Frame<'_>, kind: PatternKind, words: &[&[u8]]) -
 fn is_value(b: u8) -> bool
     ensures { result ≡ is_value b }
 {
-    matches!(b, b'0' | b'1' | b'X' | b'x')
+    (b == b'0') | (b == b'1') | (b == b'X') | (b == b'x')
 }
 
 fn has_only_values(word: &[u8]) -> bool
     ensures { result ≡ list_all is_value word.now }
 {
-    word.iter().all(|b| is_value(*b))
+    let mut only = true;
+    for b in word {
+        // No branch, so that many bytes are judged at once.
+        only &= is_value(*b);
+    }
+    only
 }
 
 fn has_other_load(loads: &[&[u8]]) -> bool
@@ -145,14 +150,17 @@ fn character_value(b: u8) -> Tri
     Tri::Unknown
 }
 
+fn characters_values(alloc: Global, word: &[u8]) -> Result<Vec<Tri>, AllocError>
+    ensures { IfOk result (λ values. values.items ≡ map character_value word.now) }
+{
+    word.iter().map(|b| character_value(*b)).collect(alloc)
+}
+
 fn values_of(alloc: Global, word: &[u8]) -> Result<Rows<Tri>, NoMemory>
     ensures { IfOk result (λ values. values ≡ map character_value word.now) }
 {
-    let mut values = Rows::new(alloc);
-    for b in word {
-        values.push(character_value(*b))?;
-    }
-    Ok(values)
+    let values = characters_values(alloc, word)?;
+    Ok(Rows::from_vec(values))
 }
 
 fn loads_of(alloc: Global, words: &[&[u8]]) -> Result<Rows<Rows<Tri>>, NoMemory>
