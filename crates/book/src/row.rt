@@ -249,7 +249,12 @@ fn add_sign_row<R: Threads + Sync>(
 }
 
 /// Adds the deed of a row to those before it, if it fits them.
-pub fn add_row<R: Threads + Sync>(rt: &R, alloc: Global, kept: &mut Kept, row: Deed) -> Result<bool, NoMemory>
+pub fn add_row<R: Threads + Sync>(
+    rt: &R,
+    alloc: Global,
+    kept: &mut Kept,
+    row: Deed,
+) -> Result<bool, NoMemory>
     requires { each_fits [] kept.old ≡ true }
     ensures judged { IfOk result (λ r. fits kept.old row.what ≡ r) }
     ensures deeds { IfOk result (λ r. kept.new ≡ added_if r kept.old row) }

@@ -78,7 +78,11 @@ fn diagnosis_of<R: Threads + Sync>(
 }
 
 /// The report over the logs of a die, with the candidates that it lists.
-pub fn make_diagnosis<R: Threads + Sync>(rt: &R, alloc: Global, view: &DieView) -> Result<Diagnosis, NoMemory>
+pub fn make_diagnosis<R: Threads + Sync>(
+    rt: &R,
+    alloc: Global,
+    view: &DieView,
+) -> Result<Diagnosis, NoMemory>
     ensures lines { IfOk result (λ d. d.report ≡ view_lines view.now) }
     ensures report { IfOk result (λ d. text_of.joined d.report ≡ view_report view.now) }
     ensures cut { IfOk result (λ d. pieces (view_report view.now) ≡ d.report) }
@@ -89,7 +93,11 @@ pub fn make_diagnosis<R: Threads + Sync>(rt: &R, alloc: Global, view: &DieView) 
 
 /// The report over the logs of a die. Its lines are its text cut behind each LF. The order of the logs doesn't matter, nor does
 /// it that a text is given again.
-pub fn make_report<R: Threads + Sync>(rt: &R, alloc: Global, view: &DieView) -> Result<Report, NoMemory>
+pub fn make_report<R: Threads + Sync>(
+    rt: &R,
+    alloc: Global,
+    view: &DieView,
+) -> Result<Report, NoMemory>
     ensures lines { IfOk result (λ report. report ≡ view_lines view.now) }
     ensures report { IfOk result (λ report. text_of.joined report ≡ view_report view.now) }
     ensures cut { IfOk result (λ report. pieces (view_report view.now) ≡ report) }
@@ -151,7 +159,11 @@ fn digest_of(report: &Report) -> Digest
 }
 
 /// Makes the report of a die that has a log, for its digest.
-pub fn check_report<R: Threads + Sync>(rt: &R, alloc: Global, view: &DieView) -> Result<Checked, NoMemory>
+pub fn check_report<R: Threads + Sync>(
+    rt: &R,
+    alloc: Global,
+    view: &DieView,
+) -> Result<Checked, NoMemory>
     requires { 0 < length view.now.logs }
     ensures { IfOk result (λ checked. checked ≡ view.now) }
 {

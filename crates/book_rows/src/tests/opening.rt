@@ -68,7 +68,12 @@ fn rows(alloc: Global, letters: &[u8]) -> Result<Rows<Deed>, NoMemory> {
 }
 
 // The row at which the list is spoiled, or its length where it opens.
-fn stop<R: Threads + Sync>(rt: &R, alloc: Global, letters: &[u8], limit: u32) -> Result<u64, NoMemory> {
+fn stop<R: Threads + Sync>(
+    rt: &R,
+    alloc: Global,
+    letters: &[u8],
+    limit: u32,
+) -> Result<u64, NoMemory> {
     let mut calls = Rows::new(alloc);
     // Past the limit one row is asked for, and no other.
     calls.push(u64::from(limit) + 2)?;

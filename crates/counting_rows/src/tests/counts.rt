@@ -113,7 +113,8 @@ fn fails_in_the_second_block_alone(rt: HostRuntime) {
 fn long_chain_is_equal<R: Threads + Sync>(
     rt: &R,
     alloc: Global,
-    log: &[u8]) -> Result<bool, BundleFault> {
+    log: &[u8],
+) -> Result<bool, BundleFault> {
     let netlist = long_netlist(alloc)?;
     let scan = long_chain(alloc)?;
     let patterns = long_patterns(alloc)?;

@@ -21,8 +21,8 @@ use desk_outside::Shelf;
 use diagnosis::{Design, design_with, make_report};
 use scan_model::{Name, NoMemory};
 use std::alloc::Global;
-use std::thread::Threads;
 use std::sync::Arc;
+use std::thread::Threads;
 
 // The design of that name, of texts that were read.
 fn named_design(alloc: Global, name: &str, read: ReadDesign) -> Result<Arc<Design>, NoMemory>

@@ -7,8 +7,8 @@ use desk_outside::{Keeper, MemKeeper};
 use scan_model::{NoMemory, Rows};
 use shared_desk::{Desk, DeskSeat, Marked, start};
 use std::alloc::Global;
-use std::thread::Threads;
 use std::sync::Wait;
+use std::thread::Threads;
 
 const OTHER: &[u8] = b"FAILLOG 1\ndie D1\ndesign other\ntested 0 0\nend\n";
 
@@ -82,7 +82,11 @@ fn steps_once<R: Wait>(
 }
 
 // The numbers of deeds and faults at the end, where all steps went as they should.
-fn run_all<R: Threads + Wait + Sync>(rt: &R, alloc: Global, call: u64) -> Result<Option<(u64, u64)>, NoMemory> {
+fn run_all<R: Threads + Wait + Sync>(
+    rt: &R,
+    alloc: Global,
+    call: u64,
+) -> Result<Option<(u64, u64)>, NoMemory> {
     let keeper = keeper_failing(alloc, call)?;
     let (desk, first, mut second) = start_two(rt, alloc, keeper, 10)?;
     // The opening asks for row 0.
