@@ -45,7 +45,7 @@ pub fn page_of_command<R: Threads + Sync, F: Shelf>(
     shelf: &mut F,
     command: &Command<'_>,
 ) -> Result<Page, NoMemory>
-    requires { IsSound command.now }
+    requires sound { IsSound command.now }
     ensures told { (held : List File) → F.files shelf.old ≡ Some held
         → IfOk result (λ page. IsDueOf (command_output held command.now) (Rose (F.faults shelf.old) (F.faults shelf.new)) page.status page.text) }
     ensures fault { IfOk result (λ page. page.status ≡ 5 → Rose (F.faults shelf.old) (F.faults shelf.new)) }

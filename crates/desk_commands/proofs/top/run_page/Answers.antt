@@ -14,8 +14,8 @@ pub returns-in-Err-clause-told : goal.returns-in-Err-clause-told
 returns-in-Err-clause-told g c = λ held e.
     record { status = 8; text = codes "memory\n"; due = inr (refl, refl); ends = c.finish-in-Err.ensures.ends }
 
-pub page_of_command-requires : goal.page_of_command-requires
-page_of_command-requires g c =
+pub page_of_command-requires-clause-sound : goal.page_of_command-requires-clause-sound
+page_of_command-requires-clause-sound g c κs within =
     said_sound (map string_bytes c.args.words.now) c.in-Ok-Some.command (rw c.in-Ok-Some.field-0-is at c.in-Ok-Some.ensures.taken)
 
 pub returns-in-Ok-clause-told : goal.returns-in-Ok-clause-told

@@ -14,12 +14,12 @@ use Rattle.diagnosis.proofs.Reports.{view_lines_are}
 use Rattle.diagnosis.proofs.Views.{logs_stand}
 use Rattle.diagnosis.proofs.checked.make_diagnosis.Goals as goal
 
-pub diagnosis_of-requires : goal.diagnosis_of-requires
-diagnosis_of-requires g c =
+pub diagnosis_of-requires-clause-stand : goal.diagnosis_of-requires-clause-stand
+diagnosis_of-requires-clause-stand g c κs within =
     let v = c.args.view.now in
     let design : v.design ≡ c.deref.result.now = sym (c.deref.ensures ∙ c.design.ensures) in
     let of_logs = subst (All (StandsOver v.design.test)) (sym c.logs.ensures.logs) (logs_stand v c.logs.ensures.view) in
-    record { stand = subst (λ (d : DesignFacts). All (StandsOver d.test) (map (λ log. arc_value log) c.logs.result.now)) design of_logs }
+    subst (λ (d : DesignFacts). All (StandsOver d.test) (map (λ log. arc_value log) c.logs.result.now)) design of_logs
 
 pub returns-clause-lines : goal.returns-clause-lines
 returns-clause-lines g c =

@@ -3,7 +3,7 @@ use Rattle.desk_commands.proofs.DemoOutput.{status_read, text_read, status_refus
 use Rattle.desk_commands.proofs.commands.demo.demo_page.Goals as goal
 
 pub page_of_design-requires-clause-draws : goal.page_of_design-requires-clause-draws
-page_of_design-requires-clause-draws g c = record { is = c.in_ok-made.ensures.draws }
+page_of_design-requires-clause-draws g c κs within = record { is = c.in_ok-made.ensures.draws }
 
 pub returns-in-Ok-clause-status : goal.returns-in-Ok-clause-status
 returns-in-Ok-clause-status g c =
