@@ -1,5 +1,6 @@
 //! Desks with one seat or two.
 ghost use Rattle.std.specs.Prelude.{◌≡◌, IfOk};
+ghost use Rattle.shared_desk.specs.Starting.{AreAllSeats};
 
 use book::Book;
 use desk_outside::MemKeeper;
@@ -29,6 +30,20 @@ pub fn start_one<R: Threads + Sync>(
     }
 }
 
+// A desk with its two seats, each for itself.
+fn with_both(desk: Desk<MemKeeper>, seats: Rows<DeskSeat>) -> (Desk<MemKeeper>, DeskSeat, DeskSeat)
+    requires all { AreAllSeats desk seats }
+    requires two { desk.seats ≡ 2 }
+    ensures desk { result.0 ≡ desk }
+    ensures desks { (result.1.desk ≡ desk) × (result.2.desk ≡ desk) }
+    ensures numbers { (result.1.number ≡ 0) × (result.2.number ≡ 1) }
+{
+    let mut list = seats.into_vec();
+    let first = list.remove(0);
+    let second = list.remove(0);
+    (desk, first, second)
+}
+
 /// A desk over this keeper, and its two seats.
 pub fn start_two<R: Threads + Sync>(
     rt: &R,
@@ -41,12 +56,7 @@ pub fn start_two<R: Threads + Sync>(
     ensures numbers { IfOk result (λ r. (r.1.number ≡ 0) × (r.2.number ≡ 1)) }
 {
     match start(rt, alloc, keeper, max_deeds, 2) {
-        Ok((desk, seats)) => {
-            let mut list = seats.into_vec();
-            let first = list.remove(0);
-            let second = list.remove(0);
-            Ok((desk, first, second))
-        }
+        Ok((desk, seats)) => Ok(with_both(desk, seats)),
         Err(_) => Err(NoMemory),
     }
 }
