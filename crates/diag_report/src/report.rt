@@ -52,6 +52,14 @@ impl Report {
         self.text.as_slice()
     }
 
+    /// The whole text, given away.
+    pub fn into_text(self) -> Name
+        ensures { result ≡ text_of.joined self }
+    {
+        let Report { text, .. } = self;
+        text
+    }
+
     /// The number of lines.
     pub fn lines(&self) -> u64
         ensures { result ≡ length self.now }

@@ -2,7 +2,7 @@ ghost use Rattle.std.specs.Prelude.{◌≡◌, ◌≤◌, ℕ, [], ◌∷◌, �
 ghost use Rattle.std.specs.List.{list_any, position_or_len};
 ghost use Rattle.std.specs.Str.{bytes_eq};
 ghost use Rattle.scan_model.specs.ScanText.{net_names, stands_again};
-ghost use Rattle.text_parts.specs.Views.{nows, before_repeat, with_name};
+ghost use Rattle.text_parts.specs.Views.{nows, before_repeat};
 
 use crate::key::Key;
 use scan_model::Net;
@@ -112,20 +112,5 @@ impl<'a> Names<'a> {
         self.places.entry(Key { bytes: name })?.or_insert(next);
         self.list.push_reserved(name);
         Ok(())
-    }
-
-    /// The place of the first name that equals the word, which is added at the end where there is none.
-    pub fn place_or_add(&mut self, name: &'a [u8]) -> Result<usize, AllocError>
-        ensures place { IfOk result (λ i. i ≡ position_or_len (bytes_eq name.now) self.old) }
-        ensures ok { OnOk result (self.new ≡ with_name self.old name.now) }
-        ensures err { OnErr result (self.new ≡ self.old) }
-    {
-        self.list.reserve(1)?;
-        let next = self.list.len();
-        let place = *self.places.entry(Key { bytes: name })?.or_insert(next);
-        if place == next {
-            self.list.push_reserved(name);
-        }
-        Ok(place)
     }
 }

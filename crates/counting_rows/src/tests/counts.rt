@@ -8,6 +8,7 @@ use super::chains::{long_chain, long_netlist, long_patterns};
 use super::designs::{c17, design, joined, odd, repeated, s27};
 use super::logs::joined_of;
 use diagnosis::BundleFault;
+use good_sim::expected_all;
 use log_join::Joined;
 use match_counts::{counts, plain_counts};
 use packed_sim::PackedGood;
@@ -15,7 +16,7 @@ use scan_model::{Expected, NoMemory, Parts};
 use std::alloc::Global;
 use std::thread::Threads;
 
-/// Whether both counts list the same rows, and some.
+/// Whether both counts list the same rows, and some. The plain one goes by plain simulation of the fault-free design too.
 fn are_equal<R: Threads + Sync>(
     rt: &R,
     alloc: Global,
@@ -28,7 +29,8 @@ fn are_equal<R: Threads + Sync>(
 {
     let good = PackedGood::make(alloc, parts)?;
     let rows = counts(rt, alloc, parts, &good, expected, joined)?;
-    let plain = plain_counts(alloc, parts, expected, joined)?;
+    let simulated = expected_all(alloc, parts)?;
+    let plain = plain_counts(alloc, parts, &simulated, joined)?;
     Ok(rows.as_slice() == plain.as_slice() && rows.len() > 0)
 }
 

@@ -68,7 +68,7 @@ fn report_over<'a, R: Threads + Sync, F: Shelf>(
     let design = named_design(alloc, command.design, read)?;
     let view = read_logs(alloc, shelf, &design, command.die, command.logs.as_slice())?;
     let report = make_report(rt, alloc, &view)?;
-    Ok(Name::copy_of(alloc, report.bytes())?)
+    Ok(report.into_text())
 }
 
 /// The report of the files of these names.

@@ -1,4 +1,4 @@
-use Rattle.std.proofs.Common.{◌≡◌, ◌≢◌, ◌∙◌, sym, arith, length}
+use Rattle.std.proofs.Common.{◌≢◌, ◌∙◌, sym, arith, length}
 use Rattle.std.specs.List.{position_or_len}
 use Rattle.std.proofs.lemmas.List.{take_rest}
 use Rattle.text_parts.proofs.Parts.{no_end, begins_with, is_line_feed}

@@ -19,5 +19,5 @@ returns-clause-told g c = λ held e.
     let named = c.in_ok-design.ensures in
     let logs = ap (map (λ name. name.now)) c.as_slice.ensures.value in
     report_follows held (said c.args.command.now) (shown_design c.args.read) (arc_value c.in_ok-design.design) (map (λ name. name.now) c.as_slice.result.now)
-    named.test named.name logs c.in_ok-view.view (joined c.in_ok-report.report) c.in_ok-copy_of.field-0 c.in_ok-view.ensures.design c.in_ok-view.ensures.die (c.in_ok-view.ensures.told held e)
-    c.in_ok-report.ensures.any_order (c.in_ok-copy_of.ensures ∙ c.bytes.ensures)
+    named.test named.name logs c.in_ok-view.view (joined c.in_ok-report.report) c.into_text.result c.in_ok-view.ensures.design c.in_ok-view.ensures.die (c.in_ok-view.ensures.told held e)
+    c.in_ok-report.ensures.any_order c.into_text.ensures
