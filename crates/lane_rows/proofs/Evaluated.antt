@@ -1,17 +1,13 @@
 -- Evaluating gate by gate along an order gives the values of the nets, in each lane.
-use Rattle.std.proofs.Common.{◌≡◌, ◌≢◌, ℕ, ◌+◌, ◌<◌, ◌≤◌, true, false, List, length, get_or, set, take, refl, sym, ap, ◌∙◌, inl, inr, arith}
+use Rattle.std.proofs.Common.{◌≡◌, ◌≢◌, ℕ, ◌+◌, ◌<◌, ◌≤◌, false, List, length, get_or, set, take, sym, ap, ◌∙◌, inl, inr, arith}
 use Rattle.std.specs.Prelude.{Contains}
 use Rattle.std.proofs.lemmas.Bool.{cases_Bool, cases_eq, both_ways}
 use Rattle.std.proofs.lemmas.List.{length-set, get_or-set_same, get_or-set_other, take_more, take_all}
 use Rattle.std.proofs.lemmas.List.Elements.{Contains-push_cases}
-use Rattle.std.proofs.lemmas.List.FromFn.{length-map-range_with_len, get_or-map-range_with_len}
-use Rattle.scan_model.specs.declared.values.Tri.{Tri}
-use Rattle.scan_model.specs.declared.circuit.Driver.{Driver}
-use Rattle.scan_model.specs.declared.circuit.Driver.TheVariants.{Input, Flop, Gate}
 use Rattle.scan_model.specs.declared.values.Tri.TheVariants.{Unknown}
-use Rattle.scan_model.specs.Netlist.{Netlist, IsNetlist, is_gate, is_gate_driver, driver_of, reads, net_at, pin_at}
+use Rattle.scan_model.specs.Netlist.{Netlist, IsNetlist, is_gate, driver_of}
 use Rattle.scan_model.specs.Walks.{IsEvaluationOrder}
-use Rattle.scan_model.specs.NetValue.{values_of, net_node, driven, nothing_forced}
+use Rattle.scan_model.specs.NetValue.{values_of, net_node, nothing_forced}
 use Rattle.scan_model.proofs.NetValues.{values_of-is, net_node_local, driven_leaf, driven_gate}
 use Rattle.scan_model.proofs.FanSweeps.{reads_in_range}
 use Rattle.lane_rows.specs.Planes.{Planes, held}
