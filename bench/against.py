@@ -1,11 +1,11 @@
 #!/usr/bin/env python3
 """Times whole commands of the desk beside those of another program with the same words and output, in one run.
 
-    python3 bench/against.py OTHER [RUNS]     (from the top; ./scandesk must have been built; needs hyperfine)
+    python3 bench/against.py OTHER [RUNS]     (from the top; ./scandesk must have been built)
 
 OTHER is the path of the other program. It is asked to write the files of `demo 7 200` (`OTHER files 7 200 FOLDER`: four
 texts and the logs demo.log, each.log and many.log); the desk then runs over the same files. For each command the two outputs are
-compared byte for byte, and the least wall time of RUNS runs (20 by default) and the greatest memory are told, on one
+compared byte for byte, and the least wall time of RUNS runs (20 by default; by hyperfine where it is there, else by a clock of this script's) and the greatest memory are told, on one
 processor (`taskset -c 0`) and on all. The variable PEER_THREADS tells the other program how many threads it may use. Where valgrind is
 there, the instructions of two commands follow, which don't depend on what else the machine does.
 """
@@ -15,6 +15,7 @@ import shutil
 import subprocess
 import sys
 import tempfile
+import time
 
 TOP = os.path.dirname(os.path.dirname(os.path.abspath(__file__)))
 PROGRAM = os.path.join(TOP, 'crates', 'scandesk', 'out', 'scandesk')
@@ -29,8 +30,17 @@ def commands(folder):
     return listed
 
 
+def clocked(words, environment):
+    """The wall seconds of one run, from its start to its end."""
+    start = time.perf_counter()
+    subprocess.run(words, check=True, stdout=subprocess.DEVNULL, stderr=subprocess.DEVNULL, env=environment)
+    return time.perf_counter() - start
+
+
 def least_time(words, runs, folder, environment):
-    """The least wall seconds of so many runs."""
+    """The least wall seconds of so many runs, after two that are not counted."""
+    if not shutil.which('hyperfine'):
+        return min([clocked(words, environment) for _ in range(runs + 2)][2:])
     report = os.path.join(folder, 'times.json')
     subprocess.run(['hyperfine', '--shell=none', '--warmup', '2', '--runs', str(runs), '--export-json', report, ' '.join(words)],
                    check=True, stdout=subprocess.DEVNULL, stderr=subprocess.DEVNULL, env=environment)
