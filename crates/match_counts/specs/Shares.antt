@@ -51,9 +51,13 @@ no_share = record { place = 0; count = no_count }
 abbrev pub AreRight : (ℕ → BlockCount) → List Share → Type 0
 AreRight truth shares = All (λ s. s.count ≡ truth s.place) shares
 
+-- one of the first shares is of the place
+abbrev pub HasShareBefore : List Share → ℕ → ℕ → Type 0
+HasShareBefore shares n place = (k : ℕ) × (k < n) × ((slice_index_or shares k no_share).place ≡ place)
+
 -- a share of the place is there
 abbrev pub HasShare : List Share → ℕ → Type 0
-HasShare shares place = (k : ℕ) × (k < length shares) × ((slice_index_or shares k no_share).place ≡ place)
+HasShare shares place = HasShareBefore shares (length shares) place
 
 -- each share is that of its place in block b
 abbrev pub AreShares : ScanTest → List LogFacts → ℕ → List Share → Type 0

@@ -18,6 +18,14 @@ use Rattle.match_counts.specs.Owners.{owner, suspect_at}
 abbrev pub count_at : List BlockCount → ℕ → BlockCount
 count_at table p = slice_index_or table p no_count
 
+-- the table says nothing of the place
+abbrev pub IsBlankAt : List BlockCount → ℕ → Type 0
+IsBlankAt table p = count_at table p ≡ no_count
+
+-- the table says nothing of any place
+abbrev pub IsBlank : List BlockCount → Type 0
+IsBlank table = (p : ℕ) → IsBlankAt table p
+
 abbrev pub no_total : Total
 no_total = record { tfsf = 0; tpsf = 0 }
 

@@ -19,7 +19,7 @@ use crate::owners::owned_nets;
 use crate::point_rows::point_rows;
 use crate::share::Total;
 use crate::suspect::Suspect;
-use crate::totals::add_shares;
+use crate::totals::{add_shares, blank_table};
 use log_join::Joined;
 use packed_sim::{Groups, PackedGood};
 use scan_model::{Expected, NoMemory, Parts};
@@ -51,6 +51,7 @@ pub(crate) fn count_blocks<R: Threads + Sync>(
 {
     let _ = parts.points();
     let nets = owned_nets(alloc, parts, owners)?;
+    let mut table = blank_table(alloc, totals.len())?;
     let mut failing = 0u64;
     for block in 0..good.blocks().len() {
         let rows = point_rows(alloc, parts, joined, expected, block as u32)?;
@@ -63,7 +64,7 @@ pub(crate) fn count_blocks<R: Threads + Sync>(
             owners,
         };
         let shares = block_shares(rt, alloc, &work, &nets)?;
-        add_shares(alloc, totals, shares.as_slice())?;
+        add_shares(totals, &mut table, shares.as_slice());
         failing += u64::from(failing_count(rows.as_slice()));
     }
     Ok(failing)

@@ -1,5 +1,6 @@
-use Rattle.std.proofs.Common.{ℕ, ◌+◌, ◌*◌, ◌^◌, ◌<◌, List, [], length, sym, ap, subst, ◌∙◌, arith}
+use Rattle.std.proofs.Common.{◌≡◌, ℕ, ◌+◌, ◌*◌, ◌^◌, ◌<◌, List, [], ◌++◌, length, take, drop, sym, ap, subst, ◌∙◌, arith}
 use Rattle.std.specs.Prelude.{Contains}
+use Rattle.std.proofs.lemmas.List.{take_at}
 use Rattle.std.proofs.lemmas.List.Elements.{All-nil}
 use Rattle.std.proofs.lemmas.Option.{slice_get_within}
 use Rattle.scan_model.specs.Universe.{universe}
@@ -32,8 +33,12 @@ loop-block-preserved g c =
     let new = c.add_shares.new.totals in
     let Part : List Share → Type 0 = λ xs. Shares t rows b suspects (λ i. owner t (suspect_at suspects i).fault < length t.netlist.nets + 3) [] xs in
     let part = subst Part (sym c.as_slice-in-loop-block.ensures) c.in_ok-shares.ensures in
-    let added = c.in_ok-add_shares.ensures in
+    let added = c.add_shares.ensures in
+    let table = c.add_shares.new.table in
+    let whole : take c.loop-block.table.len (table ++ drop (length table) c.loop-block.table.items) ≡ table = take_at table (drop (length table) c.loop-block.table.items) c.loop-block.table.len (c.add_shares.auto.table ∙ c.deref_mut.ensures.len) in
     record {
+      len = ap length whole ∙ omega (arith, c.add_shares.auto.table, ap length c.deref_mut.ensures.value, inv.len, c.add_shares.auto.totals);
+      blank = rw whole added.blank;
       at_most = AreTotalsAtMost-le (b * 2 ^ 32 + 2 ^ 32) ((b + 1) * 2 ^ 32) new (omega arith) (added.at_most (b * 2 ^ 32) inv.at_most);
       few = omega (arith, inv.few, c.failing_count.type_inv, c.from-failing.ensures);
       sums = λ logs stands.
