@@ -6,7 +6,7 @@ use Rattle.std.proofs.lemmas.Bool.{cases_Bool, eqb-true, eq-eqb, ltb-true, ltb-f
 use Rattle.std.proofs.lemmas.List.Sums.{sum_by-cons, sum_by-le, sum_by_push, length-filter, count_by-le-length}
 use Rattle.std.proofs.lemmas.List.{get_or_past}
 use Rattle.std.proofs.lemmas.List.Folds.{list_any_at}
-use Rattle.std.proofs.lemmas.List.Elements.{All-from_recursion}
+use Rattle.std.proofs.lemmas.List.Elements.{All-from_recursion, Contains-get_or}
 use Rattle.std.proofs.lemmas.List.FromFn.{length-range_with_len}
 use Rattle.scan_model.specs.declared.parts.PatternKind.TheVariants.{Capture}
 use Rattle.scan_model.specs.declared.logs.LogFacts.{LogFacts}
@@ -20,7 +20,7 @@ use Rattle.lane_rows.specs.GoodRows.{pattern_of, same_kind, AreBlockRows}
 use Rattle.lane_rows.proofs.LaneCounts.{same_lanes}
 use Rattle.packed_sim.specs.declared.good.PackedGood.{PackedGood}
 use Rattle.packed_sim.specs.declared.scratch.Scratch.{Scratch}
-use Rattle.packed_sim.specs.Belongs.{captures, block_at, good_at, now_at, observed_at, has_own_row, points_of_net}
+use Rattle.packed_sim.specs.Belongs.{BelongsTo, IsScratchIn, captures, block_at, good_at, now_at, observed_at, has_own_row, points_of_net}
 use Rattle.packed_sim.proofs.Belonging.{own_no_row}
 use Rattle.match_counts.specs.declared.point_row.PointRow.{PointRow}
 use Rattle.match_counts.specs.declared.shown.Shown.{Shown}
@@ -114,11 +114,15 @@ flip_shown t logs g s b n rows shown block points shows is side m =
     )))
 
 -- a net that has a row of its own is one of the circuit's
-pub own_below : (s : Scratch) (n : ℕ) → has_own_row s n ≡ true → n < length s.overlay
+own_below : (s : Scratch) (n : ℕ) → has_own_row s n ≡ true → n < length s.overlay
 own_below s n has = elim (cases_Bool (ltb n (length s.overlay))) [
   | inl is ↦ ltb-true n (length s.overlay) is
   | inr past ↦ absurd (let none : has_own_row s n ≡ false = ap is_some (get_or_past s.overlay n None (omega (arith, ltb-false n (length s.overlay) past))) in let e : true ≡ false = sym has ∙ none in cc)
 ]
+
+-- so all of them are
+pub own_all_below : (t : ScanTest) (g : PackedGood) (s : Scratch) (nets : List ℕ) → BelongsTo t g → IsScratchIn g s → ((n : ℕ) → Contains nets n ↔ IsTrue (has_own_row s n)) → All (λ n. n < length t.netlist.nets) nets
+own_all_below t g s nets belongs scratch all k d lt = omega (arith, own_below s (get_or nets k d) ((all (get_or nets k d)).0 (Contains-get_or nets k d lt)), scratch.own, belongs.net_count)
 
 pub absent_not_in : (n : ℕ) (nets : List ℕ) → list_any (eqb n) nets ≡ false → Contains nets n → ⊥
 absent_not_in n nets none there = let e : true ≡ false = sym (list_any_at (eqb n) nets there.0 n there.1 (eq-eqb n (get_or nets there.0 n) (sym there.2))) ∙ none in cc

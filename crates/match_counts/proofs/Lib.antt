@@ -15,6 +15,7 @@ mod NetShares
 mod PinShares
 mod CellShares
 mod WalkNotes
+mod WalkStart
 mod WalkSteps
 mod KindShares
 mod BlockTotals

@@ -22,16 +22,16 @@ use Rattle.match_counts.proofs.Sums.{sum_agree_in}
 
 -- ---- notes with their sum
 
+pub none_on : (side : Side) → count_on side no_count ≡ 0
+none_on Failing = refl
+none_on Passing = refl
+
 module _ (notes : List BlockCount) (sum : BlockCount) (is : AreSummed notes sum) where
   pub sum_bound : (side : Side) → count_on side sum ≤ 67108864
   sum_bound side = omega (arith, is.sums side, is.few, sum_by-le (count_on side) 512 notes (λ k d lt. is.small k d lt side))
 
   pub part_of_sum : (k : ℕ) (x : BlockCount) → k < length notes → x ≡ noted_at notes k → (side : Side) → count_on side x ≤ count_on side sum
-  part_of_sum k x lt e side = rw e (omega (arith, is.sums side, sum_by-set (count_on side) notes k no_count no_count lt, none side))
-    where
-      none : (side : Side) → count_on side no_count ≡ 0
-      none Failing = refl
-      none Passing = refl
+  part_of_sum k x lt e side = rw e (omega (arith, is.sums side, sum_by-set (count_on side) notes k no_count no_count lt, none_on side))
 
   pub put_summed : (k : ℕ) (x count new : BlockCount) → k < length notes → x ≡ noted_at notes k → IsSmall count → ((side : Side) → count_on side new ≡ count_on side sum - count_on side x + count_on side count) → AreSummed (set notes k count) new
   put_summed k x count new lt e small are = record {

@@ -2,11 +2,12 @@ ghost use Rattle.std.specs.Prelude.{◌≡◌, ◌≢◌, ℕ, ◌+◌, ◌<◌,
 ghost use Rattle.scan_model.specs.declared.fault.Fault.TheVariants as fault;
 ghost use Rattle.scan_model.specs.declared.parts.Point.TheVariants as point;
 ghost use Rattle.scan_model.specs.ScanTest.{IsFlop, IsPoint, points_of, point_at, chain_at};
-ghost use Rattle.scan_model.specs.Netlist.{driver_of};
+ghost use Rattle.scan_model.specs.Netlist.{driver_of, pin_at};
 ghost use Rattle.scan_model.specs.Loads.{cell};
+ghost use Rattle.scan_model.specs.Response.{data_pin};
 ghost use Rattle.scan_model.specs.Suspect.{observed_net};
 ghost use Rattle.packed_sim.specs.Places.{has_place};
-ghost use Rattle.packed_sim.specs.Belongs.{BelongsTo, observed_at};
+ghost use Rattle.packed_sim.specs.Belongs.{BelongsTo, has_own_row};
 ghost use Rattle.packed_sim.specs.Loaded.{IsLoaded};
 ghost use Rattle.match_counts.specs.declared.side.Side.{Side};
 ghost use Rattle.match_counts.specs.Flips.{count_on};
@@ -37,11 +38,19 @@ pub(crate) struct Loaded<'a> {
     ghost loaded: { IsLoaded parts.now good.now block chain pos kind scratch.now },
 }
 
+/// The cells of a chain.
+fn chain_cells(parts: &Parts, chain: u32) -> &[u32]
+    requires { chain < length parts.now.chains }
+    ensures { result.now ≡ (chain_at parts.now chain).cells }
+{
+    parts.chains().as_slice()[chain as usize].cells.as_slice()
+}
+
 fn listed_net(parts: &Parts, chain: u32, pos: u32) -> u32
     requires { IsPoint parts.now (point.Cell chain pos) }
     ensures { result ≡ cell parts.now chain pos }
 {
-    parts.chains().as_slice()[chain as usize].cells.as_slice()[pos as usize]
+    chain_cells(parts, chain)[pos as usize]
 }
 
 /// The net of a cell.
@@ -56,16 +65,26 @@ fn cell_net(parts: &Parts, chain: u32, pos: u32) -> u32
     net
 }
 
+/// The net that a cell observes.
+fn data_net(parts: &Parts, cell: u32) -> u32
+    requires in_range { cell < length parts.now.netlist.nets }
+    requires flop { IsFlop (driver_of parts.now.netlist cell) }
+    ensures value { result ≡ (pin_at parts.now.netlist (data_pin parts.now.netlist cell)).net }
+    ensures in_range { result < length parts.now.netlist.nets }
+{
+    let circuit = parts.circuit();
+    let pin = circuit.nets().as_slice()[cell as usize].first_pin;
+    circuit.pins().as_slice()[pin as usize].net
+}
+
 /// The net that a position of a chain observes.
 fn position_net(parts: &Parts, chain: u32, pos: u32) -> u32
     requires { IsPoint parts.now (point.Cell chain pos) }
     ensures value { result ≡ observed_net parts.now (point.Cell chain pos) }
     ensures in_range { result < length parts.now.netlist.nets }
 {
-    let circuit = parts.circuit();
-    let net = cell_net(parts, chain, pos);
-    let pin = circuit.nets().as_slice()[net as usize].first_pin;
-    circuit.pins().as_slice()[pin as usize].net
+    let cell = cell_net(parts, chain, pos);
+    data_net(parts, cell)
 }
 
 /// The position below that of a point, if the point is a cell of the chain above its first.
@@ -105,20 +124,6 @@ impl Loaded<'_> {
             tfsf: row.failing.count_both(predicted),
             tpsf: row.passing.count_both(predicted),
         }
-    }
-
-    /// Notes all points for the first time.
-    pub(crate) fn note_all(&self, notes: &mut Notes) -> Result<(), NoMemory>
-        requires good { BelongsTo self.now.parts.now self.now.good.now }
-        ensures len { OnOk result (length notes.new ≡ length (points_of self.now.parts.now)) }
-        ensures fresh { OnOk result ((k : ℕ) → k < length (points_of self.now.parts.now) → IsFresh self.now.parts.now self.now.rows.now self.now.block (fault.Cell self.now.chain self.now.pos self.now.kind) notes.new k) }
-    {
-        let _ = self.parts.points();
-        notes.clear();
-        for k in 0..self.rows.len() {
-            notes.push(self.count_at(k))?;
-        }
-        Ok(())
     }
 
     /// Notes some points again.
@@ -192,6 +197,51 @@ impl Loaded<'_> {
         let points = self.good.points_of_net(self.parts, net);
         self.note_points(notes, points);
         self.note_below(notes, points);
+    }
+
+    /// Notes what observes a net with a row of its own.
+    fn note_touched(&self, notes: &mut Notes)
+        requires good { BelongsTo self.now.parts.now self.now.good.now }
+        requires len { length notes.old ≡ length (points_of self.now.parts.now) }
+        ensures len { length notes.new ≡ length notes.old }
+        ensures renoted { IsRenoted self.now.parts.now self.now.rows.now self.now.block (fault.Cell self.now.chain self.now.pos self.now.kind) notes.old notes.new }
+        ensures fresh { (n : ℕ) → has_own_row self.now.scratch.now n ≡ true → AreFreshAt self.now.parts.now self.now.rows.now self.now.block (fault.Cell self.now.chain self.now.pos self.now.kind) notes.new n }
+    {
+        let nets = self.scratch.nets();
+        for net in nets {
+            self.note_net(notes, *net);
+        }
+    }
+
+    /// Notes all positions of the chain.
+    fn note_chain(&self, notes: &mut Notes)
+        requires good { BelongsTo self.now.parts.now self.now.good.now }
+        requires len { length notes.old ≡ length (points_of self.now.parts.now) }
+        ensures len { length notes.new ≡ length notes.old }
+        ensures renoted { IsRenoted self.now.parts.now self.now.rows.now self.now.block (fault.Cell self.now.chain self.now.pos self.now.kind) notes.old notes.new }
+        ensures fresh { (i : ℕ) → i < length (chain_at self.now.parts.now self.now.chain).cells
+            → AreFreshAt self.now.parts.now self.now.rows.now self.now.block (fault.Cell self.now.chain self.now.pos self.now.kind) notes.new (observed_net self.now.parts.now (point.Cell self.now.chain i)) }
+    {
+        let _ = self.parts.chains();
+        let cells = chain_cells(self.parts, self.chain);
+        for cell in cells {
+            let net = data_net(self.parts, *cell);
+            self.note_net(notes, net);
+        }
+    }
+
+    /// Notes all points for the first time. What neither observes a net with a row of its own nor stands in the chain
+    /// shows its fault-free value, and keeps a count of zero.
+    pub(crate) fn note_all(&self, notes: &mut Notes) -> Result<(), NoMemory>
+        requires good { BelongsTo self.now.parts.now self.now.good.now }
+        ensures len { OnOk result (length notes.new ≡ length (points_of self.now.parts.now)) }
+        ensures fresh { OnOk result ((k : ℕ) → k < length (points_of self.now.parts.now) → IsFresh self.now.parts.now self.now.rows.now self.now.block (fault.Cell self.now.chain self.now.pos self.now.kind) notes.new k) }
+    {
+        let _ = self.parts.points();
+        notes.reset(self.rows.len())?;
+        self.note_touched(notes);
+        self.note_chain(notes);
+        Ok(())
     }
 
     /// The least net with a mark, from one on.

@@ -1,5 +1,6 @@
-ghost use Rattle.std.specs.Prelude.{◌≡◌, ◌<◌, ◌≤◌, ◌++◌, ◌∷◌, [], length, sum_by, slice_set, OnOk};
+ghost use Rattle.std.specs.Prelude.{◌≡◌, ◌<◌, ◌≤◌, [], length, replicate, sum_by, slice_set, OnOk};
 ghost use Rattle.match_counts.specs.declared.side.Side.{Side};
+ghost use Rattle.match_counts.specs.Shares.{no_count};
 ghost use Rattle.match_counts.specs.Flips.{count_on};
 ghost use Rattle.match_counts.specs.Walks.{IsSmall};
 
@@ -38,24 +39,15 @@ impl Notes {
         }
     }
 
-    pub(crate) fn clear(&mut self)
-        ensures { self.new ≡ [] }
+    /// So many points, each with a count of zero.
+    pub(crate) fn reset(&mut self, len: usize) -> Result<(), NoMemory>
+        requires room { len ≤ 131072 }
+        ensures { OnOk result (self.new ≡ replicate len no_count) }
     {
+        let none = BlockCount { tfsf: 0, tpsf: 0 };
         self.points.clear();
-        self.sum = BlockCount { tfsf: 0, tpsf: 0 };
-    }
-
-    /// One point more.
-    pub(crate) fn push(&mut self, count: BlockCount) -> Result<(), NoMemory>
-        requires room { length self.old < 131072 }
-        requires small { IsSmall count }
-        ensures { OnOk result (self.new ≡ self.old ++ count ∷ []) }
-    {
-        self.points.push(count)?;
-        self.sum = BlockCount {
-            tfsf: self.sum.tfsf + count.tfsf,
-            tpsf: self.sum.tpsf + count.tpsf,
-        };
+        self.sum = none;
+        self.points.resize(len, none)?;
         Ok(())
     }
 

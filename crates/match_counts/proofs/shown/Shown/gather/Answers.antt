@@ -1,32 +1,25 @@
-use Rattle.std.proofs.Common.{◌≡◌, ℕ, ◌+◌, ◌<◌, Bool, eqb, ◌&&◌, List, length, get_or, ap, ◌∙◌, arith}
-use Rattle.std.specs.Prelude.{sum_by, Contains, All, IsTrue, ◌↔◌}
+use Rattle.std.proofs.Common.{◌≡◌, ℕ, ◌+◌, Bool, eqb, ◌&&◌, List, length, get_or, ap, ◌∙◌, arith}
+use Rattle.std.specs.Prelude.{sum_by}
 use Rattle.std.proofs.lemmas.List.{get_or_default, take_all}
-use Rattle.std.proofs.lemmas.List.Elements.{Contains-get_or}
 use Rattle.std.proofs.lemmas.List.Sums.{sum_by_more}
 use Rattle.scan_model.specs.Values.{are_opposite}
 use Rattle.lane_rows.specs.declared.block.Block.{Block}
 use Rattle.lane_rows.specs.Lanes.{lane, count_lanes}
 use Rattle.lane_rows.specs.GoodRows.{no_block}
-use Rattle.scan_model.specs.ScanTest.{ScanTest, points_of}
-use Rattle.packed_sim.specs.declared.good.PackedGood.{PackedGood}
-use Rattle.packed_sim.specs.declared.scratch.Scratch.{Scratch}
-use Rattle.packed_sim.specs.Belongs.{BelongsTo, IsScratchIn, points_of_net, observed_at, has_own_row, block_at, good_at, now_at}
+use Rattle.scan_model.specs.ScanTest.{points_of}
+use Rattle.packed_sim.specs.Belongs.{points_of_net, observed_at, block_at, good_at, now_at}
 use Rattle.match_counts.specs.declared.side.Side.{Side}
 use Rattle.match_counts.specs.declared.side.Side.TheVariants.{Failing, Passing}
 use Rattle.match_counts.specs.Flips.{tallied, list_on, row_on, point_row_at, caught_lane}
 use Rattle.match_counts.proofs.Sums.{sum_next}
-use Rattle.match_counts.proofs.FlipSums.{shown_of_net, shown_by_nets, own_below, own_not, filtered}
+use Rattle.match_counts.proofs.FlipSums.{shown_of_net, shown_by_nets, own_all_below, own_not, filtered}
 use Rattle.match_counts.proofs.shown.Shown.gather.Goals as goal
 
--- the nets with rows of their own are the circuit's
-all_below : (t : ScanTest) (g : PackedGood) (s : Scratch) (nets : List ℕ) → BelongsTo t g → IsScratchIn g s → ((n : ℕ) → Contains nets n ↔ IsTrue (has_own_row s n)) → All (λ n. n < length t.netlist.nets) nets
-all_below t g s nets belongs scratch all k d lt = omega (arith, own_below s (get_or nets k d) ((all (get_or nets k d)).0 (Contains-get_or nets k d lt)), scratch.own, belongs.net_count)
-
 pub difference-requires-clause-net : goal.difference-requires-clause-net
-difference-requires-clause-net c = all_below c.args.parts.now c.args.good.now c.args.scratch.now c.nets-nets.result.now c.requires.good c.requires.scratch c.nets-nets.ensures.all c.loop-net.net-index _ c.loop-net-test.true
+difference-requires-clause-net c = own_all_below c.args.parts.now c.args.good.now c.args.scratch.now c.nets-nets.result.now c.requires.good c.requires.scratch c.nets-nets.ensures.all c.loop-net.net-index _ c.loop-net-test.true
 
 pub points_of_net-requires-clause-net : goal.points_of_net-requires-clause-net
-points_of_net-requires-clause-net c = all_below c.args.parts.now c.args.good.now c.args.scratch.now c.nets-nets.result.now c.requires.good c.requires.scratch c.nets-nets.ensures.all c.loop-net.net-index _ c.loop-net-test.true
+points_of_net-requires-clause-net c = own_all_below c.args.parts.now c.args.good.now c.args.scratch.now c.nets-nets.result.now c.requires.good c.requires.scratch c.nets-nets.ensures.all c.loop-net.net-index _ c.loop-net-test.true
 
 pub add_points-requires : goal.add_points-requires
 add_points-requires c = rw c.points_of_net.ensures (λ k d lt. omega (arith, c.requires.rows, (filtered (λ x. eqb (observed_at c.args.parts.now x) (get_or c.nets-nets.result.now c.loop-net.net-index 0)) 0 (length (points_of c.args.parts.now)) k d lt).0))
@@ -71,7 +64,7 @@ returns c = λ side m.
     let s = c.args.scratch.now in
     let nets = c.nets-nets.result.now in
     let f = λ (x : ℕ). sum_by (λ k. count_lanes (λ j. caught_lane t g s c.args.block c.args.rows.now side k j && m j)) (points_of_net t x) in
-    let below = all_below t g s nets c.requires.good c.requires.scratch c.nets-nets.ensures.all in
+    let below = own_all_below t g s nets c.requires.good c.requires.scratch c.nets-nets.ensures.all in
     c.loop-net.invariant side m
     ∙ ap (λ (ns : List ℕ). sum_by f ns) (take_all c.loop-net.net-index nets (omega arith))
     ∙ shown_by_nets t g s c.args.block c.args.rows.now side m nets c.points.ensures.fits c.nets-nets.ensures.differ below (λ n lt absent. own_not s n nets c.nets-nets.ensures.all absent)
