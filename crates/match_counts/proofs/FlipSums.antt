@@ -120,7 +120,7 @@ own_below s n has = elim (cases_Bool (ltb n (length s.overlay))) [
   | inr past ↦ absurd (let none : has_own_row s n ≡ false = ap is_some (get_or_past s.overlay n None (omega (arith, ltb-false n (length s.overlay) past))) in let e : true ≡ false = sym has ∙ none in cc)
 ]
 
-pub absent_not_in : (n : ℕ) (nets : List ℕ) → list_any (eqb n) nets ≡ false → Contains nets n → ⊥
+absent_not_in : (n : ℕ) (nets : List ℕ) → list_any (eqb n) nets ≡ false → Contains nets n → ⊥
 absent_not_in n nets none there = let e : true ≡ false = sym (list_any_at (eqb n) nets there.0 n there.1 (eq-eqb n (get_or nets there.0 n) (sym there.2))) ∙ none in cc
 
 -- one item more of a list that was counted
