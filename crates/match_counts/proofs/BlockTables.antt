@@ -6,7 +6,7 @@ use Rattle.match_counts.specs.declared.share.BlockCount.{BlockCount}
 use Rattle.match_counts.specs.declared.share.Share.{Share}
 use Rattle.match_counts.specs.declared.share.Total.{Total}
 use Rattle.match_counts.specs.Shares.{no_share, no_count, HasShareBefore}
-use Rattle.match_counts.specs.Totals.{count_at, IsWithin, IsBlankAt, total_at, no_total, plus, IsAtMost, AreTotalsAtMost}
+use Rattle.match_counts.specs.Totals.{count_at, IsBlankAt, total_at, no_total, plus, IsAtMost, AreTotalsAtMost}
 
 -- what is true of a place stays so
 pub set_keeps : (truth : ℕ → BlockCount) (table : List BlockCount) (q : ℕ) (x : BlockCount) → q < length table → x ≡ truth q → (p : ℕ) → count_at table p ≡ truth p → count_at (set table q x) p ≡ truth p
@@ -17,15 +17,6 @@ set_keeps truth table q x inside right p true_before = elim (cases_eq p q) [
 
 pub set_here : (truth : ℕ → BlockCount) (table : List BlockCount) (q : ℕ) (x : BlockCount) → q < length table → x ≡ truth q → count_at (set table q x) q ≡ truth q
 set_here truth table q x inside right = get_or-set_same table q x no_count inside ∙ right
-
-pub set_within : (truth : ℕ → BlockCount) (table : List BlockCount) (q : ℕ) (x : BlockCount) → q < length table → x ≡ truth q → IsWithin truth table → IsWithin truth (set table q x)
-set_within truth table q x inside right within p = elim (within p) [
-  | inl is ↦ inl (set_keeps truth table q x inside right p is)
-  | inr none ↦ elim (cases_eq p q) [
-    | inl same ↦ inl (ap (λ (m : ℕ). get_or (set table q x) m no_count) same ∙ get_or-set_same table q x no_count inside ∙ right ∙ ap truth (sym same))
-    | inr other ↦ inr (get_or-set_other table q p x no_count other ∙ none)
-  ]
-]
 
 -- a share more, and a place is among those of the shares or is as it was before them
 pub set_elsewhere : (shares : List Share) (i : ℕ) (before table : List BlockCount) (x : BlockCount) → (get_or shares i no_share).place < length table → ((p : ℕ) → HasShareBefore shares i p ⊎ (count_at table p ≡ count_at before p))

@@ -1,5 +1,5 @@
 -- The suspects of a die by the net that a fault flips.
-use Rattle.std.specs.Prelude.{◌≡◌, ℕ, ◌+◌, ◌<◌, List, [], length, cond, All, Contains, Some, slice_get, slice_index, slice_index_or}
+use Rattle.std.specs.Prelude.{◌≡◌, ℕ, ◌+◌, ◌<◌, List, [], length, map, cond, All, Contains, Some, slice_get, slice_index, slice_index_or}
 use Rattle.scan_model.specs.declared.circuit.PinPlace.{PinPlace}
 use Rattle.scan_model.specs.declared.circuit.PinPlace.TheVariants as place
 use Rattle.scan_model.specs.declared.fault.Fault.{Fault}
@@ -53,9 +53,9 @@ pub record Shares (t : ScanTest) (rows : List PointRow) (b : ℕ) (suspects : Li
 abbrev pub IsAmong : List ℕ → ℕ → ℕ → Type 0
 IsAmong group n i = (k : ℕ) × (k < n) × (slice_index group k ≡ i)
 
--- a suspect stands at the place
-abbrev pub HasSuspect : List Suspect → ℕ → Type 0
-HasSuspect suspects p = (i : ℕ) × (i < length suspects) × ((suspect_at suspects i).place ≡ p)
+-- the places of suspects, in their order
+abbrev pub places_of : List Suspect → List ℕ
+places_of suspects = map (λ s. s.place) suspects
 
 -- each group has the numbers of the suspects that it owns
 pub record AreOwners (t : ScanTest) (suspects : List Suspect) (groups : List (List ℕ)) : Type 0 where

@@ -1,27 +1,28 @@
-ghost use Rattle.std.specs.Prelude.{◌≡◌, List, length, IfOk};
+ghost use Rattle.std.specs.Prelude.{◌≡◌, ◌<◌, List, All, length, IfOk};
 ghost use Rattle.scan_model.specs.declared.logs.LogFacts.{LogFacts};
-ghost use Rattle.scan_model.specs.Universe.{universe};
-ghost use Rattle.scan_model.specs.MatchCounts.{candidates};
-ghost use Rattle.match_counts.specs.Totals.{AreTotals};
+ghost use Rattle.scan_model.specs.ScanTest.{ScanTest};
+ghost use Rattle.match_counts.specs.Owners.{places_of};
+ghost use Rattle.match_counts.specs.Totals.{AreTotals, candidates_at};
 
 use crate::plain::push_candidate;
 use crate::share::Total;
-use fault_universe::universe_len;
-use scan_model::{Counts, NoMemory, Parts, Rows, Scored};
+use crate::suspect::Suspect;
+use scan_model::{Counts, NoMemory, Rows, Scored};
 use std::alloc::Global;
 
-/// The faults that explain at least one Failing bit, by their totals over all blocks, in the order of their places.
+/// The suspects that explain at least one Failing bit, by their totals over all blocks, in the order of the suspects.
 pub(crate) fn list_candidates(
     alloc: Global,
-    parts: &Parts,
+    suspects: &[Suspect],
     totals: &[Total],
     failing: u64,
 ) -> Result<Rows<Scored>, NoMemory>
-    requires { length totals.now ≡ length (universe parts.now) }
-    ensures { (logs : List LogFacts) → AreTotals parts.now logs failing totals.now → IfOk result (λ rows. rows ≡ candidates parts.now logs) }
+    requires { All (λ s. s.place < length totals.now) suspects.now }
+    ensures { (t : ScanTest) (logs : List LogFacts) → AreTotals t logs suspects.now failing totals.now → IfOk result (λ rows. rows ≡ candidates_at t logs (places_of suspects.now)) }
 {
     let mut rows = Rows::new(alloc);
-    for place in 0..universe_len(parts) {
+    for suspect in suspects {
+        let place = suspect.place;
         let total = totals[place as usize];
         let counts = Counts {
             tfsf: total.tfsf,

@@ -1,8 +1,8 @@
-ghost use Rattle.std.specs.Prelude.{◌≡◌, ℕ, ◌+◌, ◌^◌, ◌<◌, ◌≤◌, [], All, Contains, length, slice_index, slice_index_or, IfOk, OnOk};
+ghost use Rattle.std.specs.Prelude.{◌≡◌, ℕ, ◌+◌, ◌^◌, ◌<◌, ◌≤◌, [], ◌++◌, ◌∷◌, All, Contains, length, slice_index_or, IfOk, OnOk};
 ghost use Rattle.scan_model.specs.ScanTest.{HasSite};
 ghost use Rattle.scan_model.specs.Universe.{universe};
 ghost use Rattle.fault_universe.specs.LineWords.{IsPlaceOf};
-ghost use Rattle.match_counts.specs.Owners.{IsSuspectOf, HasSuspect, AreOwners};
+ghost use Rattle.match_counts.specs.Owners.{IsSuspectOf, AreOwners, places_of};
 ghost use Rattle.match_counts.specs.Owners as owners;
 
 use crate::suspect::Suspect;
@@ -47,8 +47,7 @@ fn owner(parts: &Parts, fault: &Fault) -> u32
 /// Adds the suspect at a place, if a fault stands there.
 fn push_suspect(suspects: &mut Rows<Suspect>, parts: &Parts, place: u32) -> Result<(), NoMemory>
     ensures each { OnOk result (All (IsSuspectOf parts.now) suspects.old → All (IsSuspectOf parts.now) suspects.new) }
-    ensures kept { OnOk result ((p : ℕ) → HasSuspect suspects.old p → HasSuspect suspects.new p) }
-    ensures there { OnOk result (place < length (universe parts.now) → HasSuspect suspects.new place) }
+    ensures places { OnOk result (place < length (universe parts.now) → places_of suspects.new ≡ places_of suspects.old ++ place ∷ []) }
     ensures few { OnOk result (length suspects.new ≤ length suspects.old + 1) }
 {
     let Some(fault) = fault_at(parts, place) else {
@@ -58,7 +57,7 @@ fn push_suspect(suspects: &mut Rows<Suspect>, parts: &Parts, place: u32) -> Resu
     Ok(())
 }
 
-/// The suspects at some places.
+/// The suspects at some places, in their order.
 pub(crate) fn suspects_at(
     alloc: Global,
     parts: &Parts,
@@ -66,7 +65,7 @@ pub(crate) fn suspects_at(
 ) -> Result<Rows<Suspect>, NoMemory>
     ensures each { IfOk result (All (IsSuspectOf parts.now)) }
     ensures few { IfOk result (λ suspects. length suspects ≤ length places.now) }
-    ensures all { IfOk result (λ suspects. (k : ℕ) → k < length places.now → slice_index places.now k < length (universe parts.now) → HasSuspect suspects (slice_index places.now k)) }
+    ensures places { IfOk result (λ suspects. All (λ p. p < length (universe parts.now)) places.now → places_of suspects ≡ places.now) }
 {
     let mut suspects = Rows::new(alloc);
     for place in places {

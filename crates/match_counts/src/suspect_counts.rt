@@ -1,4 +1,4 @@
-ghost use Rattle.std.specs.Prelude.{◌≡◌, ℕ, ◌+◌, ◌<◌, ◌≤◌, ◌⊎◌, List, All, length, IfOk};
+ghost use Rattle.std.specs.Prelude.{◌≡◌, ℕ, ◌+◌, ◌≤◌, List, All, length, IfOk};
 ghost use Rattle.scan_model.specs.declared.logs.LogFacts.{LogFacts};
 ghost use Rattle.scan_model.specs.ScanTest.{points_of};
 ghost use Rattle.scan_model.specs.Response.{expected_rows};
@@ -6,8 +6,8 @@ ghost use Rattle.scan_model.specs.Universe.{universe};
 ghost use Rattle.scan_model.specs.MatchCounts.{candidates};
 ghost use Rattle.log_join.specs.Joining.{StandsFor, IsJoinedOf};
 ghost use Rattle.packed_sim.specs.Belongs.{BelongsTo};
-ghost use Rattle.match_counts.specs.Owners.{IsSuspectOf, HasSuspect, AreOwners};
-ghost use Rattle.match_counts.specs.Totals.{total_at, no_total, total_of};
+ghost use Rattle.match_counts.specs.Owners.{IsSuspectOf, AreOwners, places_of};
+ghost use Rattle.match_counts.specs.Totals.{total_at, no_total, candidates_at};
 
 use crate::counting::count_blocks;
 use crate::listing::list_candidates;
@@ -55,14 +55,13 @@ fn counts_over<R: Threads + Sync>(
     requires owners { AreOwners parts.now suspects.now owners.now }
     requires totals { length totals.old ≡ length (universe parts.now) }
     requires blank { (p : ℕ) → total_at totals.old p ≡ no_total }
-    ensures { (logs : List LogFacts) → StandsFor logs joined.now → ((p : ℕ) → p < length (universe parts.now) → HasSuspect suspects.now p ⊎ ((total_of parts.now logs p).tfsf ≡ 0))
-        → IfOk result (λ rows. rows ≡ candidates parts.now logs) }
+    ensures { (logs : List LogFacts) → StandsFor logs joined.now → IfOk result (λ rows. rows ≡ candidates_at parts.now logs (places_of suspects.now)) }
 {
     let _ = parts.circuit();
     let failing = count_blocks(
         rt, alloc, parts, good, expected, joined, suspects, owners, totals,
     )?;
-    list_candidates(alloc, parts, totals, failing)
+    list_candidates(alloc, suspects, totals, failing)
 }
 
 /// The faults that explain at least one failing bit, with their counts, in the order of their places. Suspects alone are

@@ -10,7 +10,6 @@ use std::alloc::Global;
 /// Puts shares of one block into a table of its counts by place.
 fn set_shares(table: &mut [BlockCount], shares: &[Share])
     requires { All (λ s. s.place < length table.old) shares.now }
-    ensures within { (truth : ℕ → BlockCount) → AreRight truth shares.now → sums.IsWithin truth table.old → sums.IsWithin truth table.new }
     ensures put { (truth : ℕ → BlockCount) → AreRight truth shares.now → (k : ℕ) → k < length shares.now
         → sums.count_at table.new (slice_index_or shares.now k no_share).place ≡ truth (slice_index_or shares.now k no_share).place }
     ensures elsewhere { (p : ℕ) → HasShare shares.now p ⊎ (sums.count_at table.new p ≡ sums.count_at table.old p) }

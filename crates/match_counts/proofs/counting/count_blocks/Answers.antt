@@ -2,14 +2,12 @@ use Rattle.std.proofs.Common.{◌≡◌, ℕ, ◌+◌, ◌*◌, ◌^◌, ◌<◌
 use Rattle.std.specs.Prelude.{Contains}
 use Rattle.std.proofs.lemmas.List.{take_at}
 use Rattle.std.proofs.lemmas.List.Elements.{All-nil}
-use Rattle.std.proofs.lemmas.Option.{slice_get_within}
-use Rattle.scan_model.specs.Universe.{universe}
 use Rattle.match_counts.specs.declared.point_row.PointRow.{PointRow}
 use Rattle.match_counts.specs.declared.share.Share.{Share}
 use Rattle.match_counts.specs.declared.side.Side.TheVariants.{Failing}
 use Rattle.match_counts.specs.PointRows.{counts_on, ArePointRows}
 use Rattle.match_counts.specs.Shares.{share_in, hits_in}
-use Rattle.match_counts.specs.Owners.{Shares, owner, suspect_at, no_suspect}
+use Rattle.match_counts.specs.Owners.{Shares, owner, suspect_at}
 use Rattle.match_counts.proofs.Sums.{sum_next}
 use Rattle.match_counts.proofs.BlockTotals.{sums_next, sum_by_block, failing_is, by_blocks, sums_known, AreTotalsAtMost-le}
 use Rattle.match_counts.proofs.counting.count_blocks.Goals as goal
@@ -45,8 +43,7 @@ loop-block-preserved g c =
           let Points : List PointRow → Type 0 = ArePointRows t logs b in
           let points = subst Points (sym c.as_slice.ensures) (c.in_ok-rows.ensures.rows logs stands) in
           let right = part.right logs points (All-nil _) in
-          sums_next t logs suspects b old new shares (inv.sums logs stands) c.add_shares.auto.totals (added.sums (share_in t logs b) right)
-          (λ i lt. omega (arith, slice_get_within (universe t) (suspect_at suspects i).place (suspect_at suspects i).fault (c.requires.suspects i no_suspect lt).at, c.requires.totals, c.loop-block.auto.totals))
+          sums_next t logs suspects b old new shares (inv.sums logs stands) (added.sums (share_in t logs b) right)
           part.there;
       failing = λ logs stands.
           let Points : List PointRow → Type 0 = ArePointRows t logs b in

@@ -1,22 +1,14 @@
-use Rattle.std.proofs.Common.{◌≡◌, ◌<◌, ◌++◌, List, length, take, Some, refl, ap, ◌∙◌, arith}
-use Rattle.std.specs.Prelude.{slice_get}
-use Rattle.std.proofs.lemmas.Option.{slice_get-get_or}
-use Rattle.scan_model.specs.declared.fault.Fault.TheVariants as fault
-use Rattle.scan_model.specs.declared.fault.Stuck.TheVariants as stuck
-use Rattle.scan_model.specs.declared.logs.Scored.{Scored}
-use Rattle.scan_model.specs.Universe.{universe}
-use Rattle.scan_model.specs.MatchCounts.{candidates_among}
-use Rattle.match_counts.specs.Shares.{fault_of}
-use Rattle.match_counts.proofs.BitCounting.{candidates_more}
-use Rattle.match_counts.proofs.CandidateRows.{row_is}
+use Rattle.std.proofs.Common.{List, ap, ◌∙◌}
+use Rattle.std.proofs.lemmas.List.{take_all}
+use Rattle.match_counts.specs.declared.suspect.Suspect.{Suspect}
+use Rattle.match_counts.specs.Owners.{places_of}
+use Rattle.match_counts.specs.Totals.{candidates_at}
+use Rattle.match_counts.proofs.CandidateRows.{rows_more}
 use Rattle.match_counts.proofs.listing.list_candidates.Goals as goal
 
-pub loop-place-preserved : goal.loop-place-preserved
-loop-place-preserved c = λ logs sums.
-    let t = c.args.parts.now in
-    let k = c.loop-place.place in
-    let inside : k < length (universe t) = omega arith in
-    let there : slice_get (universe t) k ≡ Some (fault_of t k) = slice_get-get_or (universe t) k (fault.Stem 0 stuck.Zero) inside in
-    c.in_ok-push_candidate.ensures
-    ∙ rw (candidates_more t logs (universe t) k (fault_of t k) there, c.loop-place.invariant logs sums)
-    (ap (λ (es : List Scored). candidates_among (take k (universe t)) t logs ++ es) (row_is t logs k c.args.failing _ _ c.args.totals.now sums inside refl c.saturating_sub.ensures))
+pub loop-suspect-preserved : goal.loop-suspect-preserved
+loop-suspect-preserved c = λ t logs sums.
+    rows_more t logs c.args.suspects.now c.loop-suspect.suspect-index c.args.failing _ c.args.totals.now c.loop-suspect.rows c.push_candidate.new.rows sums c.loop-suspect-test.true c.saturating_sub.ensures (c.loop-suspect.invariant t logs sums) c.in_ok-push_candidate.ensures
+
+pub returns : goal.returns
+returns c = λ t logs sums. c.loop-suspect.invariant t logs sums ∙ ap (λ (xs : List Suspect). candidates_at t logs (places_of xs)) (take_all c.loop-suspect.suspect-index c.args.suspects.now c.loop-suspect-test.false)

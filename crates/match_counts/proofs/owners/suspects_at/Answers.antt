@@ -1,18 +1,18 @@
-use Rattle.std.proofs.Common.{ℕ, ◌<◌, length, get_or, subst, sym, inl, inr, arith}
-use Rattle.std.proofs.lemmas.Bool.{cases_eq}
-use Rattle.scan_model.specs.Universe.{universe}
-use Rattle.match_counts.specs.Owners.{HasSuspect}
+use Rattle.std.proofs.Common.{ℕ, List, [], ◌++◌, ◌∷◌, get_or, ap, sym, ◌∙◌, arith}
+use Rattle.std.proofs.lemmas.List.{take_more, take_all}
 use Rattle.match_counts.proofs.owners.suspects_at.Goals as goal
 
 pub loop-place-preserved : goal.loop-place-preserved
 loop-place-preserved c =
+    let k = c.loop-place.place-index in
+    let places = c.args.places.now in
     let inv = c.loop-place.invariant in
     let told = c.in_ok-push_suspect.ensures in
     record {
       each = told.each inv.each;
       few = omega (arith, told.few, inv.few);
-      all = λ k lt within. elim (cases_eq k c.loop-place.place-index) [
-        | inl same ↦ let Has : ℕ → Type 0 = λ x. get_or c.args.places.now x 0 < length (universe c.args.parts.now) → HasSuspect c.push_suspect.new.suspects (get_or c.args.places.now x 0) in subst Has (sym same) told.there within
-        | inr other ↦ told.kept _ (inv.all k (omega arith) within)
-      ];
+      places = λ below. told.places (below k 0 c.loop-place-test.true) ∙ ap (λ (ps : List ℕ). ps ++ get_or places k 0 ∷ []) (inv.places below) ∙ sym (take_more places k 0 c.loop-place-test.true);
     }
+
+pub returns-clause-places : goal.returns-clause-places
+returns-clause-places c = λ below. c.loop-place.invariant.places below ∙ take_all c.loop-place.place-index c.args.places.now c.loop-place-test.false

@@ -9,16 +9,6 @@ take_shares-requires-clause-blank c = λ p. elim (c.set_shares.ensures.elsewhere
 ]
 
 pub returns-clause-sums : goal.returns-clause-sums
-returns-clause-sums c = λ truth right.
-    let table = c.set_shares.new.table in
-    let before = c.args.totals.now in
-    let within = c.set_shares.ensures.within truth right (λ p. inr (c.requires.blank p)) in
-    record {
-      within = λ p lt. elim (within p) [
-        | inl is ↦ inl (c.take_shares.ensures.sums p ∙ ap (plus (total_at before p)) is)
-        | inr none ↦ inr (c.take_shares.ensures.sums p ∙ ap (plus (total_at before p)) none)
-      ];
-      there = λ p lt has.
-          let At : ℕ → Type 0 = λ q. count_at table q ≡ truth q in
-          c.take_shares.ensures.sums p ∙ ap (plus (total_at before p)) (subst At has.2 (c.set_shares.ensures.put truth right has.0 has.1));
-    }
+returns-clause-sums c = λ truth right p has.
+    let At : ℕ → Type 0 = λ q. count_at c.set_shares.new.table q ≡ truth q in
+    c.take_shares.ensures.sums p ∙ ap (plus (total_at c.args.totals.now p)) (subst At has.2 (c.set_shares.ensures.put truth right has.0 has.1))

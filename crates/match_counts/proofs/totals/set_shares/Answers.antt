@@ -1,7 +1,7 @@
 use Rattle.std.proofs.Common.{◌<◌, length, get_or, inl, inr, arith}
 use Rattle.std.proofs.lemmas.Bool.{cases_eq}
 use Rattle.match_counts.specs.Shares.{no_share}
-use Rattle.match_counts.proofs.BlockTables.{set_keeps, set_here, set_within, set_elsewhere}
+use Rattle.match_counts.proofs.BlockTables.{set_keeps, set_here, set_elsewhere}
 use Rattle.match_counts.proofs.totals.set_shares.Goals as goal
 
 pub loop-share-preserved : goal.loop-share-preserved
@@ -12,7 +12,6 @@ loop-share-preserved c =
     let inv = c.loop-share.invariant in
     let inside : s.place < length table = omega (arith, c.requires i no_share c.loop-share-test.true) in
     record {
-      within = λ truth right before. set_within truth table s.place s.count inside (right i no_share c.loop-share-test.true) (inv.within truth right before);
       put = λ truth right k lt. elim (cases_eq k i) [
         | inl same ↦ rw same (set_here truth table s.place s.count inside (right i no_share c.loop-share-test.true))
         | inr other ↦ set_keeps truth table s.place s.count inside (right i no_share c.loop-share-test.true) (get_or c.args.shares.now k no_share).place (inv.put truth right k (omega arith))

@@ -1,12 +1,11 @@
 use Rattle.std.proofs.Common.{◌≡◌, ◌⊎◌, ℕ, ◌<◌, get_or}
 use Rattle.match_counts.specs.declared.share.BlockCount.{BlockCount}
 use Rattle.match_counts.specs.Shares.{AreRight, HasShareBefore, no_share}
-use Rattle.match_counts.specs.Totals.{count_at, IsWithin}
+use Rattle.match_counts.specs.Totals.{count_at}
 use Rattle.match_counts.proofs.totals.set_shares.Given as goal
 
 abbrev pub invariant-loop-share : goal.invariant-loop-share
 invariant-loop-share l = record {
-  within : (truth : ℕ → BlockCount) → AreRight truth l.shares → IsWithin truth l.initial.table → IsWithin truth l.table;
   put : (truth : ℕ → BlockCount) → AreRight truth l.shares → (k : ℕ) → k < l.share-index → count_at l.table (get_or l.shares k no_share).place ≡ truth (get_or l.shares k no_share).place;
   elsewhere : (p : ℕ) → HasShareBefore l.shares l.share-index p ⊎ (count_at l.table p ≡ count_at l.initial.table p);
 }
