@@ -1,8 +1,9 @@
 //! What a worker asks of a desk.
-ghost use Rattle.std.specs.Prelude.{◌≡◌, true};
+ghost use Rattle.std.specs.Prelude.{◌≡◌, ◌<◌, length, true};
 ghost use Rattle.scan_model.specs.Words.{is_tag};
+ghost use Rattle.book.specs.Changes.{IsViewIn};
 
-use book::{Design, Put, PutFault, check_report, log_of, read_bundle};
+use book::{Design, DieView, Put, PutFault, check_report, log_of, read_bundle};
 use desk_outside::MemKeeper;
 use scan_model::{Digest, Name, NoMemory};
 use shared_desk::{Desk, DeskSeat, Marked};
@@ -45,6 +46,26 @@ pub fn put_log<R: Wait>(
     Ok(desk.put_log(rt, seat, &log))
 }
 
+// Signs the revision that the seat has seen.
+fn sign_view<R: Threads + Wait + Sync>(
+    rt: &R,
+    alloc: Global,
+    desk: &Desk<MemKeeper>,
+    seat: &mut DeskSeat,
+    view: &DieView,
+    digest: &Digest,
+) -> Result<Marked<Result<Put, PutFault>>, NoMemory>
+    requires desk { seat.old.desk ≡ desk.now }
+    requires logs { 0 < length view.now.logs }
+    requires view { IsViewIn seat.old.seen view.now }
+    ensures desk { seat.new.desk ≡ seat.old.desk }
+    ensures number { seat.new.number ≡ seat.old.number }
+{
+    let checked = check_report(rt, alloc, view)?;
+    let signer = Name::copy_of(alloc, b"ann")?;
+    Ok(desk.sign(rt, seat, &checked, &signer, digest))
+}
+
 /// Signs a revision of die D1 of c17, as a worker does that looks at the die first. `None` where there is no such revision.
 pub fn sign_die<R: Threads + Wait + Sync>(
     rt: &R,
@@ -65,7 +86,6 @@ pub fn sign_die<R: Threads + Wait + Sync>(
     if view.revision() == 0 {
         return Ok(None);
     }
-    let checked = check_report(rt, alloc, &view)?;
-    let signer = Name::copy_of(alloc, b"ann")?;
-    Ok(Some(desk.sign(rt, seat, &checked, &signer, digest)))
+    let signed = sign_view(rt, alloc, desk, seat, &view, digest)?;
+    Ok(Some(signed))
 }

@@ -1,5 +1,6 @@
 //! A keeper that fails once, at each of its calls in turn.
-ghost use Rattle.std.specs.Prelude.{◌≡◌};
+ghost use Rattle.std.specs.Prelude.{◌≡◌, true};
+ghost use Rattle.scan_model.specs.Words.{is_tag};
 
 use super::*;
 use book::{Put, PutFault, StartFault};
@@ -21,6 +22,23 @@ fn keeper_failing(alloc: Global, call: u64) -> Result<MemKeeper, NoMemory> {
     MemKeeper::make_failing(alloc, Rows::new(alloc), calls)
 }
 
+// Puts the bundle of c17 under this name.
+fn put_named<R: Wait>(
+    rt: &R,
+    alloc: Global,
+    desk: &Desk<MemKeeper>,
+    seat: &mut DeskSeat,
+    name: &[u8],
+) -> Result<Marked<Result<Put, PutFault>>, NoMemory>
+    requires desk { seat.old.desk ≡ desk.now }
+    requires name { is_tag name.now ≡ true }
+    ensures desk { seat.new.desk ≡ seat.old.desk }
+    ensures number { seat.new.number ≡ seat.old.number }
+{
+    let design = design_of_name(alloc, name, C17)?;
+    Ok(desk.put_design(rt, seat, &design))
+}
+
 // One of the steps.
 fn step<R: Wait>(
     rt: &R,
@@ -34,8 +52,8 @@ fn step<R: Wait>(
     ensures number { seat.new.number ≡ seat.old.number }
 {
     match at {
-        0 => Ok(desk.put_design(rt, seat, &design_of_name(alloc, b"c17", C17)?)),
-        1 => Ok(desk.put_design(rt, seat, &design_of_name(alloc, b"other", C17)?)),
+        0 => put_named(rt, alloc, desk, seat, b"c17"),
+        1 => put_named(rt, alloc, desk, seat, b"other"),
         2 => put_log(rt, alloc, desk, seat, b"c17", FAILS),
         3 => put_log(rt, alloc, desk, seat, b"c17", PASSES),
         _ => put_log(rt, alloc, desk, seat, b"other", OTHER),

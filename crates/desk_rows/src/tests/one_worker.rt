@@ -1,9 +1,14 @@
 //! What a seat is answered: a full book, a keeper that fails once, and sign-offs.
+ghost use Rattle.std.specs.Prelude.{◌≡◌};
+
 use super::*;
-use book::{LookFault, Put, PutFault};
-use desk_outside::{Keeper, MemKeeper};
+use book::{Book, LookFault, Put, PutFault};
+use desk_outside::MemKeeper;
 use scan_model::{Digest, NoMemory, Rows};
-use shared_desk::Marked;
+use shared_desk::{Desk, DeskSeat, Marked};
+use std::alloc::Global;
+use std::sync::Wait;
+use std::thread::Threads;
 
 // SHA-256 of the report of c17's die of which 22 fails.
 const RIGHT: [u8; 32] = [
@@ -22,94 +27,110 @@ fn told(put: &Marked<Result<Put, PutFault>>) -> (u64, char, u64) {
     }
 }
 
+// Whether the design, put by a seat, is answered so.
+fn puts_design<R: Wait>(
+    rt: &R,
+    alloc: Global,
+    desk: &Desk<MemKeeper>,
+    seat: &mut DeskSeat,
+    answer: (u64, char, u64),
+) -> Result<bool, NoMemory>
+    requires { seat.old.desk ≡ desk.now }
+    ensures desk { seat.new.desk ≡ seat.old.desk }
+    ensures number { seat.new.number ≡ seat.old.number }
+{
+    let design = design_of_name(alloc, b"c17", C17)?;
+    let put = desk.put_design(rt, seat, &design);
+    Ok(told(&put) == answer)
+}
+
+// Whether a log of the die, put by a seat, is answered so.
+fn puts_log<R: Wait>(
+    rt: &R,
+    alloc: Global,
+    desk: &Desk<MemKeeper>,
+    seat: &mut DeskSeat,
+    text: &[u8],
+    answer: (u64, char, u64),
+) -> Result<bool, NoMemory>
+    requires { seat.old.desk ≡ desk.now }
+    ensures desk { seat.new.desk ≡ seat.old.desk }
+    ensures number { seat.new.number ≡ seat.old.number }
+{
+    let put = put_log(rt, alloc, desk, seat, b"c17", text)?;
+    Ok(told(&put) == answer)
+}
+
+fn knows_what_it_has<R: Threads + Wait + Sync>(rt: &R, alloc: Global) -> Result<bool, NoMemory> {
+    let keeper = MemKeeper::make(alloc, Rows::new(alloc))?;
+    let (desk, mut first, _second) = start_two(rt, alloc, keeper, 1)?;
+    let went = [
+        puts_design(rt, alloc, &desk, &mut first, (1, 'c', 1))?,
+        puts_log(rt, alloc, &desk, &mut first, FAILS, (1, 'f', 1))?,
+        puts_design(rt, alloc, &desk, &mut first, (1, 's', 1))?,
+    ];
+    Ok(went == [true; 3])
+}
+
 #[test]
 fn a_full_book_knows_what_it_has(rt: HostRuntime) -> Result<(), NoMemory> {
-    let alloc = rt.alloc();
-    let keeper = MemKeeper::make(alloc, Rows::new(alloc))?;
-    let (desk, mut first, _second) = start_two(&rt, alloc, keeper, 1)?;
-    let design = design_of_name(alloc, b"c17", C17)?;
-    assert_eq!(rt;
-        told(&desk.put_design(&rt, &mut first, &design)),
-        (1, 'c', 1)
-    );
-    assert_eq!(rt;
-        told(&put_log(&rt, alloc, &desk, &mut first, b"c17", FAILS)?),
-        (1, 'f', 1)
-    );
-    assert_eq!(rt;
-        told(&desk.put_design(&rt, &mut first, &design)),
-        (1, 's', 1)
-    );
+    assert!(rt; knows_what_it_has(&rt, rt.alloc())?);
     Ok(())
+}
+
+// A keeper whose third call fails. The opening asks for row 0, and the design's deed is the second call.
+fn keeper_of_two_calls(alloc: Global) -> Result<MemKeeper, NoMemory> {
+    let mut calls = Rows::new(alloc);
+    calls.push(3)?;
+    MemKeeper::make_failing(alloc, Rows::new(alloc), calls)
+}
+
+// The book has two deeds and one fault, and both deeds are of the second seat.
+fn has_two_of_the_second(book: Book<MemKeeper>) -> Result<bool, NoMemory> {
+    if book.deeds() != 2 || book.faults() != 1 {
+        return Ok(false);
+    }
+    let rows = book.close().copy_rows()?;
+    Ok(rows.as_slice().iter().all(|deed| deed.by == 1))
+}
+
+fn goes_on_after_a_fault<R: Threads + Wait + Sync>(
+    rt: &R,
+    alloc: Global,
+) -> Result<bool, NoMemory> {
+    let keeper = keeper_of_two_calls(alloc)?;
+    let (desk, first, mut second) = start_two(rt, alloc, keeper, 10)?;
+    let went = [
+        puts_design(rt, alloc, &desk, &mut second, (1, 'c', 1))?,
+        puts_log(rt, alloc, &desk, &mut second, FAILS, (1, 'x', 0))?,
+        puts_log(rt, alloc, &desk, &mut second, FAILS, (2, 'c', 1))?,
+    ];
+    let book = finish_two(alloc, desk, first, second)?;
+    let kept = has_two_of_the_second(book)?;
+    Ok(went == [true; 3] && kept)
 }
 
 #[test]
 fn a_failed_append_changes_nothing(rt: HostRuntime) -> Result<(), NoMemory> {
-    let alloc = rt.alloc();
-    // The opening asks for row 0, and the design's deed is the second call.
-    let mut calls = Rows::new(alloc);
-    calls.push(3)?;
-    let keeper = MemKeeper::make_failing(alloc, Rows::new(alloc), calls)?;
-    let (desk, first, mut second) = start_two(&rt, alloc, keeper, 10)?;
-    let design = design_of_name(alloc, b"c17", C17)?;
-    assert_eq!(rt;
-        told(&desk.put_design(&rt, &mut second, &design)),
-        (1, 'c', 1)
-    );
-    assert_eq!(rt;
-        told(&put_log(&rt, alloc, &desk, &mut second, b"c17", FAILS)?),
-        (1, 'x', 0)
-    );
-    assert_eq!(rt;
-        told(&put_log(&rt, alloc, &desk, &mut second, b"c17", FAILS)?),
-        (2, 'c', 1)
-    );
-    let book = finish_two(alloc, desk, first, second)?;
-    assert_eq!(rt; (book.deeds(), book.faults()), (2, 1));
-    let rows = book.close().copy_rows()?;
-    assert!(rt; rows.as_slice().iter().all(|deed| deed.by == 1));
+    assert!(rt; goes_on_after_a_fault(&rt, rt.alloc())?);
     Ok(())
 }
 
-#[test]
-fn a_sign_off_stays_with_its_revision(rt: HostRuntime) -> Result<(), NoMemory> {
-    let alloc = rt.alloc();
-    let keeper = MemKeeper::make(alloc, Rows::new(alloc))?;
-    let (desk, mut first, mut second) = start_two(&rt, alloc, keeper, 10)?;
-    let design = design_of_name(alloc, b"c17", C17)?;
-    assert_eq!(rt;
-        told(&desk.put_design(&rt, &mut first, &design)),
-        (1, 'c', 1)
-    );
-    assert_eq!(rt;
-        told(&put_log(&rt, alloc, &desk, &mut first, b"c17", FAILS)?),
-        (2, 'c', 1)
-    );
-    let wrong = Digest::from_bytes([0; 32]);
-    let right = Digest::from_bytes(RIGHT);
-    let Some(differs) = sign_die(&rt, alloc, &desk, &mut second, 1, &wrong)? else {
-        return Err(NoMemory);
-    };
-    assert!(rt; is_right(&differs.answer));
-    let Some(signed) = sign_die(&rt, alloc, &desk, &mut second, 1, &right)? else {
-        return Err(NoMemory);
-    };
-    assert_eq!(rt; told(&signed), (3, 'c', 1));
-    let late = desk.look_die(&rt, &mut first, b"c17", b"D1", Some(2));
-    assert!(rt; matches!(late.answer, Err(LookFault::UnknownRevision { have: 1 })));
-    assert_eq!(rt;
-        told(&put_log(&rt, alloc, &desk, &mut first, b"c17", PASSES)?),
-        (4, 'c', 2)
-    );
-    let Some(again) = sign_die(&rt, alloc, &desk, &mut first, 1, &right)? else {
-        return Err(NoMemory);
-    };
-    assert_eq!(rt; told(&again), (4, 's', 1));
-    let looked = desk.look_sign(&rt, &mut first, b"c17", b"D1", 1);
-    assert!(rt;
-        matches!(&looked.answer, Ok(sign) if sign.revision == 1 && sign.digest.as_bytes() == &RIGHT)
-    );
-    Ok(())
+// Whether a sign-off of the first revision is refused with the right digest.
+fn refuses_digest<R: Threads + Wait + Sync>(
+    rt: &R,
+    alloc: Global,
+    desk: &Desk<MemKeeper>,
+    seat: &mut DeskSeat,
+    digest: [u8; 32],
+) -> Result<bool, NoMemory>
+    requires { seat.old.desk ≡ desk.now }
+    ensures desk { seat.new.desk ≡ seat.old.desk }
+    ensures number { seat.new.number ≡ seat.old.number }
+{
+    let digest = Digest::from_bytes(digest);
+    let signed = sign_die(rt, alloc, desk, seat, 1, &digest)?;
+    Ok(matches!(&signed, Some(put) if is_right(&put.answer)))
 }
 
 fn is_right(put: &Result<Put, PutFault>) -> bool {
@@ -117,4 +138,66 @@ fn is_right(put: &Result<Put, PutFault>) -> bool {
         Err(PutFault::DigestDiffers { right }) => right.as_bytes() == &RIGHT,
         _ => false,
     }
+}
+
+// Whether the sign-off of the first revision by the right digest is answered so.
+fn signs_right<R: Threads + Wait + Sync>(
+    rt: &R,
+    alloc: Global,
+    desk: &Desk<MemKeeper>,
+    seat: &mut DeskSeat,
+    answer: (u64, char, u64),
+) -> Result<bool, NoMemory>
+    requires { seat.old.desk ≡ desk.now }
+    ensures desk { seat.new.desk ≡ seat.old.desk }
+    ensures number { seat.new.number ≡ seat.old.number }
+{
+    let right = Digest::from_bytes(RIGHT);
+    let signed = sign_die(rt, alloc, desk, seat, 1, &right)?;
+    Ok(matches!(&signed, Some(put) if told(put) == answer))
+}
+
+// Whether the die has one revision, and no second.
+fn has_no_second<R: Wait>(rt: &R, desk: &Desk<MemKeeper>, seat: &mut DeskSeat) -> bool
+    requires { seat.old.desk ≡ desk.now }
+    ensures desk { seat.new.desk ≡ seat.old.desk }
+    ensures number { seat.new.number ≡ seat.old.number }
+{
+    let looked = desk.look_die(rt, seat, b"c17", b"D1", Some(2));
+    matches!(&looked.answer, Err(LookFault::UnknownRevision { have: 1 }))
+}
+
+// Whether the die's first sign-off is of its first revision, with the right digest.
+fn is_signed<R: Wait>(rt: &R, desk: &Desk<MemKeeper>, seat: &mut DeskSeat) -> bool
+    requires { seat.old.desk ≡ desk.now }
+    ensures desk { seat.new.desk ≡ seat.old.desk }
+    ensures number { seat.new.number ≡ seat.old.number }
+{
+    let looked = desk.look_sign(rt, seat, b"c17", b"D1", 1);
+    matches!(&looked.answer, Ok(sign) if sign.revision == 1 && sign.digest.as_bytes() == &RIGHT)
+}
+
+fn stays_with_its_revision<R: Threads + Wait + Sync>(
+    rt: &R,
+    alloc: Global,
+) -> Result<bool, NoMemory> {
+    let keeper = MemKeeper::make(alloc, Rows::new(alloc))?;
+    let (desk, mut first, mut second) = start_two(rt, alloc, keeper, 10)?;
+    let went = [
+        puts_design(rt, alloc, &desk, &mut first, (1, 'c', 1))?,
+        puts_log(rt, alloc, &desk, &mut first, FAILS, (2, 'c', 1))?,
+        refuses_digest(rt, alloc, &desk, &mut second, [0; 32])?,
+        signs_right(rt, alloc, &desk, &mut second, (3, 'c', 1))?,
+        has_no_second(rt, &desk, &mut first),
+        puts_log(rt, alloc, &desk, &mut first, PASSES, (4, 'c', 2))?,
+        signs_right(rt, alloc, &desk, &mut first, (4, 's', 1))?,
+        is_signed(rt, &desk, &mut first),
+    ];
+    Ok(went == [true; 8])
+}
+
+#[test]
+fn a_sign_off_stays_with_its_revision(rt: HostRuntime) -> Result<(), NoMemory> {
+    assert!(rt; stays_with_its_revision(&rt, rt.alloc())?);
+    Ok(())
 }

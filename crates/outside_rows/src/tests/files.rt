@@ -11,7 +11,8 @@ use std::test::Fail;
 fn one_file(alloc: Global) -> Result<Rows<File>, NoMemory> {
     let name = Name::copy_of(alloc, b"a")?;
     let text = Name::copy_of(alloc, b"text")?;
-    only(alloc, File { name, text })
+    let file = File { name, text };
+    only(alloc, file)
 }
 
 #[test]

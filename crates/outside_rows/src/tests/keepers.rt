@@ -1,39 +1,100 @@
 //! Deeds that are kept in a cabinet.
 use super::exchanges::{keep, only};
-use desk_outside::{Deed, DeedKind, KeepFault, MemCabinet, MemKeeper};
+use desk_outside::{
+    Cabinet, Deed, DeedKind, KeepFault, KeeperGiven, KeeperHome, MemCabinet, MemKeeper,
+};
 use scan_model::{Name, NoMemory, Rows};
 use std::alloc::Global;
 use std::test::Fail;
 
 // A design without text.
+fn one_design(alloc: Global) -> Result<DeedKind, NoMemory> {
+    let name = Name::copy_of(alloc, b"c")?;
+    let text = Name::new(alloc);
+    Ok(DeedKind::Design { name, text })
+}
+
 fn one_deed(alloc: Global) -> Result<Deed, NoMemory> {
-    Ok(Deed {
-        by: 7,
-        what: DeedKind::Design {
-            name: Name::copy_of(alloc, b"c")?,
-            text: Name::new(alloc),
-        },
-    })
+    let what = one_design(alloc)?;
+    Ok(Deed { by: 7, what })
+}
+
+// A cabinet of one keeper without deeds, which hands out one keeper and then fails.
+fn one_keeper(alloc: Global) -> Result<MemCabinet, NoMemory> {
+    let keeper = MemKeeper::make(alloc, Rows::new(alloc))?;
+    let keepers = only(alloc, keeper)?;
+    let failing = only(alloc, 2)?;
+    MemCabinet::make_failing(alloc, keepers, failing)
+}
+
+// A keeper without deeds was asked for by that name.
+fn was_empty(given: &KeeperGiven, name: &[u8]) -> bool {
+    given.name.as_slice() == name && given.rows.is_empty()
+}
+
+// The one deed of a keeper was made by that seat, and the keeper has not failed.
+fn has_one_deed(home: &KeeperHome, by: u32) -> bool {
+    match home.rows.as_slice() {
+        [kept] => kept.by == by && home.faults == 0,
+        _ => false,
+    }
+}
+
+// One keeper was handed out, and came home with one deed of seat 7.
+fn is_home(cabinet: &MemCabinet) -> bool {
+    match (cabinet.given(), cabinet.home()) {
+        ([given], [home]) => was_empty(given, b"desk") && has_one_deed(home, 7),
+        _ => false,
+    }
+}
+
+// The deed is kept once, and then the cabinet fails.
+fn keeps_once<C: Cabinet>(cabinet: &mut C, deed: &Deed) -> bool
+where
+    C::K: Send,
+{
+    keep(cabinet, "desk", deed).is_ok()
+        && matches!(keep(cabinet, "desk", deed), Err(KeepFault::Failed))
 }
 
 #[test]
 fn a_keeper_comes_home(rt: HostRuntime) -> Result<(), Fail> {
     let alloc = rt.alloc();
     let deed = one_deed(alloc)?;
-    let keeper = MemKeeper::make(alloc, Rows::new(alloc))?;
-    let mut cabinet = MemCabinet::make_failing(alloc, only(alloc, keeper)?, only(alloc, 2)?)?;
-    keep(&mut cabinet, "desk", &deed)?;
-    assert_eq!(rt; keep(&mut cabinet, "desk", &deed), Err(KeepFault::Failed));
-    let ([given], [home]) = (cabinet.given(), cabinet.home()) else {
-        return Err(Fail::new("one keeper comes home"));
-    };
-    assert_eq!(rt; given.name.as_slice(), b"desk".as_slice());
-    assert!(rt; given.rows.is_empty());
-    let [kept] = home.rows.as_slice() else {
-        return Err(Fail::new("one deed is kept"));
-    };
-    assert_eq!(rt; (kept.by, home.faults), (7, 0));
+    let mut cabinet = one_keeper(alloc)?;
+    assert!(rt; keeps_once(&mut cabinet, &deed));
+    assert!(rt; is_home(&cabinet));
     Ok(())
+}
+
+// A cabinet of one keeper without deeds, which fails once.
+fn one_failing(alloc: Global) -> Result<MemCabinet, NoMemory> {
+    let failing = only(alloc, 1)?;
+    let keeper = MemKeeper::make_failing(alloc, Rows::new(alloc), failing)?;
+    let keepers = only(alloc, keeper)?;
+    MemCabinet::make(alloc, keepers)
+}
+
+// The first keeper fails, and the second keeps the deed.
+fn keeps_elsewhere<C: Cabinet>(cabinet: &mut C, deed: &Deed) -> bool
+where
+    C::K: Send,
+{
+    matches!(keep(cabinet, "desk", deed), Err(KeepFault::Failed))
+        && keep(cabinet, "shelf", deed).is_ok()
+}
+
+// So many deeds and faults came home with a keeper.
+fn has(home: &KeeperHome, deeds: usize, faults: u64) -> bool {
+    home.rows.len() == deeds && home.faults == faults
+}
+
+// Two keepers came home: one that failed, and one with a deed.
+fn are_home(cabinet: &MemCabinet) -> bool {
+    match cabinet.home() {
+        [first, second] => has(first, 0, 1) && has(second, 1, 0),
+        _ => false,
+    }
 }
 
 // A keeper that has failed comes home with its count.
@@ -41,14 +102,8 @@ fn a_keeper_comes_home(rt: HostRuntime) -> Result<(), Fail> {
 fn a_failed_keeper_comes_home(rt: HostRuntime) -> Result<(), Fail> {
     let alloc = rt.alloc();
     let deed = one_deed(alloc)?;
-    let keeper = MemKeeper::make_failing(alloc, Rows::new(alloc), only(alloc, 1)?)?;
-    let mut cabinet = MemCabinet::make(alloc, only(alloc, keeper)?)?;
-    assert_eq!(rt; keep(&mut cabinet, "desk", &deed), Err(KeepFault::Failed));
-    keep(&mut cabinet, "shelf", &deed)?;
-    let [first, second] = cabinet.home() else {
-        return Err(Fail::new("two keepers come home"));
-    };
-    assert_eq!(rt; (first.rows.len(), first.faults), (0, 1));
-    assert_eq!(rt; (second.rows.len(), second.faults), (1, 0));
+    let mut cabinet = one_failing(alloc)?;
+    assert!(rt; keeps_elsewhere(&mut cabinet, &deed));
+    assert!(rt; are_home(&cabinet));
     Ok(())
 }

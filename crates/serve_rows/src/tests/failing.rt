@@ -1,12 +1,9 @@
 //! A sink that fails once, at each of its writes in turn, while a design is put and looked at.
-use super::outsides::{door_with, empty_keeper, only};
-use desk_outside::{MemCabinet, MemSink, MemStreet};
-use desk_serve::{Serving, serve};
-use scan_model::Rows;
+use super::outsides::{Outside, one_door, one_keeper, serve_over};
+use desk_outside::LinkHome;
+use scan_model::NoMemory;
 use std::alloc::Global;
-use std::process::Abort;
 use std::sync::Wait;
-use std::test::Fail;
 use std::thread::Threads;
 
 const ASK: &[u8] =
@@ -49,46 +46,39 @@ const RUNS: [Run; 3] = [
     },
 ];
 
-// All that was handed out has come home: so many links with all replies, and so many deeds.
-fn came_home<R: Abort>(
-    rt: &R,
-    street: &MemStreet,
-    cabinet: &MemCabinet,
-    run: &Run,
-) -> Result<(), Fail> {
-    let ([door], [keeper]) = (street.home(), cabinet.home()) else {
-        return Err(Fail::new("a door and a keeper come home"));
-    };
-    assert_eq!(rt;
-        (door.done.len(), keeper.rows.len()),
-        (run.links, run.deeds)
-    );
-    for link in door.done.as_slice() {
-        assert_eq!(rt; link.sent.as_slice(), REPLIES);
+fn have_all_replies(links: &[LinkHome]) -> bool {
+    for link in links {
+        if link.sent.as_slice() != REPLIES {
+            return false;
+        }
     }
-    Ok(())
+    true
 }
 
-fn ends<R: Abort + Threads + Wait + Sync>(rt: &R, alloc: Global, run: &Run) -> Result<(), Fail> {
-    let mut street = MemStreet::make(alloc, only(alloc, door_with(alloc, ASK, 0)?)?)?;
-    let mut cabinet = MemCabinet::make(alloc, only(alloc, empty_keeper(alloc, 0)?)?)?;
-    let mut out = MemSink::make_failing(alloc, Rows::new(alloc), only(alloc, run.failing)?)?;
-    let asked = Serving {
-        port: 8080,
-        workers: 1,
-        sessions: 1,
-        store: "desk",
-    };
-    let ending = serve(rt, alloc, &asked, &mut out, &mut street, &mut cabinet);
-    assert_eq!(rt; ending.status(), run.status);
-    assert_eq!(rt; out.bytes(), run.lines);
-    came_home(rt, &street, &cabinet, run)
+// All that was handed out has come home: so many links with all replies, and so many deeds.
+fn is_home(outside: &Outside, run: &Run) -> bool {
+    match (outside.street.home(), outside.cabinet.home()) {
+        ([door], [keeper]) => {
+            door.done.len() == run.links
+                && keeper.rows.len() == run.deeds
+                && have_all_replies(door.done.as_slice())
+        }
+        _ => false,
+    }
+}
+
+fn ends<R: Threads + Wait + Sync>(rt: &R, alloc: Global, run: &Run) -> Result<bool, NoMemory> {
+    let doors = one_door(alloc, ASK)?;
+    let keepers = one_keeper(alloc, 0)?;
+    let mut outside = Outside::make(alloc, doors, keepers, 0, run.failing)?;
+    let ending = serve_over(rt, alloc, &mut outside, 1);
+    Ok(ending.status() == run.status && outside.out.bytes() == run.lines && is_home(&outside, run))
 }
 
 #[test]
-fn each_write_fails_in_turn(rt: HostRuntime) -> Result<(), Fail> {
+fn each_write_fails_in_turn(rt: HostRuntime) -> Result<(), NoMemory> {
     for run in &RUNS {
-        ends(&rt, rt.alloc(), run)?;
+        assert!(rt; ends(&rt, rt.alloc(), run)?);
     }
     Ok(())
 }

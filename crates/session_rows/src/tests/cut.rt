@@ -1,7 +1,6 @@
 //! Connections that are cut off anywhere, and connections that fail.
 use super::texts::*;
 use super::*;
-use desk_rows::finish_one;
 
 // A part of what is asked, what is sent once it is there, and the mark where that is a reply and not an interim one.
 struct Piece {
@@ -70,22 +69,13 @@ fn is_answered<R: Abort + Threads + Wait + Sync>(
     more: &[u8],
     end: SessionEnd,
 ) -> Result<(), Fail> {
-    let mut link = MemLink::make(alloc, joined(alloc, &[due.asked.as_slice(), more])?)?;
+    let asked = joined(alloc, &[due.asked.as_slice(), more])?;
+    let mut link = MemLink::make(alloc, asked)?;
     let keeper = MemKeeper::make(alloc, Rows::new(alloc))?;
-    let (desk, mut seat) = start_one(rt, alloc, keeper, 100)?;
-    let mut cache = ReportCache::make(alloc, 1)?;
-    let note = session(
-        rt,
-        alloc,
-        &desk,
-        &mut seat,
-        &mut cache,
-        &mut link,
-        &mut OpenGate,
-    );
-    assert_eq!(rt; note.end, end);
-    assert_eq!(rt; link.sent(), due.sent.as_slice());
-    assert_eq!(rt; note.marks.as_slice(), due.marks.as_slice());
+    let note = serve_new(rt, alloc, keeper, 100, 1, &mut link)?.note;
+    assert!(rt; note.end == end);
+    assert!(rt; link.sent() == due.sent.as_slice());
+    assert!(rt; note.marks.as_slice() == due.marks.as_slice());
     Ok(())
 }
 
@@ -136,12 +126,9 @@ fn ends_with_its_deeds<R: Abort + Threads + Wait + Sync, L: Link>(
     end: SessionEnd,
 ) -> Result<(), Fail> {
     let keeper = MemKeeper::make(alloc, Rows::new(alloc))?;
-    let (desk, mut seat) = start_one(rt, alloc, keeper, 100)?;
-    let mut cache = ReportCache::make(alloc, 1)?;
-    let note = session(rt, alloc, &desk, &mut seat, &mut cache, link, &mut OpenGate);
-    assert_eq!(rt; note.end, end);
-    let deeds = finish_one(alloc, desk, seat)?.deeds();
-    assert_eq!(rt; deeds, note.marks.as_slice().last().copied().unwrap_or(0));
+    let Outcome { note, book } = serve_new(rt, alloc, keeper, 100, 1, link)?;
+    assert!(rt; note.end == end);
+    assert!(rt; book.deeds() == note.marks.as_slice().last().copied().unwrap_or(0));
     Ok(())
 }
 

@@ -3,7 +3,6 @@ use super::texts::*;
 use super::*;
 use book::StartFault;
 use desk_outside::Keeper;
-use desk_rows::finish_one;
 use shared_desk::start;
 
 const ASKED: [&[u8]; 5] = [PUT_C17, PUT_OTHER, POST_FAILS, POST_PASSES, POST_OTHER];
@@ -63,21 +62,11 @@ fn keeper_after<R: Abort + Threads + Wait + Sync>(
     sent: &[u8],
     marks: &[u64],
 ) -> Result<MemKeeper, Fail> {
-    let (desk, mut seat) = start_one(rt, alloc, keeper, 5)?;
-    let mut cache = ReportCache::make(alloc, 1)?;
     let mut link = MemLink::make(alloc, asked)?;
-    let note = session(
-        rt,
-        alloc,
-        &desk,
-        &mut seat,
-        &mut cache,
-        &mut link,
-        &mut OpenGate,
-    );
-    assert_eq!(rt; link.sent(), sent);
-    assert_eq!(rt; note.marks.as_slice(), marks);
-    Ok(finish_one(alloc, desk, seat)?.close())
+    let Outcome { note, book } = serve_new(rt, alloc, keeper, 5, 1, &mut link)?;
+    assert!(rt; link.sent() == sent);
+    assert!(rt; note.marks.as_slice() == marks);
+    Ok(book.close())
 }
 
 // The deeds of the keeper are the five: over a new desk each request finds what it asks for.

@@ -94,19 +94,9 @@ fn link_after<R: Abort + Threads + Wait + Sync>(
     end: SessionEnd,
 ) -> Result<MemLink, Fail> {
     let keeper = MemKeeper::make(alloc, Rows::new(alloc))?;
-    let (desk, mut seat) = start_one(rt, alloc, keeper, 100)?;
-    let mut cache = ReportCache::make(alloc, 1)?;
     let mut link = MemLink::make(alloc, asked)?;
-    let note = session(
-        rt,
-        alloc,
-        &desk,
-        &mut seat,
-        &mut cache,
-        &mut link,
-        &mut OpenGate,
-    );
-    assert_eq!(rt; (note.marks.len(), note.end), (marks, end));
+    let note = serve_new(rt, alloc, keeper, 100, 1, &mut link)?.note;
+    assert!(rt; note.marks.len() == marks && note.end == end);
     Ok(link)
 }
 

@@ -15,36 +15,38 @@ pub(super) const DIGEST: [u8; 32] = [
 ];
 
 pub(super) fn design_deed(alloc: Global) -> Result<Deed, NoMemory> {
-    Ok(Deed {
-        by: 3,
-        what: DeedKind::Design {
-            name: Name::copy_of(alloc, b"c17")?,
-            text: Name::copy_of(alloc, C17)?,
-        },
-    })
+    let name = Name::copy_of(alloc, b"c17")?;
+    let text = Name::copy_of(alloc, C17)?;
+    let what = DeedKind::Design { name, text };
+    Ok(Deed { by: 3, what })
 }
 
 pub(super) fn log_deed(alloc: Global) -> Result<Deed, NoMemory> {
-    Ok(Deed {
-        by: 0,
-        what: DeedKind::Log {
-            design: Name::copy_of(alloc, b"c17")?,
-            die: Name::copy_of(alloc, b"D1")?,
-            text: Name::copy_of(alloc, FAILS)?,
-        },
+    let design = Name::copy_of(alloc, b"c17")?;
+    let die = Name::copy_of(alloc, b"D1")?;
+    let text = Name::copy_of(alloc, FAILS)?;
+    let what = DeedKind::Log { design, die, text };
+    Ok(Deed { by: 0, what })
+}
+
+fn what_is_signed(alloc: Global) -> Result<DeedKind, NoMemory> {
+    let design = Name::copy_of(alloc, b"c17")?;
+    let die = Name::copy_of(alloc, b"D1")?;
+    let signer = Name::copy_of(alloc, b"anna")?;
+    Ok(DeedKind::Sign {
+        design,
+        die,
+        revision: 1,
+        signer,
+        digest: Digest::from_bytes(DIGEST),
     })
 }
 
 pub(super) fn sign_deed(alloc: Global) -> Result<Deed, NoMemory> {
+    let what = what_is_signed(alloc)?;
     Ok(Deed {
         by: 4294967295,
-        what: DeedKind::Sign {
-            design: Name::copy_of(alloc, b"c17")?,
-            die: Name::copy_of(alloc, b"D1")?,
-            revision: 1,
-            signer: Name::copy_of(alloc, b"anna")?,
-            digest: Digest::from_bytes(DIGEST),
-        },
+        what,
     })
 }
 

@@ -1,12 +1,15 @@
-//! Stores of the three deeds.
+//! Stores of the three deeds, and what is tried with them.
 ghost use Rattle.std.specs.Prelude.{◌≡◌, None};
 
+use super::changed::{fails_at, refuses_all, refuses_row};
 use super::deeds::{design_deed, log_deed, sign_deed};
+use super::kept::{gives_none, holds_three, opens};
 use desk_outside::{Cabinet, Deed, Keeper};
 use keeper_sqlite::SqliteCabinet;
 use std::alloc::Global;
 use std::fs;
 use std::test::Fail;
+use std::thread::Threads;
 
 fn add<K: Keeper>(keeper: &mut K, deed: &Deed) -> Result<(), Fail> {
     match keeper.append(deed) {
@@ -33,9 +36,67 @@ fn fill<C: Cabinet>(alloc: Global, cabinet: &mut C, name: &str) -> Result<(), Fa
     added
 }
 
-// A new store of this name with the three deeds, which is closed.
-pub(super) fn make_store(rt: &HostRuntime, name: &str) -> Result<(), Fail> {
-    let _ = fs::remove_file(rt, name);
+/// What is tried with the store of a name.
+#[derive(Clone, Copy)]
+pub(super) enum Trial {
+    /// It takes the three deeds.
+    Fills,
+    /// It has the three deeds.
+    HoldsThree,
+    /// A book opens over them.
+    Opens,
+    /// No keeper is given.
+    GivesNone,
+    /// A row is a fault, which the keeper counts.
+    FailsAt { row: u64 },
+    /// No book opens, since the keeper fails.
+    Refuses,
+    /// No book opens, since a row is spoiled.
+    RefusesRow { row: u64 },
+}
+
+fn shows<R: Threads + Sync, C: Cabinet>(
+    threads: &R,
+    alloc: Global,
+    cabinet: &mut C,
+    name: &str,
+    trial: Trial,
+) -> Result<bool, Fail>
+    requires { C.told cabinet.old ≡ None }
+{
+    match trial {
+        Trial::Fills => {
+            fill(alloc, cabinet, name)?;
+            Ok(true)
+        }
+        Trial::HoldsThree => holds_three(cabinet, name),
+        Trial::Opens => opens(threads, alloc, cabinet, name),
+        Trial::GivesNone => Ok(gives_none(cabinet, name)),
+        Trial::FailsAt { row } => fails_at(cabinet, name, row),
+        Trial::Refuses => refuses_all(threads, alloc, cabinet, name),
+        Trial::RefusesRow { row } => refuses_row(threads, alloc, cabinet, name, row),
+    }
+}
+
+/// Whether the store of this name shows in a new cabinet of files what is tried. (The threads are those of the runtime too,
+/// which has them only where a test takes it. All trials go through here, since each function that names the cabinet's own
+/// type is long to prove.)
+pub(super) fn is_shown<R: Threads + Sync>(
+    rt: &HostRuntime,
+    threads: &R,
+    name: &str,
+    trial: Trial,
+) -> Result<bool, Fail> {
     let mut cabinet = SqliteCabinet::make(rt, rt.alloc());
-    fill(rt.alloc(), &mut cabinet, name)
+    shows(threads, rt.alloc(), &mut cabinet, name, trial)
+}
+
+/// Whether a new store of this name takes the three deeds.
+pub(super) fn is_made<R: Threads + Sync>(
+    rt: &HostRuntime,
+    threads: &R,
+    name: &str,
+) -> Result<bool, Fail> {
+    let _ = fs::remove_file(rt, name);
+    is_shown(rt, threads, name, Trial::Fills)
 }
