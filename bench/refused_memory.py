@@ -23,13 +23,27 @@ REFUSE = r'''
 #define _GNU_SOURCE
 #include <dlfcn.h>
 #include <errno.h>
-#include <stdio.h>
+#include <fcntl.h>
 #include <stdlib.h>
-static _Atomic long made;
+#include <sys/mman.h>
+#include <unistd.h>
+static _Atomic long unkept;
+static _Atomic long *made = &unkept;
 static long refused = -1;
+/* The program may end without its destructors, so the count stands in a file from the first allocation on. */
+static void begin(void) {
+    const char *at = getenv("REFUSE"), *to = getenv("COUNT");
+    refused = at ? atol(at) : 0;
+    int file = to && *to ? open(to, O_RDWR | O_CREAT, 0600) : -1;
+    if (file >= 0 && ftruncate(file, sizeof *made) == 0) {
+        void *kept = mmap(NULL, sizeof *made, PROT_READ | PROT_WRITE, MAP_SHARED, file, 0);
+        if (kept != MAP_FAILED) made = kept;
+    }
+    if (file >= 0) close(file);
+}
 static int refuse(void) {
-    if (refused < 0) { const char *at = getenv("REFUSE"); refused = at ? atol(at) : 0; }
-    return ++made == refused;
+    if (refused < 0) begin();
+    return ++*made == refused;
 }
 void *malloc(size_t n) {
     static void *(*next)(size_t);
@@ -42,11 +56,6 @@ void *realloc(void *p, size_t n) {
     if (!next) next = (void *(*)(void *, size_t))dlsym(RTLD_NEXT, "realloc");
     if (refuse()) { errno = ENOMEM; return NULL; }
     return next(p, n);
-}
-__attribute__((destructor)) static void count(void) {
-    const char *to = getenv("COUNT");
-    FILE *f = to ? fopen(to, "w") : NULL;
-    if (f) { fprintf(f, "%ld\n", made); fclose(f); }
 }
 '''
 # Under this variable the program finds the library that refuses.
@@ -78,8 +87,8 @@ class Refusing:
         return subprocess.Popen([PROGRAM, *words], cwd=DATA, env=env, stdout=subprocess.PIPE, stderr=subprocess.PIPE)
 
     def count(self):
-        with open(os.path.join(self.folder, 'count')) as number:
-            return int(number.read())
+        with open(os.path.join(self.folder, 'count'), 'rb') as number:
+            return int.from_bytes(number.read(), sys.byteorder)
 
     def diagnose(self, at):
         with open(os.path.join(DATA, '..', 'args')) as words:
