@@ -65,44 +65,62 @@ pub fn is_same(put: &Result<Put, PutFault>, at: u64) -> bool {
     matches!(put, Ok(Put::Same { number }) if *number == at)
 }
 
-#[test]
-fn a_design_is_put_once(rt: HostRuntime) -> Result<(), NoMemory> {
-    let alloc = rt.alloc();
-    let mut book = opened(&rt, alloc, 0, 10)?;
+// The same design comes twice, and then another of its name.
+fn is_put_once(alloc: Global, book: &mut Book<MemKeeper>) -> Result<bool, NoMemory> {
     let first = c17(alloc, b"11111")?;
     let other = c17(alloc, b"00000")?;
-    assert!(rt; is_created(&book.put_design(0, &first), 1));
-    assert!(rt; is_same(&book.put_design(1, &first), 1));
-    let taken = book.put_design(0, &other);
-    assert!(rt; matches!(taken, Err(PutFault::NameTaken { .. })));
-    assert_eq!(rt; book.deeds(), 1);
+    Ok(
+        is_created(&book.put_design(0, &first), 1)
+            && is_same(&book.put_design(1, &first), 1)
+            && matches!(&book.put_design(0, &other), Err(PutFault::NameTaken { .. }))
+            && book.deeds() == 1,
+    )
+}
+
+#[test]
+fn a_design_is_put_once(rt: HostRuntime) -> Result<(), NoMemory> {
+    let mut book = opened(&rt, rt.alloc(), 0, 10)?;
+    assert!(rt; is_put_once(rt.alloc(), &mut book)?);
     Ok(())
+}
+
+// Past its limit the book takes no log, and finds the design that it has.
+fn is_full(alloc: Global, book: &mut Book<MemKeeper>) -> Result<bool, NoMemory> {
+    let design = c17(alloc, b"11111")?;
+    Ok(
+        is_created(&book.put_design(0, &design), 1)
+            && matches!(
+                &put_log(alloc, book, FAILS),
+                Err(PutFault::Full { limit: 1 })
+            )
+            && is_same(&book.put_design(0, &design), 1),
+    )
 }
 
 #[test]
 fn a_full_book_knows_what_it_has(rt: HostRuntime) -> Result<(), NoMemory> {
-    let alloc = rt.alloc();
-    let mut book = opened(&rt, alloc, 0, 1)?;
-    let design = c17(alloc, b"11111")?;
-    assert!(rt; is_created(&book.put_design(0, &design), 1));
-    let full = put_log(alloc, &mut book, FAILS);
-    assert!(rt; matches!(full, Err(PutFault::Full { limit: 1 })));
-    assert!(rt; is_same(&book.put_design(0, &design), 1));
+    let mut book = opened(&rt, rt.alloc(), 0, 1)?;
+    assert!(rt; is_full(rt.alloc(), &mut book)?);
     Ok(())
+}
+
+// A log that is not kept at first is as new when it comes again.
+fn fails_once(alloc: Global, book: &mut Book<MemKeeper>) -> Result<bool, NoMemory> {
+    let design = c17(alloc, b"11111")?;
+    Ok(
+        is_created(&book.put_design(0, &design), 1)
+            && matches!(&put_log(alloc, book, FAILS), Err(PutFault::Failed))
+            && book.deeds() == 1
+            && book.faults() == 1
+            && is_created(&put_log(alloc, book, FAILS), 1)
+            && is_same(&put_log(alloc, book, FAILS), 1),
+    )
 }
 
 #[test]
 fn a_failed_append_changes_nothing(rt: HostRuntime) -> Result<(), NoMemory> {
-    let alloc = rt.alloc();
     // The opening asks for row 0, and the design's deed is the second call.
-    let mut book = opened(&rt, alloc, 3, 10)?;
-    let design = c17(alloc, b"11111")?;
-    assert!(rt; is_created(&book.put_design(0, &design), 1));
-    let failed = put_log(alloc, &mut book, FAILS);
-    assert!(rt; matches!(failed, Err(PutFault::Failed)));
-    assert_eq!(rt; book.deeds(), 1);
-    assert_eq!(rt; book.faults(), 1);
-    assert!(rt; is_created(&put_log(alloc, &mut book, FAILS), 1));
-    assert!(rt; is_same(&put_log(alloc, &mut book, FAILS), 1));
+    let mut book = opened(&rt, rt.alloc(), 3, 10)?;
+    assert!(rt; fails_once(rt.alloc(), &mut book)?);
     Ok(())
 }

@@ -49,41 +49,61 @@ fn is_signed(book: &Book<MemKeeper>) -> bool {
     }
 }
 
-#[test]
-fn a_sign_off_stays_with_its_revision(rt: HostRuntime) -> Result<(), NoMemory> {
-    let alloc = rt.alloc();
-    let mut book = opened(&rt, alloc, 0, 10)?;
+// The wrong digest is refused with the right one, which is then taken, once for its revision whatever comes after it.
+fn stays_signed<R: Threads + Sync>(
+    rt: &R,
+    alloc: Global,
+    book: &mut Book<MemKeeper>,
+) -> Result<bool, NoMemory> {
     let design = c17(alloc, b"11111")?;
-    assert!(rt; is_created(&book.put_design(0, &design), 1));
-    assert!(rt; is_created(&put_log(alloc, &mut book, FAILS), 1));
     let wrong = Digest::from_bytes([0; 32]);
     let right = Digest::from_bytes(RIGHT);
-    assert!(rt; is_right(&sign(&rt, alloc, &mut book, &wrong)));
-    assert!(rt; is_created(&sign(&rt, alloc, &mut book, &right), 1));
-    assert!(rt; is_created(&put_log(alloc, &mut book, PASSES), 2));
-    assert!(rt; is_same(&sign(&rt, alloc, &mut book, &right), 1));
-    assert!(rt; is_signed(&book));
+    Ok(
+        is_created(&book.put_design(0, &design), 1)
+            && is_created(&put_log(alloc, book, FAILS), 1)
+            && is_right(&sign(rt, alloc, book, &wrong))
+            && is_created(&sign(rt, alloc, book, &right), 1)
+            && is_created(&put_log(alloc, book, PASSES), 2)
+            && is_same(&sign(rt, alloc, book, &right), 1)
+            && is_signed(book),
+    )
+}
+
+#[test]
+fn a_sign_off_stays_with_its_revision(rt: HostRuntime) -> Result<(), NoMemory> {
+    let mut book = opened(&rt, rt.alloc(), 0, 10)?;
+    assert!(rt; stays_signed(&rt, rt.alloc(), &mut book)?);
     Ok(())
+}
+
+fn has_no_die(book: &Book<MemKeeper>) -> bool {
+    matches!(
+        &book.look_die(b"c17", b"D1", None),
+        Err(LookFault::UnknownDie)
+    )
+}
+
+fn has_one_revision(book: &Book<MemKeeper>) -> bool {
+    matches!(
+        &book.look_die(b"c17", b"D1", Some(2)),
+        Err(LookFault::UnknownRevision { have: 1 })
+    )
+}
+
+// There is no die before its log, and no second revision after it.
+fn tells_what_is_there(alloc: Global, book: &mut Book<MemKeeper>) -> Result<bool, NoMemory> {
+    let design = c17(alloc, b"11111")?;
+    Ok(
+        is_created(&book.put_design(0, &design), 1)
+            && has_no_die(book)
+            && is_created(&put_log(alloc, book, FAILS), 1)
+            && has_one_revision(book),
+    )
 }
 
 #[test]
 fn a_revision_that_is_not_there_is_told(rt: HostRuntime) -> Result<(), NoMemory> {
-    let alloc = rt.alloc();
-    let mut book = opened(&rt, alloc, 0, 10)?;
-    let design = c17(alloc, b"11111")?;
-    assert!(rt; is_created(&book.put_design(0, &design), 1));
-    assert!(rt;
-        matches!(
-            book.look_die(b"c17", b"D1", None),
-            Err(LookFault::UnknownDie)
-        )
-    );
-    assert!(rt; is_created(&put_log(alloc, &mut book, FAILS), 1));
-    assert!(rt;
-        matches!(
-            book.look_die(b"c17", b"D1", Some(2)),
-            Err(LookFault::UnknownRevision { have: 1 })
-        )
-    );
+    let mut book = opened(&rt, rt.alloc(), 0, 10)?;
+    assert!(rt; tells_what_is_there(rt.alloc(), &mut book)?);
     Ok(())
 }

@@ -20,6 +20,31 @@ fn is_body(alloc: Global, text: &[u8], revision: u64) -> Result<bool, Fail> {
     }
 }
 
+// The same of an object of these members.
+fn are_members(
+    alloc: Global,
+    revision: &str,
+    signer: &str,
+    digest: &str,
+    more: &str,
+) -> Result<bool, Fail> {
+    let text = format!(in alloc;
+        "{{\"revision\":{revision},\"signer\":\"{signer}\",\"digest\":\"{digest}\"{more}}}"
+    )?;
+    is_body(alloc, text.as_bytes(), 1)
+}
+
+// The same of an object with two signers, of which the first is not UTF-8.
+fn is_twice_signed(alloc: Global) -> Result<bool, Fail> {
+    let mut text = Name::copy_of(
+        alloc,
+        b"{\"signer\":\"\xff\",\"revision\":1,\"signer\":\"ann\",\"digest\":\"",
+    )?;
+    text.append(DIGEST.as_bytes())?;
+    text.append(b"\"}")?;
+    is_body(alloc, text.as_slice(), 1)
+}
+
 #[test]
 fn bodies(rt: HostRuntime) -> Result<(), Fail> {
     let alloc = rt.alloc();
@@ -34,18 +59,10 @@ fn bodies(rt: HostRuntime) -> Result<(), Fail> {
         ("1", "-ann", DIGEST, "", false),
         ("1", "ann", &DIGEST[..63], "", false),
     ] {
-        let text = format!(in alloc;
-            "{{\"revision\":{revision},\"signer\":\"{signer}\",\"digest\":\"{digest}\"{more}}}"
-        )?;
-        assert_eq!(rt; is_body(alloc, text.as_bytes(), 1)?, want, "{text}");
+        let taken = are_members(alloc, revision, signer, digest, more)?;
+        assert!(rt; taken == want, "{revision} {signer} {digest} {more}");
     }
     assert!(rt; !is_body(alloc, b"revision 1", 1)?);
-    let mut text = Name::copy_of(
-        alloc,
-        b"{\"signer\":\"\xff\",\"revision\":1,\"signer\":\"ann\",\"digest\":\"",
-    )?;
-    text.append(DIGEST.as_bytes())?;
-    text.append(b"\"}")?;
-    assert!(rt; !is_body(alloc, text.as_slice(), 1)?);
+    assert!(rt; !is_twice_signed(alloc)?);
     Ok(())
 }
