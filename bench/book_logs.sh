@@ -1,17 +1,15 @@
 #!/bin/sh
 # Times logs put into a book over a keeper in memory, a hundred of each die: 10,000 of 100 dies, then twice and four times
-# as many. Builds the program book_logs, which is proved first, in a copy of the repository.
+# as many. Builds the program book_logs, which is proved first.
 set -eu
 top=$(CDPATH='' cd -- "$(dirname -- "$0")/.." && pwd)
 work=$(mktemp -d)
 trap 'rm -rf "$work"' EXIT
-cp -a "$top/crates" "$top/crates.txt" "$top/HANDLES" "$work"
 mkdir -p "$work/crates/book_logs/src" "$work/crates/book_logs/proofs/put_log"
 cp "$top/bench/book_logs/main.rt.in" "$work/crates/book_logs/src/main.rt"
 cp "$top/bench/book_logs/put_log.antt.in" "$work/crates/book_logs/proofs/put_log/Answers.antt"
-echo 'book_logs: scan_model text_parts desk_outside diagnosis book' >>"$work/crates.txt"
+"$top/bench/kept_program.sh" "$work" book_logs 2 scan_model text_parts desk_outside diagnosis book
 cd "$work/crates/book_logs"
-rt run -- 1 >"$work/build.log" 2>&1 || { tail -5 "$work/build.log"; exit 1; }
 for count in 10000 20000 40000; do
     python3 - "$count" <<'PY'
 import resource, subprocess, sys

@@ -1,11 +1,10 @@
 #!/bin/sh
 # Times one flip of every net of made designs of 20, 50, 100 and 200 blocks, 512 patterns at a time, and tells how the time
-# grows. Builds the program flips, which is proved first, in a copy of the repository.
+# grows. Builds the program flips, which is proved first.
 set -eu
 top=$(CDPATH='' cd -- "$(dirname -- "$0")/.." && pwd)
 work=$(mktemp -d)
 trap 'rm -rf "$work"' EXIT
-cp -a "$top/crates" "$top/crates.txt" "$top/HANDLES" "$work"
 crate=$work/crates/flips
 mkdir -p "$crate/src" "$crate/proofs/changed_rows"
 cp "$top/bench/flips/main.rt.in" "$crate/src/main.rt"
@@ -15,8 +14,5 @@ for loop in flip_block:net flip_blocks:block flips:; do
     mkdir -p "$crate/proofs/$name"
     sed "s/FUNCTION/$name/; s/LOOP/loop${item:+-$item}/g" "$top/bench/flips/loop.antt.in" >"$crate/proofs/$name/Invariants.antt"
 done
-echo 'flips: scan_model packed_sim diagnosis' >>"$work/crates.txt"
-cd "$crate"
-python3 "$top/bench/made_bundles.py" 7 20 "$work/20" >/dev/null
-rt run -- "$work/20" 1 >"$work/build.log" 2>&1 || { tail -5 "$work/build.log"; exit 1; }
-exec python3 "$top/bench/flip_times.py" out/flips "$work" 20 50 100 200
+"$top/bench/kept_program.sh" "$work" flips 1 scan_model packed_sim diagnosis
+exec python3 "$top/bench/flip_times.py" "$crate/out/flips" "$work" 20 50 100 200

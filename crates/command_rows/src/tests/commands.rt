@@ -1,8 +1,11 @@
 //! Summaries and bundles. A demonstration takes too long for a test: `examples/run.sh` runs it.
 use super::runs::ran_after;
 use diag_report::summary_text;
-use diagnosis::read_bundle;
+use diagnosis::{BundleFault, read_bundle};
+use std::alloc::Global;
+use std::sync::Wait;
 use std::test::Fail;
+use std::thread::Threads;
 
 const SUMMARY: &[u8] = b"\
 inputs 5\n\
@@ -41,15 +44,23 @@ fn a_design_is_counted(rt: HostRuntime) -> Result<(), Fail> {
     Ok(())
 }
 
-// The patterns have no LF at their end.
+// Whether a bundle reads back to a design with c17's summary.
+fn has_summary(alloc: Global, bundle: &[u8]) -> Result<bool, BundleFault> {
+    let design = read_bundle(alloc, b"c17", bundle)?;
+    let summary = summary_text(alloc, design.parts())?;
+    Ok(summary.as_slice() == SUMMARY)
+}
+
+// Whether `pack` writes c17's bundle, of whose texts the patterns have no LF at their end.
+fn is_packed<R: Threads + Wait + Sync>(rt: &R, alloc: Global) -> Result<bool, Fail> {
+    let (status, text) = ran_after(rt, alloc, "pack", &["net", "scan", "bare", "near"])?;
+    let ends = text.ends_with(b"\n%scan\n%patterns\nCAPTURE 11111\n%neighbours\n");
+    Ok(status == 0 && ends && matches!(has_summary(alloc, &text), Ok(true)))
+}
+
 #[test]
 fn a_packed_design_reads_back(rt: HostRuntime) -> Result<(), Fail> {
-    let (status, text) = ran_after(&rt, rt.alloc(), "pack", &["net", "scan", "bare", "near"])?;
-    assert_eq!(rt; status, 0);
-    assert!(rt; text.ends_with(b"\n%scan\n%patterns\nCAPTURE 11111\n%neighbours\n"));
-    let design = read_bundle(rt.alloc(), b"c17", &text)?;
-    let summary = summary_text(rt.alloc(), design.parts())?;
-    assert_eq!(rt; summary.as_slice(), SUMMARY);
+    assert!(rt; is_packed(&rt, rt.alloc())?);
     Ok(())
 }
 
