@@ -1,7 +1,8 @@
-ghost use Rattle.std.specs.Prelude.{◌≡◌, ℕ, ◌+◌, ◌*◌, ◌<◌, ◌^◌, ◌==◌, not, [], length, slice_index_or, All, IfOk};
+ghost use Rattle.std.specs.Prelude.{◌≡◌, ℕ, ◌+◌, ◌*◌, ◌/◌, ◌<◌, ◌^◌, ◌==◌, not, [], length, slice_index_or, All, IfOk};
 ghost use Rattle.std.specs.Int.{bit_at};
 ghost use Rattle.scan_model.specs.Values.{is_unknown};
 ghost use Rattle.scan_model.specs.ChainShift.{value_at};
+ghost use Rattle.scan_model.specs.BitTable.{table_rows};
 
 use crate::bits::{value, write_rows};
 use crate::logs::Bit;
@@ -42,12 +43,27 @@ impl Expected {
         let mut known = vec![in alloc; 0u64; words]?;
         let mut ones = vec![in alloc; 0u64; words]?;
         write_rows(&mut known, &mut ones, points as usize, rows.as_slice());
-        Ok(Expected {
-            patterns: rows.len() as u32,
+        Ok(Expected::of_words(
+            rows.len() as u32,
             points,
-            known: Rows::from_vec(known),
-            ones: Rows::from_vec(ones),
-        })
+            Rows::from_vec(known),
+            Rows::from_vec(ones),
+        ))
+    }
+
+    /// Expected values from words of 64 patterns of a point, word by word: in which of them the value is known, and in which
+    /// it is 1. The bits past the last pattern say nothing.
+    pub fn of_words(patterns: u32, points: u32, known: Rows<u64>, ones: Rows<u64>) -> Expected
+        requires known { length known ≡ (patterns + 63) / 64 * points }
+        requires ones { length ones ≡ (patterns + 63) / 64 * points }
+        ensures { result ≡ table_rows known ones patterns points }
+    {
+        Expected {
+            patterns,
+            points,
+            known,
+            ones,
+        }
     }
 
     /// The known values of a point in 64 patterns: bit j is 1 where pattern 64 * word + j is expected to have 0 or 1. The
