@@ -1,6 +1,8 @@
 -- Empty lines say nothing of a circuit.
-use Rattle.std.proofs.Common.{◌≡◌, ℕ, ◌+◌, List, [], ◌∷◌, ◌++◌, length, map, fold, refl, sym, ap, ◌∙◌, arith, append-nil}
+use Rattle.std.proofs.Common.{◌≡◌, ℕ, ◌+◌, List, [], ◌∷◌, ◌++◌, length, map, fold, refl, sym, ap, subst, ◌∙◌, arith, append-nil}
 use Rattle.std.specs.Prelude.{flat_map}
+use Rattle.std.specs.List.{IsDistinct}
+use Rattle.std.specs.Str.{bytes_eq}
 use Rattle.scan_model.specs.Netlist.{netlist}
 use Rattle.scan_model.specs.NetlistLines.{Form, nothing}
 use Rattle.scan_model.specs.NetlistRules.{nets_of, new_output, outputs_of, pins_of, pins_after, defined_names}
@@ -50,6 +52,7 @@ pub whole : (kept : Lines) (fs : List Form) → IsRead kept fs → IsWhole kept
 whole kept fs read = record {
   defined = read.after.defined ∙ sym (ap (λ es. defined_names (forms_in es)) read.after.lines ∙ names_filled 1 fs);
   pins = read.after.pins ∙ sym (ap (λ es. length (pins_after [] (forms_in es))) read.after.lines ∙ ap length (pins_filled 1 [] fs));
+  differ = subst (IsDistinct bytes_eq) (sym read.after.defined) read.clean.differ;
   within = read.within;
 }
 

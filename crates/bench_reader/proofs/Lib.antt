@@ -8,6 +8,7 @@ pub mod OneMoreOutput
 pub mod NamesDiffer
 pub mod PartsOfLines
 pub mod CircuitOfLines
+pub mod NextNet
 pub mod EmptyLines
 pub mod ThirdRound
 pub mod Judged

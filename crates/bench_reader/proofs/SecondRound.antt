@@ -1,5 +1,5 @@
 -- The first line that passes a test, among the lines that are kept and among all.
-use Rattle.std.proofs.Common.{◌≡◌, ℕ, zero, suc, Bool, true, false, not, ◌&&◌, ◌||◌, ◌+◌, ◌<◌, List, [], ◌∷◌, length, take, Option, Some, None, option_map, Ok, refl, sym, ap, ◌∙◌, arith}
+use Rattle.std.proofs.Common.{◌≡◌, ℕ, zero, suc, Bool, true, false, not, ◌&&◌, ◌||◌, ◌+◌, ◌<◌, List, [], ◌∷◌, length, take, Option, Some, None, option_map, Ok, Err, refl, sym, ap, ◌∙◌, arith}
 use Rattle.std.specs.List.{list_any, AllByRecursion}
 use Rattle.std.specs.Str.{bytes_eq}
 use Rattle.std.specs.Cmp.Lexicographic.{bytes_decides}
@@ -10,7 +10,10 @@ use Rattle.scan_model.specs.TextFaults.{lowest, fault_from, first_fault, refused
 use Rattle.scan_model.specs.NetlistLines.{Form, form_of, nothing}
 use Rattle.scan_model.specs.NetlistRules.{uses_undefined_first, first_rule, second_rule, early_fault, forms_of, form_at, uses_of, used_names, defined_names}
 use Rattle.bench_reader.specs.Lines.{is_nothing}
-use Rattle.bench_reader.specs.Kept.{filled_from, first_line, uses_undefined}
+use Rattle.bench_reader.specs.Kept.{filled_from, first_line, uses_undefined, IsUndefined}
+use Rattle.text_parts.specs.Gives.{Fails}
+use Rattle.text_parts.specs.declared.fault.ReadFault.{ReadFault}
+use Rattle.text_parts.specs.declared.fault.ReadFault.TheVariants.{Text, NoMemory}
 
 module _ (passes : Form → Bool) (skips : passes nothing ≡ false) where
   is_said : (f : Form) (b : Bool) → is_nothing f ≡ b → passes f ≡ true → is_nothing f ≡ false
@@ -109,6 +112,19 @@ two_rounds ls x y first =
     ∙ ap (fault_from (second_rule ls) 0) (sym count)
     ∙ fault_is_first_line (uses_undefined (defined_names (forms_of ls))) refl (second_rule ls) 7 0 (forms_of ls)
     (λ k lt none. let at : 0 + k ≡ k = omega arith in ap (second_rule ls) at ∙ ap (λ b. lowest ((7, b) ∷ [])) (first_at (forms_of ls) k none))
+
+-- both rounds, by what the second found among the lines that are kept
+pub early_is : (ls : List (List ℕ)) (kept : List (ℕ × Form)) (defined : List (List ℕ)) (o : Option ℕ) → refused_or (first_fault (first_rule ls) (length ls)) (filled_from 1 (forms_of ls)) ≡ Ok kept
+    → kept ≡ filled_from 1 (forms_of ls) → defined ≡ defined_names (forms_of ls) → first_line (uses_undefined defined) kept ≡ o → early_fault ls ≡ option_map (λ n. (n, 7)) o
+early_is ls kept defined o first lines names is =
+    two_rounds ls (filled_from 1 (forms_of ls)) kept first ∙ ap (option_map (λ n. (n, 7))) (sym (sym is ∙ rw (lines, names) refl))
+
+-- the fault of a line that uses an undefined net is one of both
+pub second_fails : {Y : Type 0} (e : ReadFault) (early : Option (ℕ × ℕ)) (o : Option ℕ) (y : Y) → early ≡ option_map (λ n. (n, 7)) o → IsUndefined e o → Fails e (refused_or early y)
+second_fails NoMemory early o y is fault = tt
+second_fails (Text f) early o y is fault =
+    let seven : 7 ≡ f.rule = sym fault.1 in
+    ap (λ g. refused_or g y) (is ∙ ap (option_map (λ n. (n, 7))) fault.0) ∙ ap (λ r. Err (f.line, r)) seven
 
 pub all_known : (fs : List Form) → first_line (uses_undefined (defined_names fs)) (filled_from 1 fs) ≡ None → AllByRecursion (λ f. uses_undefined (defined_names fs) f ≡ false) fs
 all_known fs none = none_passes (uses_undefined (defined_names fs)) refl 1 fs none

@@ -1,6 +1,7 @@
 pub mod Tokens
 pub mod Lines
 pub mod Lists
+pub mod FirstRules
 pub mod Kept
 pub mod Clean
 pub mod Built

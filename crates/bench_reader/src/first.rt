@@ -1,16 +1,18 @@
 //! The first round: each line by itself and after those before it.
 
-ghost use Rattle.std.specs.Prelude.{◌≡◌, ◌≤◌, ◌<◌, ◌+◌, ◌^◌, [], length, IfOk, OnOk, Ok, None, not, false};
+ghost use Rattle.std.specs.Prelude.{◌≡◌, ◌≤◌, ◌<◌, ◌+◌, ◌^◌, [], ◌∷◌, length, IfOk, OnOk, Ok, None, not, true, false};
 ghost use Rattle.std.specs.List.{list_any};
-ghost use Rattle.scan_model.specs.Words.{is_short};
+ghost use Rattle.scan_model.specs.Words.{is_short, has_word};
 ghost use Rattle.scan_model.specs.TextFaults.{lowest};
 ghost use Rattle.scan_model.specs.NetlistLines.{form_of};
 ghost use Rattle.scan_model.specs.NetlistRules.{nets_of, new_output, pins_of, is_no_form, has_unknown_word, has_wrong_count, has_long_name, defines_among, first_rules, makes_past, net_limit, pin_limit};
 ghost use Rattle.text_parts.specs.Views.{nows};
 ghost use Rattle.bench_reader.specs.Lines.{line_view};
+ghost use Rattle.bench_reader.specs.FirstRules.{own_rules, passes_limit};
 
 use crate::driver::{driver_named, takes_one};
 use crate::line::Line;
+use crate::token::Token;
 use std::alloc::{AllocError, Global};
 use text_parts::{Names, has_refused_byte};
 
@@ -71,14 +73,27 @@ fn has_long_name(line: &Line<'_>) -> bool
     }
 }
 
-fn defines_among(defined: &Names<'_>, line: &Line<'_>) -> bool
-    ensures { result ≡ defines_among defined.now (line_view line.now) }
+// The lowest of rules 1 to 5, which look at the line alone, that it breaks.
+fn own_rule(bytes: &[u8], line: &Line<'_>) -> Option<u32>
+    requires { line_view line.now ≡ form_of bytes.now }
+    ensures { result ≡ lowest (own_rules bytes.now) }
 {
-    match line {
-        Line::Input(n) => defined.contains(n),
-        Line::Definition { net, .. } => defined.contains(net),
-        _ => false,
+    if has_refused_byte(bytes) {
+        return Some(1);
     }
+    if is_no_form(line) {
+        return Some(2);
+    }
+    if has_unknown_word(line) {
+        return Some(3);
+    }
+    if has_wrong_count(line) {
+        return Some(4);
+    }
+    if has_long_name(line) {
+        return Some(5);
+    }
+    None
 }
 
 // How many pins the line makes.
@@ -129,91 +144,79 @@ pub struct Lines<'a> {
 }
 
 impl<'a> Lines<'a> {
-    ghost use Rattle.bench_reader.specs.Kept.{AddsNet, Takes, IsWithin, IsAfter};
+    ghost use Rattle.bench_reader.specs.Kept.{AddsNets, Takes, TakesRest, IsWithin, IsAfter};
 
-    pub fn new(alloc: Global) -> Self
-        ensures within { IsWithin result }
-        ensures after { IsAfter result [] }
+    /// None so far of so many lines.
+    pub fn new(alloc: Global, count: usize) -> Result<Self, AllocError>
+        ensures within { IfOk result IsWithin }
+        ensures after { IfOk result (λ kept. IsAfter kept []) }
     {
-        Lines {
+        let room = count.min(NET_LIMIT);
+        Ok(Lines {
             lines: Vec::new(alloc),
-            defined: Names::new(alloc),
-            net_lines: Vec::new(alloc),
+            defined: Names::with_room(alloc, room)?,
+            net_lines: Vec::with_capacity(alloc, room)?,
             outputs: Names::new(alloc),
             pins: 0,
-        }
+        })
     }
 
-    // The lowest rule of the first round that a line breaks.
-    fn rule_of(&self, bytes: &[u8], line: &Line<'_>) -> Option<u32>
-        requires within { IsWithin self.now }
-        requires form { line_view line.now ≡ form_of bytes.now }
-        ensures rule { result ≡ lowest (first_rules self.now.defined self.now.outputs self.now.pins bytes.now) }
-        ensures nets { result ≡ None → length self.now.defined + length (nets_of (line_view line.now)) ≤ net_limit }
-        ensures pins { result ≡ None → self.now.pins + length (pins_of self.now.outputs (line_view line.now)) ≤ pin_limit }
+    // Rule 9: with the line there are more nets or pins than may be.
+    fn is_passed_by(&self, line: &Line<'_>) -> bool
+        requires { IsWithin self.now }
+        ensures rule { result ≡ passes_limit self.now.defined self.now.outputs self.now.pins (line_view line.now) }
+        ensures nets { result ≡ false → length self.now.defined + length (nets_of (line_view line.now)) ≤ net_limit }
+        ensures pins { result ≡ false → self.now.pins + length (pins_of self.now.outputs (line_view line.now)) ≤ pin_limit }
     {
-        if has_refused_byte(bytes) {
-            return Some(1);
-        }
-        if is_no_form(line) {
-            return Some(2);
-        }
-        if has_unknown_word(line) {
-            return Some(3);
-        }
-        if has_wrong_count(line) {
-            return Some(4);
-        }
-        if has_long_name(line) {
-            return Some(5);
-        }
-        if defines_among(&self.defined, line) {
-            return Some(6);
-        }
-        if makes_past(self.defined.len(), nets_made(line), NET_LIMIT) {
-            return Some(9);
-        }
-        if makes_past(self.pins, pins_made(&self.outputs, line), PIN_LIMIT) {
-            return Some(9);
-        }
-        None
+        makes_past(self.defined.len(), nets_made(line), NET_LIMIT)
+            || makes_past(self.pins, pins_made(&self.outputs, line), PIN_LIMIT)
     }
 
-    fn add_net(&mut self, number: u64, name: &'a [u8]) -> Result<(), AllocError>
-        ensures { OnOk result (AddsNet self.old self.new number name.now) }
+    // Adds a net of this name, defined by the line of this number, unless there is one; answers whether there was none.
+    fn add_net(&mut self, number: u64, name: &'a [u8]) -> Result<bool, AllocError>
+        ensures fresh { IfOk result (λ b. b ≡ not (has_word self.old.defined name.now)) }
+        ensures added { result ≡ Ok true → AddsNets self.old self.new number (name.now ∷ []) }
     {
-        self.defined.add(name)?;
+        if !self.defined.add_if_new(name)? {
+            return Ok(false);
+        }
         self.net_lines.push(number)?;
-        Ok(())
+        Ok(true)
     }
 
-    // Takes what a line says.
+    // Adds the net that the line defines, if it defines one; answers whether there was none of its name.
+    fn add_nets(&mut self, number: u64, line: &Line<'a>) -> Result<bool, AllocError>
+        ensures fresh { IfOk result (λ b. b ≡ not (defines_among self.old.defined (line_view line.now))) }
+        ensures added { result ≡ Ok true → AddsNets self.old self.new number (nets_of (line_view line.now)) }
+    {
+        match line {
+            Line::Input(n) => self.add_net(number, n),
+            Line::Definition { net, .. } => self.add_net(number, net),
+            _ => Ok(true),
+        }
+    }
+
+    // Takes what a line says, but for the net that it defines.
     fn add(&mut self, number: u64, line: Line<'a>) -> Result<(), AllocError>
         requires { self.old.pins + length (pins_of self.old.outputs (line_view line)) < 2 ^ 64 }
-        ensures { OnOk result (Takes self.old self.new number (line_view line.entry)) }
+        ensures { OnOk result (TakesRest self.old self.new number (line_view line.entry)) }
     {
         if line.is_nothing() {
             return Ok(());
         }
         self.pins += pins_made(&self.outputs, &line);
-        match &line {
-            Line::Input(n) => self.add_net(number, n)?,
-            Line::Output(n) => {
-                if !self.outputs.contains(n) {
-                    self.outputs.add(n)?;
-                }
-            }
-            Line::Definition { net, .. } => self.add_net(number, net)?,
-            _ => {}
+        if let Line::Output(n) = &line {
+            self.outputs.add_if_new(n)?;
         }
         self.lines.push(KeptLine { number, line })?;
         Ok(())
     }
 
-    /// Takes the line of this number, or answers the lowest rule that it breaks.
+    /// Takes the line of this number, or answers the lowest rule that it breaks. After a rule no more lines are to come.
     pub fn take_line(
         &mut self,
         alloc: Global,
+        tokens: &mut Vec<Token<'a>>,
         number: u64,
         bytes: &'a [u8],
     ) -> Result<Option<u32>, AllocError>
@@ -222,10 +225,17 @@ impl<'a> Lines<'a> {
         ensures taken { result ≡ Ok None → Takes self.old self.new number (form_of bytes.now) }
         ensures within { result ≡ Ok None → IsWithin self.new }
     {
-        let line = Line::of_bytes(alloc, bytes)?;
-        let rule = self.rule_of(bytes, &line);
-        if rule.is_some() {
-            return Ok(rule);
+        let line = Line::of_bytes(alloc, tokens, bytes)?;
+        if let Some(rule) = own_rule(bytes, &line) {
+            return Ok(Some(rule));
+        }
+        // Told after rule 6, and found before the net is added.
+        let is_past = self.is_passed_by(&line);
+        if !self.add_nets(number, &line)? {
+            return Ok(Some(6));
+        }
+        if is_past {
+            return Ok(Some(9));
         }
         self.add(number, line)?;
         Ok(None)

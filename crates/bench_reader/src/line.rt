@@ -178,11 +178,15 @@ impl<'a> Line<'a> {
         }
     }
 
-    /// The form of a line.
-    pub fn of_bytes(alloc: Global, line: &'a [u8]) -> Result<Self, AllocError>
+    /// The form of a line, whose tokens take the place of those found before.
+    pub fn of_bytes(
+        alloc: Global,
+        tokens: &mut Vec<Token<'a>>,
+        line: &'a [u8],
+    ) -> Result<Self, AllocError>
         ensures { IfOk result (λ r. line_view r ≡ form_of line.now) }
     {
-        let tokens = Token::all(alloc, without_comment(line))?;
-        Line::of_tokens(alloc, &tokens)
+        Token::refill(tokens, without_comment(line))?;
+        Line::of_tokens(alloc, tokens)
     }
 }

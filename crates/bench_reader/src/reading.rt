@@ -1,25 +1,20 @@
 //! The rounds over a whole netlist.
 
-ghost use Rattle.std.specs.Prelude.{◌≡◌, IfOk, length, not};
-ghost use Rattle.std.specs.List.{list_any};
+ghost use Rattle.std.specs.Prelude.{◌≡◌, IfOk, length};
 ghost use Rattle.scan_model.specs.Lines.{text_lines};
-ghost use Rattle.scan_model.specs.Words.{has_word};
 ghost use Rattle.scan_model.specs.Netlist.{netlist};
 ghost use Rattle.scan_model.specs.TextFaults.{HasNoFault, IsFirstInRounds, first_fault, refused_or};
 ghost use Rattle.scan_model.specs.NetlistRules.{forms_of, first_rule, early_fault};
 ghost use Rattle.scan_model.specs.NetlistText.{circuit_of, netlist_breaks, netlist_rounds, netlist_reading};
-ghost use Rattle.text_parts.specs.Views.{nows};
 ghost use Rattle.text_parts.specs.Gives.{Gives, IfFault};
-ghost use Rattle.bench_reader.specs.Lines.{line_view};
-ghost use Rattle.bench_reader.specs.Kept.{kept_views, filled_from, uses_undefined, first_line};
-ghost use Rattle.bench_reader.specs.Clean.{IsRead, AreKnown};
+ghost use Rattle.bench_reader.specs.Kept.{kept_views, filled_from};
+ghost use Rattle.bench_reader.specs.Clean.{IsRead};
 
 use crate::build::{built_of, numbers_of};
 use crate::first::Lines;
-use crate::line::Line;
 use scan_model::{Circuit, MakeFault, Net, Pin, Rows};
 use std::alloc::Global;
-use text_parts::{Names, ReadFault, TextFault, lines_of};
+use text_parts::{ReadFault, TextFault, lines_of};
 
 // The lines of a netlist that are not empty, or its first fault by the first round.
 fn first_round(alloc: Global, bytes: &[u8]) -> Result<Lines<'_>, ReadFault>
@@ -27,54 +22,13 @@ fn first_round(alloc: Global, bytes: &[u8]) -> Result<Lines<'_>, ReadFault>
     ensures read { IfOk result (λ kept. IsRead kept (forms_of (text_lines bytes.now))) }
 {
     let texts = lines_of(alloc, bytes)?;
-    let mut kept = Lines::new(alloc);
+    let mut kept = Lines::new(alloc, texts.len())?;
+    let mut tokens = Vec::new(alloc);
     for (i, text) in texts.iter().enumerate() {
         let line = i as u64 + 1;
-        if let Some(rule) = kept.take_line(alloc, line, text)? {
+        if let Some(rule) = kept.take_line(alloc, &mut tokens, line, text)? {
             return Err(ReadFault::Text(TextFault { line, rule }));
         }
-    }
-    Ok(kept)
-}
-
-fn lacks(defined: &Names<'_>, names: &[&[u8]]) -> bool
-    ensures { result ≡ list_any (λ n. not (has_word defined.now n)) (nows names.now) }
-{
-    names.iter().any(|n| !defined.contains(n))
-}
-
-// The line uses a net that no line defines.
-fn uses_undefined(defined: &Names<'_>, line: &Line<'_>) -> bool
-    ensures { result ≡ uses_undefined defined.now (line_view line.now) }
-{
-    match line {
-        Line::Output(n) => !defined.contains(n),
-        Line::Definition { operands, .. } => lacks(defined, operands),
-        _ => false,
-    }
-}
-
-// The number of the first line that uses a net that no line defines.
-fn first_undefined(kept: &Lines<'_>) -> Option<u64>
-    ensures { result ≡ first_line (uses_undefined kept.now.defined) (kept_views kept.now.lines.items) }
-{
-    for line in &kept.lines {
-        if uses_undefined(&kept.defined, &line.line) {
-            return Some(line.number);
-        }
-    }
-    None
-}
-
-// The lines of a netlist that are not empty, or its first fault by the first two rounds.
-fn read_lines(alloc: Global, bytes: &[u8]) -> Result<Lines<'_>, ReadFault>
-    ensures fault { Gives (λ kept. kept_views kept.lines.items) result (refused_or (early_fault (text_lines bytes.now)) (filled_from 1 (forms_of (text_lines bytes.now)))) }
-    ensures read { IfOk result (λ kept. IsRead kept (forms_of (text_lines bytes.now))) }
-    ensures known { IfOk result (λ kept. AreKnown (forms_of (text_lines bytes.now))) }
-{
-    let kept = first_round(alloc, bytes)?;
-    if let Some(line) = first_undefined(&kept) {
-        return Err(ReadFault::Text(TextFault { line, rule: 7 }));
     }
     Ok(kept)
 }
@@ -97,7 +51,7 @@ impl Draft {
         ensures fault { Gives (λ d. netlist d.nets d.pins d.inputs d.outputs) result (refused_or (early_fault (text_lines bytes.now)) (circuit_of bytes.now)) }
         ensures draft { IfOk result (λ d. IsDraft d (forms_of (text_lines bytes.now))) }
     {
-        let kept = read_lines(alloc, bytes)?;
+        let kept = first_round(alloc, bytes)?;
         let built = built_of(alloc, &kept)?;
         let outputs = numbers_of(alloc, &kept.defined, built.outputs.as_slice())?;
         Ok(Draft {

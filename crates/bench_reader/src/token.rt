@@ -1,12 +1,12 @@
 //! The tokens of a line.
 
-ghost use Rattle.std.specs.Prelude.{◌≡◌, ◌≤◌, ◌<◌, IfOk, map, length};
+ghost use Rattle.std.specs.Prelude.{◌≡◌, ◌≤◌, ◌<◌, OnOk, map, length};
 ghost use Rattle.std.specs.List.{prefix_len};
 ghost use Rattle.scan_model.specs.Lines.{without_comment};
 ghost use Rattle.scan_model.specs.Words.{is_name_byte};
 ghost use Rattle.scan_model.specs.NetlistLines.{tokens};
 
-use std::alloc::{AllocError, Global};
+use std::alloc::AllocError;
 use text_parts::{is_blank, is_name_byte};
 
 /// A name, a sign, or a byte that is neither.
@@ -36,11 +36,11 @@ impl<'a> Token<'a> {
         }
     }
 
-    /// The tokens of a line without its comment.
-    pub fn all(alloc: Global, line: &'a [u8]) -> Result<Vec<Self>, AllocError>
-        ensures { IfOk result (λ v. token_views v.items ≡ tokens line.now) }
+    /// Puts the tokens of a line without its comment in place of those found before.
+    pub fn refill(found: &mut Vec<Self>, line: &'a [u8]) -> Result<(), AllocError>
+        ensures { OnOk result (token_views found.new.items ≡ tokens line.now) }
     {
-        let mut found = Vec::new(alloc);
+        found.clear();
         let mut rest = line;
         while let [first, after @ ..] = rest {
             if is_blank(*first) {
@@ -54,7 +54,7 @@ impl<'a> Token<'a> {
                 rest = after;
             }
         }
-        Ok(found)
+        Ok(())
     }
 }
 

@@ -1,6 +1,7 @@
 pub mod LogViews
 pub mod Frames
 pub mod BitNumbers
+pub mod NamedBy
 pub mod Kept
 pub mod Taken
 pub mod LineFacts

@@ -1,19 +1,12 @@
 //! The bits that fail lines name.
 
-ghost use Rattle.std.specs.Prelude.{◌≡◌, ◌*◌, ◌<◌, ◌≤◌, length, map, All, IfOk};
-ghost use Rattle.std.specs.List.{position_or_len};
-ghost use Rattle.std.specs.Str.{bytes_eq};
-ghost use Rattle.fail_logs.specs.LogViews.{line_view};
-ghost use Rattle.fail_logs.specs.Frames.{frame_view, places_view};
-ghost use Rattle.fail_logs.specs.BitNumbers.{bit_number, bit_numbered, place_in, number_named};
+ghost use Rattle.std.specs.Prelude.{◌≡◌, ◌*◌, ◌<◌, ◌≤◌, map, All, IfOk, option_map};
+ghost use Rattle.fail_logs.specs.BitNumbers.{bit_number, bit_numbered};
 ghost use Rattle.fail_logs.specs.Rising.{IsRisingOf, IsBitsOf};
 
-use crate::frame::Frame;
-use crate::line::LogLine;
-use crate::number::number;
+use crate::look_up::Named;
 use scan_model::{Bit, Rows};
 use std::alloc::{AllocError, Global};
-use text_parts::number_of;
 
 // The number of a bit in bit order.
 fn bit_number(points: usize, pattern: u32, point: usize) -> u64
@@ -24,37 +17,15 @@ fn bit_number(points: usize, pattern: u32, point: usize) -> u64
     pattern as u64 * points as u64 + point as u64
 }
 
-// The point of the cell at a position of the chain with the name.
-fn cell_point(frame: &Frame<'_>, chain: &[u8], pos: u32) -> u32
-    ensures { result ≡ place_in (places_view frame.now) (position_or_len (bytes_eq chain.now) frame.now.chains) pos }
+/// The number of the bit that a fail line names, where so many points follow each pattern.
+pub fn number_named(points: usize, named: Named) -> Option<u64>
+    requires points { points ≤ 131072 }
+    ensures { result ≡ option_map (λ p. bit_number points p named.point) named.pattern }
 {
-    match frame.places.get(frame.chains.place_or_len(chain)) {
-        Some(row) => match row.get(pos as usize) {
-            Some(point) => *point,
-            None => 0,
-        },
-        None => 0,
-    }
-}
-
-/// The number of the bit that a fail line names.
-pub fn number_named(frame: &Frame<'_>, line: LogLine<'_>) -> Option<u64>
-    requires outputs { length frame.now.outputs ≤ 131072 }
-    requires points { length frame.now.points.now ≤ 131072 }
-    ensures { result ≡ number_named (frame_view frame.now) (places_view frame.now) (line_view line.entry) }
-{
-    let points = frame.points.len();
-    match line {
-        LogLine::Out(p, name) => {
-            let point = frame.outputs.place_or_len(name);
-            number_of(p).map(|pattern| bit_number(points, pattern, point))
-        }
-        LogLine::Cell(p, chain, pos) => {
-            let point = cell_point(frame, chain, number(pos)) as usize;
-            number_of(p).map(|pattern| bit_number(points, pattern, point))
-        }
-        _ => None,
-    }
+    let point = named.point as usize;
+    named
+        .pattern
+        .map(|pattern| bit_number(points, pattern, point))
 }
 
 // The numbers in rising order, each once.

@@ -12,10 +12,11 @@ ghost use Rattle.fail_logs.specs.Kept.{with_line};
 use crate::bits::number_named;
 use crate::frame::Frame;
 use crate::line::LogLine;
+use crate::look_up::Named;
 use crate::number::number;
 use crate::rules::{Headers, later_rule};
 use std::alloc::{AllocError, Global};
-use text_parts::{has_refused_byte, words_of};
+use text_parts::{fill_words, has_refused_byte};
 
 fn is_title(words: &[&[u8]]) -> bool
     ensures { result ≡ is_title (nows words.now) }
@@ -103,6 +104,7 @@ pub struct Kept {
 }
 
 impl Kept {
+    ghost use Rattle.fail_logs.specs.NamedBy.{IsNamedBy};
     ghost use Rattle.fail_logs.specs.Taken.{Takes, Adds, IsAfter};
 
     pub fn new(alloc: Global) -> Self
@@ -121,40 +123,41 @@ impl Kept {
         }
     }
 
-    // Adds a line that breaks no rule.
-    fn add(&mut self, frame: &Frame<'_>, line: LogLine<'_>) -> Result<(), AllocError>
-        requires outputs { length frame.now.outputs ≤ 131072 }
+    // Adds a line that breaks no rule, where this is what it names.
+    fn add(&mut self, frame: &Frame<'_>, line: LogLine<'_>, named: Named) -> Result<(), AllocError>
+        requires named { IsNamedBy (frame_view frame.now) (places_view frame.now) (line_view line) named }
         requires points { length frame.now.points.now ≤ 131072 }
         ensures { OnOk result (Adds (frame_view frame.now) (places_view frame.now) self.old self.new (line_view line.entry)) }
     {
-        add_number(&mut self.fails, number_named(frame, line))?;
+        add_number(&mut self.fails, number_named(frame.points.len(), named))?;
         self.headers = with_line(self.headers, line);
         self.truncated = self.truncated || is_truncated(line);
         self.closed = is_end(line);
         Ok(())
     }
 
-    /// Takes a line, or answers the lowest rule that it breaks.
-    pub fn take_line(
+    /// Takes a line, or answers the lowest rule that it breaks. The list is room for its words.
+    pub fn take_line<'a>(
         &mut self,
-        alloc: Global,
+        list: &mut Vec<&'a [u8]>,
         frame: &Frame<'_>,
-        bytes: &[u8],
+        bytes: &'a [u8],
     ) -> Result<Option<u32>, AllocError>
         requires outputs { length frame.now.outputs ≤ 131072 }
         requires points { length frame.now.points.now ≤ 131072 }
         ensures rule { IfOk result (λ r. r ≡ lowest (log_rules (frame_view frame.now) self.old.titled self.old.closed (headers_view self.old.headers) bytes.now)) }
         ensures taken { result ≡ Ok None → Takes (frame_view frame.now) (places_view frame.now) self.old self.new (words bytes.now) }
     {
-        let words = words_of(alloc, bytes)?;
+        fill_words(list, bytes)?;
         if has_refused_byte(bytes) {
             return Ok(Some(51));
         }
+        let words = list.as_slice();
         if words.is_empty() {
             return Ok(None);
         }
         if !self.titled {
-            if !is_title(&words) {
+            if !is_title(words) {
                 return Ok(Some(52));
             }
             self.titled = true;
@@ -163,12 +166,13 @@ impl Kept {
         if self.closed {
             return Ok(Some(62));
         }
-        let line = LogLine::of_words(&words);
-        let rule = later_rule(frame, self.headers, line);
+        let line = LogLine::of_words(words);
+        let named = Named::of_line(frame, line);
+        let rule = later_rule(frame, self.headers, line, named);
         if rule.is_some() {
             return Ok(rule);
         }
-        self.add(frame, line)?;
+        self.add(frame, line, named)?;
         Ok(None)
     }
 }

@@ -5,6 +5,7 @@ mod bits;
 mod frame;
 mod kept;
 mod line;
+mod look_up;
 mod number;
 mod reading;
 mod rules;

@@ -26,8 +26,9 @@ fn read_lines(alloc: Global, frame: &Frame<'_>, bytes: &[u8]) -> Result<Kept, Re
 {
     let texts = lines_of(alloc, bytes)?;
     let mut kept = Kept::new(alloc);
+    let mut words = Vec::new(alloc);
     for (i, text) in texts.iter().enumerate() {
-        if let Some(rule) = kept.take_line(alloc, frame, text)? {
+        if let Some(rule) = kept.take_line(&mut words, frame, text)? {
             let line = i as u64 + 1;
             return Err(ReadFault::Text(TextFault { line, rule }));
         }

@@ -2,14 +2,15 @@
 
 ghost use Rattle.std.specs.Prelude.{◌≡◌};
 ghost use Rattle.scan_model.specs.TextFaults.{lowest};
-ghost use Rattle.scan_model.specs.LogText.{is_other, has_no_number, has_other_design, has_other_die, has_bad_range, is_nowhere, is_untested, pattern_named, is_out_of_shift, is_misplaced, later_rules, chain_length};
+ghost use Rattle.scan_model.specs.LogText.{is_other, has_other_design, has_other_die, has_bad_range, is_untested, pattern_named, is_out_of_shift, is_misplaced, later_rules};
 ghost use Rattle.fail_logs.specs.LogViews.{line_view};
-ghost use Rattle.fail_logs.specs.Frames.{frame_view, headers_view, range_view};
+ghost use Rattle.fail_logs.specs.Frames.{frame_view, places_view, headers_view, range_view};
+ghost use Rattle.fail_logs.specs.NamedBy.{IsNamedBy};
 
 use crate::frame::Frame;
 use crate::line::LogLine;
-use crate::number::{is_number, number};
-use text_parts::number_of;
+use crate::look_up::Named;
+use crate::number::number;
 
 /// The header lines that came: whether a `die` and a `design` line, and the range of the first `tested` line.
 #[derive(Clone, Copy)]
@@ -23,17 +24,6 @@ fn is_other(line: LogLine<'_>) -> bool
     ensures { result ≡ is_other (line_view line.entry) }
 {
     matches!(line, LogLine::Other)
-}
-
-fn has_no_number(line: LogLine<'_>) -> bool
-    ensures { result ≡ has_no_number (line_view line.entry) }
-{
-    match line {
-        LogLine::Tested(a, b) => !(is_number(a) && is_number(b)),
-        LogLine::Out(p, _) => !is_number(p),
-        LogLine::Cell(p, _, pos) => !(is_number(p) && is_number(pos)),
-        _ => false,
-    }
 }
 
 fn has_other_design(frame: &Frame<'_>, line: LogLine<'_>) -> bool
@@ -67,37 +57,6 @@ fn has_bad_range(frame: &Frame<'_>, line: LogLine<'_>) -> bool
     }
 }
 
-// The length of the chain with the name.
-fn chain_length(frame: &Frame<'_>, name: &[u8]) -> usize
-    ensures { result ≡ chain_length (frame_view frame.now) name.now }
-{
-    match frame.lengths.get(frame.chains.place_or_len(name)) {
-        Some(n) => *n,
-        None => 0,
-    }
-}
-
-fn is_nowhere(frame: &Frame<'_>, line: LogLine<'_>) -> bool
-    ensures { result ≡ is_nowhere (frame_view frame.now) (line_view line.entry) }
-{
-    match line {
-        LogLine::Out(_, n) => !frame.outputs.contains(n),
-        LogLine::Cell(_, c, pos) => !((number(pos) as usize) < chain_length(frame, c)),
-        _ => false,
-    }
-}
-
-/// The pattern that a fail line names.
-pub fn pattern_named(line: LogLine<'_>) -> Option<u32>
-    ensures { result ≡ pattern_named (line_view line.entry) }
-{
-    match line {
-        LogLine::Out(p, _) => number_of(p),
-        LogLine::Cell(p, _, _) => number_of(p),
-        _ => None,
-    }
-}
-
 fn is_untested(tested: Option<(u32, u32)>, pattern: Option<u32>) -> bool
     ensures { result ≡ is_untested (range_view tested) pattern }
 {
@@ -110,11 +69,13 @@ fn is_untested(tested: Option<(u32, u32)>, pattern: Option<u32>) -> bool
     }
 }
 
-fn is_out_of_shift(frame: &Frame<'_>, line: LogLine<'_>) -> bool
+// The pattern is the one that the line names.
+fn is_out_of_shift(frame: &Frame<'_>, line: LogLine<'_>, pattern: Option<u32>) -> bool
+    requires { pattern ≡ pattern_named (line_view line) }
     ensures { result ≡ is_out_of_shift (frame_view frame.now) (line_view line.entry) }
 {
     match line {
-        LogLine::Out(p, _) => match frame.shifts.get(number(p) as usize) {
+        LogLine::Out(_, _) => match frame.shifts.get(pattern.unwrap_or(0) as usize) {
             Some(shift) => *shift,
             None => false,
         },
@@ -134,14 +95,20 @@ fn is_misplaced(headers: Headers, line: LogLine<'_>) -> bool
     }
 }
 
-/// The lowest rule that a line breaks, after these headers.
-pub fn later_rule(frame: &Frame<'_>, headers: Headers, line: LogLine<'_>) -> Option<u32>
+/// The lowest rule that a line breaks, after these headers, where this is what it names.
+pub fn later_rule(
+    frame: &Frame<'_>,
+    headers: Headers,
+    line: LogLine<'_>,
+    named: Named,
+) -> Option<u32>
+    requires { IsNamedBy (frame_view frame.now) (places_view frame.now) (line_view line) named }
     ensures { result ≡ lowest (later_rules (frame_view frame.now) (headers_view headers) (line_view line.entry)) }
 {
     if is_other(line) {
         return Some(53);
     }
-    if has_no_number(line) {
+    if named.numberless {
         return Some(54);
     }
     if has_other_design(frame, line) {
@@ -153,13 +120,13 @@ pub fn later_rule(frame: &Frame<'_>, headers: Headers, line: LogLine<'_>) -> Opt
     if has_bad_range(frame, line) {
         return Some(57);
     }
-    if is_nowhere(frame, line) {
+    if named.nowhere {
         return Some(58);
     }
-    if is_untested(headers.tested, pattern_named(line)) {
+    if is_untested(headers.tested, named.pattern) {
         return Some(59);
     }
-    if is_out_of_shift(frame, line) {
+    if is_out_of_shift(frame, line, named.pattern) {
         return Some(60);
     }
     if is_misplaced(headers, line) {

@@ -150,10 +150,22 @@ fn character_value(b: u8) -> Tri
     Tri::Unknown
 }
 
+// Writes the values of characters over as many values.
+fn write_values(values: &mut [Tri], word: &[u8])
+    requires { length values.old ≡ length word.now }
+    ensures { values.new ≡ map character_value word.now }
+{
+    for (i, b) in word.iter().enumerate() {
+        values[i] = character_value(*b);
+    }
+}
+
 fn characters_values(alloc: Global, word: &[u8]) -> Result<Vec<Tri>, AllocError>
     ensures { IfOk result (λ values. values.items ≡ map character_value word.now) }
 {
-    word.iter().map(|b| character_value(*b)).collect(alloc)
+    let mut values = vec![in alloc; Tri::Unknown; word.len()]?;
+    write_values(values.as_mut_slice(), word);
+    Ok(values)
 }
 
 fn values_of(alloc: Global, word: &[u8]) -> Result<Rows<Tri>, NoMemory>

@@ -1,4 +1,4 @@
-ghost use Rattle.std.specs.Prelude.{◌≡◌, ◌≤◌, ℕ, [], ◌∷◌, ◌++◌, length, take, position, OnOk, OnErr, IfOk, Ok, true, false, not};
+ghost use Rattle.std.specs.Prelude.{◌≡◌, ◌≢◌, ◌≤◌, ℕ, [], ◌∷◌, ◌++◌, length, take, position, OnOk, OnErr, IfOk, Ok, true, false, not};
 ghost use Rattle.std.specs.List.{list_any, position_or_len};
 ghost use Rattle.std.specs.Str.{bytes_eq};
 ghost use Rattle.scan_model.specs.ScanText.{net_names, stands_again};
@@ -39,11 +39,21 @@ impl<'a> Names<'a> {
         }
     }
 
+    /// No names, with room for this many.
+    pub fn with_room(alloc: Global, count: usize) -> Result<Self, AllocError>
+        ensures { IfOk result (λ names. names ≡ []) }
+    {
+        Ok(Names {
+            list: Vec::with_capacity(alloc, count)?,
+            places: HashMap::with_capacity(alloc, count)?,
+        })
+    }
+
     /// The names of nets, in their order.
     pub fn of_nets(alloc: Global, nets: &'a [Net]) -> Result<Self, AllocError>
         ensures { IfOk result (λ names. names ≡ net_names nets.now) }
     {
-        let mut names = Names::new(alloc);
+        let mut names = Names::with_room(alloc, nets.len())?;
         for net in nets {
             names.add(net.name.as_slice())?;
         }
@@ -94,11 +104,26 @@ impl<'a> Names<'a> {
         ensures part { (k : ℕ) × (self.new ≡ self.old ++ nows (take k names.now)) }
     {
         for name in names {
-            if self.contains(name) {
+            if !self.add_if_new(name)? {
                 return Ok(false);
             }
-            self.add(name)?;
         }
+        Ok(true)
+    }
+
+    /// Adds a name at the end, unless it is there already, and answers whether it is new.
+    pub fn add_if_new(&mut self, name: &'a [u8]) -> Result<bool, AllocError>
+        ensures fresh { IfOk result (λ b. b ≡ not (list_any (bytes_eq name.now) self.old)) }
+        ensures added { result ≡ Ok true → self.new ≡ self.old ++ name.now ∷ [] }
+        ensures kept { result ≢ Ok true → self.new ≡ self.old }
+    {
+        self.list.reserve(1)?;
+        let next = self.list.len();
+        let place = *self.places.entry(Key { bytes: name })?.or_insert(next);
+        if place != next {
+            return Ok(false);
+        }
+        self.list.push_reserved(name);
         Ok(true)
     }
 

@@ -1,13 +1,14 @@
-use Rattle.std.proofs.Common.{◌≡◌, ◌+◌, ◌<◌, ◌≤◌, ◌∷◌, List, [], length, drop, get_or, ap, ◌∙◌, sym, subst, ℕ}
+use Rattle.std.proofs.Common.{◌≡◌, ◌+◌, ◌<◌, ◌≤◌, ◌∷◌, List, [], length, drop, get_or, ap, ◌∙◌, sym, subst, ℕ, Ok, refl, arith}
 use Rattle.std.proofs.lemmas.List.{drop_more}
 use Rattle.scan_model.specs.NetlistLines.{Form}
 use Rattle.scan_model.specs.NetlistRules.{pins_after, pin_limit}
 use Rattle.bench_reader.specs.declared.first.KeptLine.{KeptLine}
 use Rattle.bench_reader.specs.declared.build.Built.{Built}
 use Rattle.bench_reader.specs.Lines.{line_view}
-use Rattle.bench_reader.specs.Kept.{forms_in, kept_views}
+use Rattle.bench_reader.specs.Kept.{forms_in, kept_views, uses_undefined}
 use Rattle.bench_reader.specs.Built.{Remain}
 use Rattle.bench_reader.proofs.OneMoreLine.{remain_more, pins_fit}
+use Rattle.bench_reader.proofs.NextNet.{next_number, nets_fit, none_lacks, one_lacks, first_past, first_here}
 use Rattle.bench_reader.proofs.build.built_of.Goals as goal
 
 abbrev forms : List KeptLine → List Form
@@ -27,7 +28,37 @@ add-requires-clause-pins c =
     let is = rw c.deref-line-items.ensures.value at c.line-item.is in
     let fits : length (pins_after [] (forms items)) ≤ pin_limit = rw (← c.requires.pins) c.requires.within.pins in
     pins_fit c.args.kept.now.defined c.loop-line.built (line_view c.line-item.result.line) (forms (drop (i + 1) items)) (forms items)
-    (next c.args.kept.now.defined c.loop-line.built items i c.line-item.result (forms items) lt is c.loop-line.invariant) fits
+    (next c.args.kept.now.defined c.loop-line.built items i c.line-item.result (forms items) lt is c.loop-line.invariant.remain) fits
+
+pub add-requires-clause-next : goal.add-requires-clause-next
+add-requires-clause-next c =
+    let items = c.args.kept.now.lines.items in
+    let i = c.loop-line.line-index in
+    let lt : i < length items = rw (← c.deref-line-items.ensures.value) c.loop-line-test.true in
+    let is = rw c.deref-line-items.ensures.value at c.line-item.is in
+    next_number c.args.kept.now.defined c.loop-line.built (line_view c.line-item.result.line) (forms (drop (i + 1) items)) (forms items)
+    (next c.args.kept.now.defined c.loop-line.built items i c.line-item.result (forms items) lt is c.loop-line.invariant.remain) c.requires.defined c.requires.differ
+
+pub add-requires-clause-few : goal.add-requires-clause-few
+add-requires-clause-few c =
+    let items = c.args.kept.now.lines.items in
+    let i = c.loop-line.line-index in
+    let lt : i < length items = rw (← c.deref-line-items.ensures.value) c.loop-line-test.true in
+    let is = rw c.deref-line-items.ensures.value at c.line-item.is in
+    omega (
+      arith,
+      c.requires.within.nets,
+      nets_fit c.args.kept.now.defined c.loop-line.built (line_view c.line-item.result.line) (forms (drop (i + 1) items)) (forms items)
+          (next c.args.kept.now.defined c.loop-line.built items i c.line-item.result (forms items) lt is c.loop-line.invariant.remain) c.requires.defined,
+    )
+
+pub returns-then-not-is_known-clause-fault : goal.returns-then-not-is_known-clause-fault
+returns-then-not-is_known-clause-fault c =
+    let items = c.args.kept.now.lines.items in
+    let i = c.loop-line.line-index in
+    let lt : i < length items = rw (← c.deref-line-items.ensures.value) c.loop-line-test.true in
+    let is = rw c.deref-line-items.ensures.value at c.line-item.is in
+    (first_here (uses_undefined c.args.kept.now.defined) items i c.line-item.result _ lt is c.loop-line.invariant.none (one_lacks _ (sym c.if-not-is_known.true ∙ c.in_ok-is_known.ensures.known)), refl)
 
 pub loop-line-preserved : goal.loop-line-preserved
 loop-line-preserved c =
@@ -35,5 +66,8 @@ loop-line-preserved c =
     let i = c.loop-line.line-index in
     let lt : i < length items = rw (← c.deref-line-items.ensures.value) c.loop-line-test.true in
     let is = rw c.deref-line-items.ensures.value at c.line-item.is in
-    remain_more c.args.kept.now.defined c.loop-line.built c.add.new.self (line_view c.line-item.result.line) (forms (drop (i + 1) items)) (forms items)
-    (next c.args.kept.now.defined c.loop-line.built items i c.line-item.result (forms items) lt is c.loop-line.invariant) c.in_ok-add.ensures
+    record {
+      remain = remain_more c.args.kept.now.defined c.loop-line.built c.add.new.self (line_view c.line-item.result.line) (forms (drop (i + 1) items)) (forms items)
+          (next c.args.kept.now.defined c.loop-line.built items i c.line-item.result (forms items) lt is c.loop-line.invariant.remain) (c.add.ensures.added (c.in_ok-is_known.was ∙ ap Ok c.if-not-is_known.false));
+      none = first_past (uses_undefined c.args.kept.now.defined) items i c.line-item.result _ lt is c.loop-line.invariant.none (none_lacks _ (sym c.if-not-is_known.false ∙ c.in_ok-is_known.ensures.known));
+    }

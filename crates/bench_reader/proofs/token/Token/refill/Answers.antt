@@ -2,7 +2,7 @@ use Rattle.std.proofs.Common.{◌∙◌, sym}
 use Rattle.std.proofs.lemmas.List.{map_push}
 use Rattle.bench_reader.specs.Tokens.{token_views}
 use Rattle.bench_reader.proofs.Names.{took_name}
-use Rattle.bench_reader.proofs.token.Token.all.Goals as goal
+use Rattle.bench_reader.proofs.token.Token.refill.Goals as goal
 
 pub loop-rest-preserved-then-is_name_byte : goal.loop-rest-preserved-then-is_name_byte
 loop-rest-preserved-then-is_name_byte c =

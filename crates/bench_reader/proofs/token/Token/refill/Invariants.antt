@@ -1,7 +1,7 @@
 use Rattle.std.proofs.Common.{◌≡◌, ◌++◌, length}
 use Rattle.scan_model.specs.NetlistLines.{tokens}
 use Rattle.bench_reader.specs.Tokens.{token_views}
-use Rattle.bench_reader.proofs.token.Token.all.Given as goal
+use Rattle.bench_reader.proofs.token.Token.refill.Given as goal
 
 abbrev pub invariant-loop-rest : goal.invariant-loop-rest
 invariant-loop-rest l = token_views l.found.items ++ tokens l.rest ≡ tokens l.line

@@ -1,0 +1,103 @@
+//! What a line names.
+
+ghost use Rattle.std.specs.Prelude.{◌≡◌, ◌≤◌, length, slice_index};
+ghost use Rattle.fail_logs.specs.LogViews.{line_view};
+ghost use Rattle.fail_logs.specs.Frames.{frame_view, places_view};
+ghost use Rattle.fail_logs.specs.BitNumbers.{place_in};
+
+use crate::frame::Frame;
+use crate::line::LogLine;
+use crate::number::is_number;
+use text_parts::number_of;
+
+// The length of the chain at a place.
+fn length_at(frame: &Frame<'_>, chain: usize) -> usize
+    ensures { result ≡ slice_index frame.now.lengths.items chain }
+{
+    match frame.lengths.get(chain) {
+        Some(n) => *n,
+        None => 0,
+    }
+}
+
+// The point of the cell at a position of the chain at a place.
+fn point_at(frame: &Frame<'_>, chain: usize, pos: u32) -> u32
+    ensures { result ≡ place_in (places_view frame.now) chain pos }
+{
+    match frame.places.get(chain) {
+        Some(row) => match row.get(pos as usize) {
+            Some(point) => *point,
+            None => 0,
+        },
+        None => 0,
+    }
+}
+
+/// What a line names, with each word read and looked up once: its pattern, its point, whether a word is no number where
+/// a number must stand, and whether a fail line's output or cell is nowhere.
+#[derive(Clone, Copy)]
+pub struct Named {
+    pub pattern: Option<u32>,
+    pub point: u32,
+    pub numberless: bool,
+    pub nowhere: bool,
+}
+
+impl Named {
+    ghost use Rattle.scan_model.specs.LogText.{out_line, cell_line};
+    ghost use Rattle.fail_logs.specs.NamedBy.{IsNamedBy};
+
+    // What a fail line of an output names.
+    fn of_output(frame: &Frame<'_>, pattern: &[u8], name: &[u8]) -> Self
+        requires { length frame.now.outputs ≤ 131072 }
+        ensures { IsNamedBy (frame_view frame.now) (places_view frame.now) (out_line pattern.now name.now) result }
+    {
+        let pattern = number_of(pattern);
+        let place = frame.outputs.place(name);
+        Named {
+            pattern,
+            point: place.unwrap_or(frame.outputs.len()) as u32,
+            numberless: pattern.is_none(),
+            nowhere: place.is_none(),
+        }
+    }
+
+    // What a fail line of a cell names.
+    fn of_cell(frame: &Frame<'_>, pattern: &[u8], chain: &[u8], position: &[u8]) -> Self
+        ensures { IsNamedBy (frame_view frame.now) (places_view frame.now) (cell_line pattern.now chain.now position.now) result }
+    {
+        let pattern = number_of(pattern);
+        let position = number_of(position);
+        let chain = frame.chains.place_or_len(chain);
+        let pos = position.unwrap_or(0);
+        Named {
+            pattern,
+            point: point_at(frame, chain, pos),
+            numberless: !(pattern.is_some() && position.is_some()),
+            nowhere: !((pos as usize) < length_at(frame, chain)),
+        }
+    }
+
+    /// What a line names.
+    pub fn of_line(frame: &Frame<'_>, line: LogLine<'_>) -> Self
+        requires { length frame.now.outputs ≤ 131072 }
+        ensures { IsNamedBy (frame_view frame.now) (places_view frame.now) (line_view line.entry) result }
+    {
+        match line {
+            LogLine::Out(p, name) => Named::of_output(frame, p, name),
+            LogLine::Cell(p, chain, pos) => Named::of_cell(frame, p, chain, pos),
+            LogLine::Tested(a, b) => Named {
+                pattern: None,
+                point: 0,
+                numberless: !(is_number(a) && is_number(b)),
+                nowhere: false,
+            },
+            _ => Named {
+                pattern: None,
+                point: 0,
+                numberless: false,
+                nowhere: false,
+            },
+        }
+    }
+}
