@@ -1,16 +1,13 @@
 -- Values written to nets in one lane, the last first.
-use Rattle.std.proofs.Common.{◌≡◌, ℕ, ◌+◌, ◌<◌, ◌≤◌, eqb, false, List, [], ◌∷◌, length, get_or, set, drop, refl, sym, ap, ◌∙◌, inl, inr, arith}
-use Rattle.std.specs.Prelude.{flat_map}
+use Rattle.std.proofs.Common.{◌≡◌, ℕ, ◌+◌, ◌<◌, List, [], ◌∷◌, length, get_or, set, drop, refl, sym, ap, ◌∙◌, inl, inr, arith}
 use Rattle.std.proofs.lemmas.Bool.{cases_eq, eq-eqb, ne_eqb}
 use Rattle.std.proofs.lemmas.List.{drop_more, drop_all, get_or-set_same, get_or-set_other}
 use Rattle.scan_model.specs.declared.values.Tri.{Tri}
 use Rattle.scan_model.specs.declared.values.Tri.TheVariants.{Unknown}
 use Rattle.scan_model.specs.ChainShift.{value_at}
-use Rattle.scan_model.specs.ScanTest.{ScanTest, cells_of, pattern_at}
 use Rattle.scan_model.specs.NetValue.{assigned}
-use Rattle.scan_model.proofs.Assigned.{assigned_agree}
 use Rattle.lane_rows.specs.Planes.{Planes, held}
-use Rattle.lane_rows.specs.Sources.{lane_values, no_planes, row_source}
+use Rattle.lane_rows.specs.Sources.{lane_values, no_planes}
 
 -- one more value, written to a row's lane
 pub assigned_row : (names : List ℕ) (values : List Tri) (rows : List Planes) (row : Planes) (before : ℕ → Tri) (at i j : ℕ) (v : Tri) → j < length names → j < length values → i ≡ j + 1 → get_or names j 0 < length rows → v ≡ value_at values j
@@ -38,32 +35,3 @@ assigned_none (m ∷ ms) f n = refl
 -- before the first write from the back
 pub none_left : (names : List ℕ) (values : List Tri) (f : ℕ → Tri) (n : ℕ) → f n ≡ assigned (drop (length values) names) (drop (length values) values) f n
 none_left names values f n = rw (drop_all (length values) values (omega arith)) (sym (assigned_none (drop (length values) names) f n))
-
--- ---- a pattern more in a block
-module _ (at : ℕ) (old new : List Planes) (elsewhere : (n j : ℕ) → j < 512 → eqb j at ≡ false → lane_values new j n ≡ lane_values old j n) (blank : (j n : ℕ) → at ≤ j → j < 512 → lane_values old j n ≡ Unknown) where
-  blank_after : (j n : ℕ) → at + 1 ≤ j → j < 512 → lane_values new j n ≡ Unknown
-  blank_after j n le lj = elsewhere n j lj (ne_eqb j at (λ e. omega arith)) ∙ blank j n (omega arith) lj
-
-  done_after : (t : ScanTest) (first : ℕ) → at < 512
-      → ((n : ℕ) → lane_values new at n ≡ assigned t.netlist.inputs (pattern_at t (first + at)).inputs (assigned (cells_of t.chains) (flat_map (λ row. row) (pattern_at t (first + at)).loads) (lane_values old at)) n)
-      → ((j n : ℕ) → j < at → lane_values old j n ≡ row_source t (first + j) n)
-      → (j n : ℕ) → j < at + 1 → lane_values new j n ≡ row_source t (first + j) n
-  done_after t first la there done j n lt = elim (cases_eq j at) [
-    | inl same ↦
-        let p = pattern_at t (first + at) in
-        let loads = flat_map (λ row. row) p.loads in
-        rw same (there n ∙ assigned_agree t.netlist.inputs p.inputs (assigned (cells_of t.chains) loads (lane_values old at)) (assigned (cells_of t.chains) loads (λ m. Unknown)) n
-        (assigned_agree (cells_of t.chains) loads (lane_values old at) (λ m. Unknown) n (blank at n (omega arith) la)))
-    | inr other ↦ elsewhere n j (omega (arith, other)) (ne_eqb j at other) ∙ done j n (omega (arith, other))
-  ]
-
-pub pattern_done : (t : ScanTest) (first at : ℕ) (old new : List Planes) → at < 512
-    → ((n : ℕ) → lane_values new at n ≡ assigned t.netlist.inputs (pattern_at t (first + at)).inputs (assigned (cells_of t.chains) (flat_map (λ row. row) (pattern_at t (first + at)).loads) (lane_values old at)) n)
-    → ((n j : ℕ) → j < 512 → eqb j at ≡ false → lane_values new j n ≡ lane_values old j n)
-    → ((j n : ℕ) → j < at → lane_values old j n ≡ row_source t (first + j) n) → ((j n : ℕ) → at ≤ j → j < 512 → lane_values old j n ≡ Unknown)
-    → (j n : ℕ) → j < at + 1 → lane_values new j n ≡ row_source t (first + j) n
-pattern_done t first at old new la there elsewhere done blank = done_after at old new elsewhere blank t first la there done
-
-pub pattern_blank : (at : ℕ) (old new : List Planes) → ((n j : ℕ) → j < 512 → eqb j at ≡ false → lane_values new j n ≡ lane_values old j n) → ((j n : ℕ) → at ≤ j → j < 512 → lane_values old j n ≡ Unknown)
-    → (j n : ℕ) → at + 1 ≤ j → j < 512 → lane_values new j n ≡ Unknown
-pattern_blank at old new elsewhere blank = blank_after at old new elsewhere blank

@@ -4,5 +4,12 @@ pub mod LaneValues
 pub mod GateFolds
 pub mod Evaluated
 pub mod Assigning
+pub mod WordAssigning
+pub mod Packing
 pub mod GoodValues
 pub mod GoodBlocks
+pub mod PlaceWords
+pub mod SortedGroups
+pub mod RenamedGroups
+pub mod Once
+pub mod Sinks

@@ -8,7 +8,7 @@ use Rattle.match_counts.specs.declared.share.Total.{Total}
 use Rattle.match_counts.specs.Shares.{no_share, no_count, HasShareBefore}
 use Rattle.match_counts.specs.Totals.{count_at, IsBlankAt, total_at, no_total, plus, IsAtMost, AreTotalsAtMost}
 
--- what is true of a place stays so
+-- what is true of a suspect stays so
 pub set_keeps : (truth : ℕ → BlockCount) (table : List BlockCount) (q : ℕ) (x : BlockCount) → q < length table → x ≡ truth q → (p : ℕ) → count_at table p ≡ truth p → count_at (set table q x) p ≡ truth p
 set_keeps truth table q x inside right p true_before = elim (cases_eq p q) [
   | inl same ↦ ap (λ (m : ℕ). get_or (set table q x) m no_count) same ∙ get_or-set_same table q x no_count inside ∙ right ∙ ap truth (sym same)
@@ -18,20 +18,20 @@ set_keeps truth table q x inside right p true_before = elim (cases_eq p q) [
 pub set_here : (truth : ℕ → BlockCount) (table : List BlockCount) (q : ℕ) (x : BlockCount) → q < length table → x ≡ truth q → count_at (set table q x) q ≡ truth q
 set_here truth table q x inside right = get_or-set_same table q x no_count inside ∙ right
 
--- a share more, and a place is among those of the shares or is as it was before them
-pub set_elsewhere : (shares : List Share) (i : ℕ) (before table : List BlockCount) (x : BlockCount) → (get_or shares i no_share).place < length table → ((p : ℕ) → HasShareBefore shares i p ⊎ (count_at table p ≡ count_at before p))
-    → (p : ℕ) → HasShareBefore shares (i + 1) p ⊎ (count_at (set table (get_or shares i no_share).place x) p ≡ count_at before p)
+-- a share more, and a suspect is among those of the shares or is as it was before them
+pub set_elsewhere : (shares : List Share) (i : ℕ) (before table : List BlockCount) (x : BlockCount) → (get_or shares i no_share).suspect < length table → ((p : ℕ) → HasShareBefore shares i p ⊎ (count_at table p ≡ count_at before p))
+    → (p : ℕ) → HasShareBefore shares (i + 1) p ⊎ (count_at (set table (get_or shares i no_share).suspect x) p ≡ count_at before p)
 set_elsewhere shares i before table x inside each p = elim (each p) [
   | inl has ↦ inl (has.0, omega (arith, has.1), has.2)
-  | inr is ↦ elim (cases_eq p (get_or shares i no_share).place) [
+  | inr is ↦ elim (cases_eq p (get_or shares i no_share).suspect) [
     | inl same ↦ inl (i, omega arith, sym same)
-    | inr other ↦ inr (get_or-set_other table (get_or shares i no_share).place p x no_count other ∙ is)
+    | inr other ↦ inr (get_or-set_other table (get_or shares i no_share).suspect p x no_count other ∙ is)
   ]
 ]
 
--- ---- a place's count goes over to its total
+-- ---- a suspect's count goes over to its total
 
--- nothing of the place has gone over
+-- nothing of suspect p has gone over
 pub record IsAsBefore (before : List Total) (start : List BlockCount) (now : List Total) (table : List BlockCount) (p : ℕ) : Type 0 where
   pub total : total_at now p ≡ total_at before p
   pub count : count_at table p ≡ count_at start p
@@ -62,7 +62,7 @@ at_most_set n now k x inside small all p = elim (cases_eq p k) [
 pub none_taken : (before : List Total) (start : List BlockCount) (p : ℕ) → IsTakenOrNot before start before start p
 none_taken before start p = inl (record { total = refl; count = refl })
 
--- a place that is blanked is blank, and each stays so that was
+-- a suspect that is blanked is blank, and each stays so that was
 pub set_blank : (table : List BlockCount) (q p : ℕ) → q < length table → (p ≡ q) ⊎ IsBlankAt table p → IsBlankAt (set table q no_count) p
 set_blank table q p inside each = elim (cases_eq p q) [
   | inl same ↦ rw same (get_or-set_same table q no_count no_count inside)
@@ -79,7 +79,7 @@ module _ (before : List Total) (start : List BlockCount) (now : List Total) (tab
     | inr taken ↦ is ∙ nothing_left (total_at now q) (count_at table q) taken.count ∙ taken.total
   ]
 
-  -- one place more is taken
+  -- one suspect more is taken
   pub take_more : (q : ℕ) (x : Total) → q < length now → q < length table → x ≡ plus (total_at now q) (count_at table q) → ((p : ℕ) → IsTakenOrNot before start now table p) → (p : ℕ) → IsTakenOrNot before start (set now q x) (set table q no_count) p
   take_more q x in_now in_table is each p = elim (cases_eq p q) [
     | inl same ↦ inr (rw same (record {

@@ -23,8 +23,8 @@ use Rattle.lane_rows.proofs.LaneCounts.{same_lanes}
 use Rattle.match_counts.specs.declared.point_row.PointRow.{PointRow}
 use Rattle.match_counts.specs.PointRows.{counts_on, ArePointRows, no_point_row}
 use Rattle.match_counts.specs.Hits.{hits}
-use Rattle.match_counts.specs.Shares.{hits_in, lanes_at, predicted_in, share_in, fault_of, HasShare}
-use Rattle.match_counts.specs.Owners.{suspect_at, owner}
+use Rattle.match_counts.specs.Shares.{hits_in, lanes_at, predicted_in, count_in, HasShare}
+use Rattle.match_counts.specs.Owners.{suspect_at, owner, share_of}
 use Rattle.match_counts.specs.Totals.{total_at, no_total, plus, sum_of, total_of, IsAdded, AreSums, AreKnown, AreTotalsAtMost}
 use Rattle.match_counts.proofs.Sums.{sum_agree, sum_agree_in, sum_of_map}
 use Rattle.match_counts.proofs.Hits.{bits_by_block}
@@ -39,15 +39,14 @@ same_total a b x y first second = rw (first, second) refl
 pub sum_by_block : (f : ℕ → ℕ) (b : ℕ) → sum_by f (range_with_len 0 (b + 1)) ≡ sum_by f (range_with_len 0 b) + f b
 sum_by_block f b = ap (sum_by f) (range_more b) ∙ sum_by_push f (range_with_len 0 b) b
 
-sum_more : (t : ScanTest) (logs : List LogFacts) (b p : ℕ) → sum_of t logs (b + 1) p ≡ plus (sum_of t logs b p) (share_in t logs b p)
-sum_more t logs b p = same_total _ _ _ _ (sum_by_block (predicted_in t logs Failing (fault_of t p)) b) (sum_by_block (predicted_in t logs Passing (fault_of t p)) b)
+sum_more : (t : ScanTest) (logs : List LogFacts) (b : ℕ) (f : Fault) → sum_of t logs (b + 1) f ≡ plus (sum_of t logs b f) (count_in t logs b f)
+sum_more t logs b f = same_total _ _ _ _ (sum_by_block (predicted_in t logs Failing f) b) (sum_by_block (predicted_in t logs Passing f) b)
 
 -- one block more
-pub sums_next : (t : ScanTest) (logs : List LogFacts) (suspects : List Suspect) (b : ℕ) (old new : List Total) (shares : List Share) → AreSums t logs suspects b old → IsAdded (share_in t logs b) shares old new
-    → ((i : ℕ) → i < length suspects → owner t (suspect_at suspects i).fault < length t.netlist.nets + 3 → HasShare shares (suspect_at suspects i).place) → AreSums t logs suspects (b + 1) new
+pub sums_next : (t : ScanTest) (logs : List LogFacts) (suspects : List Suspect) (b : ℕ) (old new : List Total) (shares : List Share) → AreSums t logs suspects b old → IsAdded (share_of t logs b suspects) shares old new
+    → ((i : ℕ) → i < length suspects → owner t (suspect_at suspects i).fault < length t.netlist.nets + 3 → HasShare shares i) → AreSums t logs suspects (b + 1) new
 sums_next t logs suspects b old new shares sums added there i lt below =
-    let p = (suspect_at suspects i).place in
-    added p (there i lt below) ∙ ap (λ (x : Total). plus x (share_in t logs b p)) (sums i lt below) ∙ sym (sum_more t logs b p)
+    added i (there i lt below) ∙ ap (λ (x : Total). plus x (share_of t logs b suspects i)) (sums i lt below) ∙ sym (sum_more t logs b (suspect_at suspects i).fault)
 
 by_blocks_in : (t : ScanTest) (passes : Bit → Bool) (blocks lanes : ℕ) → lanes ≡ 512 → length t.patterns ≤ lanes * blocks → count_by passes (bits_of t) ≡ sum_by (hits_in t passes) (range_with_len 0 blocks)
 by_blocks_in t passes blocks lanes e le = bits_by_block t passes lanes blocks le ∙ sum_agree (hits lanes t passes) (hits_in t passes) (range_with_len 0 blocks) (λ b. hits_are t passes b lanes e)
@@ -56,19 +55,18 @@ by_blocks_in t passes blocks lanes e le = bits_by_block t passes lanes blocks le
 pub by_blocks : (t : ScanTest) (passes : Bit → Bool) (blocks : ℕ) → length t.patterns ≤ 512 * blocks → count_by passes (bits_of t) ≡ sum_by (hits_in t passes) (range_with_len 0 blocks)
 by_blocks t passes blocks le = by_blocks_in t passes blocks 512 refl le
 
-sum_is : (t : ScanTest) (logs : List LogFacts) (blocks p : ℕ) → length t.patterns ≤ 512 * blocks → sum_of t logs blocks p ≡ total_of t logs p
-sum_is t logs blocks p le =
-    let f = fault_of t p in
+sum_is : (t : ScanTest) (logs : List LogFacts) (blocks : ℕ) (f : Fault) → length t.patterns ≤ 512 * blocks → sum_of t logs blocks f ≡ total_of t logs f
+sum_is t logs blocks f le =
     same_total _ _ _ _ (sym (by_blocks t (λ x. counts_on t logs Failing x && predicts_fail t f x) blocks le)) (sym (by_blocks t (λ x. counts_on t logs Passing x && predicts_fail t f x) blocks le))
 
 -- after the last block
 pub sums_known : (t : ScanTest) (logs : List LogFacts) (suspects : List Suspect) (blocks : ℕ) (totals : List Total) → length t.patterns ≤ 512 * blocks → AreSums t logs suspects blocks totals
     → AreKnown t logs suspects (λ i. owner t (suspect_at suspects i).fault < length t.netlist.nets + 3) totals
-sums_known t logs suspects blocks totals le sums i lt below = sums i lt below ∙ sum_is t logs blocks (suspect_at suspects i).place le
+sums_known t logs suspects blocks totals le sums i lt below = sums i lt below ∙ sum_is t logs blocks (suspect_at suspects i).fault le
 
 -- before the first block
-pub sums_none : (t : ScanTest) (logs : List LogFacts) (suspects : List Suspect) (totals : List Total) → ((p : ℕ) → total_at totals p ≡ no_total) → AreSums t logs suspects 0 totals
-sums_none t logs suspects totals blank i lt below = blank (suspect_at suspects i).place
+pub sums_none : (t : ScanTest) (logs : List LogFacts) (suspects : List Suspect) (totals : List Total) → ((i : ℕ) → total_at totals i ≡ no_total) → AreSums t logs suspects 0 totals
+sums_none t logs suspects totals blank i lt below = blank i
 
 pub AreTotalsAtMost-le : (m n : ℕ) (totals : List Total) → m ≤ n → AreTotalsAtMost m totals → AreTotalsAtMost n totals
 AreTotalsAtMost-le m n totals le all p = let at = all p in record { tfsf = omega (arith, le, at.tfsf); tpsf = omega (arith, le, at.tpsf) }

@@ -6,7 +6,7 @@ use Rattle.std.proofs.lemmas.Bool.{cases_Bool, both_ways}
 use Rattle.std.proofs.lemmas.List.{map_more, map-append, ext_get_or}
 use Rattle.std.proofs.lemmas.List.Elements.{filter-append}
 use Rattle.std.proofs.lemmas.List.FromFn.{length-map-range_with_len, get_or-map-range_with_len, length-enumerate_from, get_or-enumerate_from}
-use Rattle.std.proofs.lemmas.Option.{slice_get-get_or}
+use Rattle.std.proofs.lemmas.Option.{slice_get-get_or, get_or_from_slice_get}
 use mathlib.Core.List.{map-map}
 use Rattle.scan_model.specs.declared.logs.LogFacts.{LogFacts}
 use Rattle.scan_model.specs.declared.logs.Scored.{Scored}
@@ -26,7 +26,7 @@ use Rattle.match_counts.specs.declared.side.Side.TheVariants.{Failing}
 use Rattle.match_counts.specs.declared.suspect.Suspect.{Suspect}
 use Rattle.match_counts.specs.PointRows.{counts_on}
 use Rattle.match_counts.specs.Shares.{fault_of}
-use Rattle.match_counts.specs.Owners.{places_of, suspect_at, no_suspect}
+use Rattle.match_counts.specs.Owners.{IsSuspectOf, places_of, suspect_at, no_suspect}
 use Rattle.match_counts.specs.Totals.{AreTotals, total_at, total_of, candidates_at}
 use Rattle.match_counts.proofs.Sums.{sum_agree, sum_plus}
 
@@ -48,23 +48,24 @@ rest_is t logs f = omega (arith, count_parted (λ b. is_failing (class t logs b)
 abbrev row_of : ℕ → Total → ℕ → Scored
 row_of place total tfsp = record { place = place; counts = record { tfsf = total.tfsf; tfsp = tfsp; tpsf = total.tpsf } }
 
--- the row of a place, made of its total
-row_is : (t : ScanTest) (logs : List LogFacts) (place bits tfsp : ℕ) (total : Total) → bits ≡ count_by (counts_on t logs Failing) (bits_of t) → total ≡ total_of t logs place → tfsp ≡ bits - total.tfsf → row_of place total tfsp ≡ scored t logs (place, fault_of t place)
-row_is t logs place bits tfsp total failing is rest =
-    let c = counts_of t logs (fault_of t place) in
-    let same : tfsp ≡ c.tfsp = rest ∙ ap (λ (n : ℕ). n - total.tfsf) failing ∙ ap (λ (x : Total). count_by (counts_on t logs Failing) (bits_of t) - x.tfsf) is ∙ rest_is t logs (fault_of t place) in
-    rw (is, same) refl
+-- the row of a suspect, made of its total
+row_is : (t : ScanTest) (logs : List LogFacts) (s : Suspect) (bits tfsp : ℕ) (total : Total) → IsSuspectOf t s → bits ≡ count_by (counts_on t logs Failing) (bits_of t) → total ≡ total_of t logs s.fault → tfsp ≡ bits - total.tfsf → row_of s.place total tfsp ≡ scored t logs (s.place, fault_of t s.place)
+row_is t logs s bits tfsp total suspect failing is rest =
+    let c = counts_of t logs s.fault in
+    let same : tfsp ≡ c.tfsp = rest ∙ ap (λ (n : ℕ). n - total.tfsf) failing ∙ ap (λ (x : Total). count_by (counts_on t logs Failing) (bits_of t) - x.tfsf) is ∙ rest_is t logs s.fault in
+    let of_fault : row_of s.place total tfsp ≡ scored t logs (s.place, s.fault) = rw (is, same) refl in
+    of_fault ∙ ap (λ (f : Fault). scored t logs (s.place, f)) (sym (get_or_from_slice_get (universe t) s.place s.fault (fault.Stem 0 stuck.Zero) suspect.at))
 
 -- one suspect more
-pub rows_more : (t : ScanTest) (logs : List LogFacts) (xs : List Suspect) (k bits tfsp : ℕ) (totals : List Total) (old new : List Scored) → AreTotals t logs xs bits totals → k < length xs
-    → tfsp ≡ bits - (total_at totals (suspect_at xs k).place).tfsf → old ≡ candidates_at t logs (places_of (take k xs))
-    → new ≡ old ++ cond (is_candidate (row_of (suspect_at xs k).place (total_at totals (suspect_at xs k).place) tfsp)) (row_of (suspect_at xs k).place (total_at totals (suspect_at xs k).place) tfsp ∷ []) []
+pub rows_more : (t : ScanTest) (logs : List LogFacts) (xs : List Suspect) (k bits tfsp : ℕ) (totals : List Total) (old new : List Scored) → All (IsSuspectOf t) xs → AreTotals t logs xs bits totals → k < length xs
+    → tfsp ≡ bits - (total_at totals k).tfsf → old ≡ candidates_at t logs (places_of (take k xs))
+    → new ≡ old ++ cond (is_candidate (row_of (suspect_at xs k).place (total_at totals k) tfsp)) (row_of (suspect_at xs k).place (total_at totals k) tfsp ∷ []) []
     → new ≡ candidates_at t logs (places_of (take (k + 1) xs))
-rows_more t logs xs k bits tfsp totals old new sums within rest so_far pushed =
+rows_more t logs xs k bits tfsp totals old new are sums within rest so_far pushed =
     let place = (suspect_at xs k).place in
     let row : ℕ → Scored = λ p. scored t logs (p, fault_of t p) in
     let before = places_of (take k xs) in
-    let is = row_is t logs place bits tfsp (total_at totals place) sums.failing (sums.whole k within) rest in
+    let is = row_is t logs (suspect_at xs k) bits tfsp (total_at totals k) (are k no_suspect within) sums.failing (sums.whole k within) rest in
     pushed
     ∙ ap (λ (s : Scored). old ++ cond (is_candidate s) (s ∷ []) []) is
     ∙ rw (so_far, map_more (λ (s : Suspect). s.place) xs k no_suspect within, map-append row before (place ∷ []))

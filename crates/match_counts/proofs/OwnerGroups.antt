@@ -4,7 +4,7 @@ use Rattle.std.specs.Prelude.{All, Contains, slice_index}
 use Rattle.std.proofs.lemmas.Bool.{eq-eqb, eqb-true}
 use Rattle.scan_model.specs.ScanTest.{ScanTest}
 use Rattle.scan_model.proofs.Orders.{filter_range_all}
-use Rattle.packed_sim.specs.Grouped.{members}
+use Rattle.lane_rows.specs.Grouped.{members}
 use Rattle.match_counts.proofs.FlipSums.{filtered}
 use Rattle.match_counts.specs.declared.suspect.Suspect.{Suspect}
 use Rattle.match_counts.specs.Owners.{owner, suspect_at, IsOwned, AreOwners}

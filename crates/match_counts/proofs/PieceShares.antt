@@ -6,22 +6,21 @@ use Rattle.std.proofs.lemmas.List.{get_or_append_left, get_or-append-add, length
 use Rattle.std.proofs.lemmas.List.Elements.{All-nil, All-cons, All-append, Contains-append_cases}
 use Rattle.scan_model.specs.declared.rows.NoMemory.{NoMemory}
 use Rattle.scan_model.specs.ScanTest.{ScanTest}
-use Rattle.scan_model.specs.Universe.{universe}
 use Rattle.match_counts.specs.declared.point_row.PointRow.{PointRow}
 use Rattle.match_counts.specs.declared.share.Share.{Share}
 use Rattle.match_counts.specs.declared.suspect.Suspect.{Suspect}
 use Rattle.match_counts.specs.declared.work_kind.WorkKind.{WorkKind}
-use Rattle.match_counts.specs.Shares.{Keeps, HasShare, no_share, share_in}
-use Rattle.match_counts.specs.Owners.{Shares, IsAmong, suspect_at}
+use Rattle.match_counts.specs.Shares.{Keeps, HasShare, no_share}
+use Rattle.match_counts.specs.Owners.{Shares, share_of, IsAmong}
 use Rattle.match_counts.specs.Pieces.{IsServed, item_of}
 use Rattle.match_counts.proofs.ShareLists.{shares_join, shares_none, among_from}
 use Rattle.match_counts.proofs.KindShares.{shares_fewer}
 
 keeps_before : (old new : List Share) → Keeps old (old ++ new)
-keeps_before old new p has = (has.0, omega (arith, has.1, length-append old new), ap (λ (s : Share). s.place) (get_or_append_left old new no_share has.0 has.1) ∙ has.2)
+keeps_before old new i has = (has.0, omega (arith, has.1, length-append old new), ap (λ (s : Share). s.suspect) (get_or_append_left old new no_share has.0 has.1) ∙ has.2)
 
-has_behind : (old new : List Share) (p : ℕ) → HasShare new p → HasShare (old ++ new) p
-has_behind old new p has = (length old + has.0, omega (arith, has.1, length-append old new), ap (λ (s : Share). s.place) (get_or-append-add old new has.0 no_share) ∙ has.2)
+has_behind : (old new : List Share) (i : ℕ) → HasShare new i → HasShare (old ++ new) i
+has_behind old new i has = (length old + has.0, omega (arith, has.1, length-append old new), ap (λ (s : Share). s.suspect) (get_or-append-add old new has.0 no_share) ∙ has.2)
 
 -- what holds of all items holds of those of each piece
 pub each_piece : (P : ℕ → Type 0) (parts : List (List ℕ)) → All P (flat_map (λ (l : List ℕ). l) parts) → All (All P) parts
@@ -36,10 +35,10 @@ module _ (t : ScanTest) (rows : List PointRow) (b : ℕ) (suspects : List Suspec
   -- shares on their own, put behind others
   pub shares_behind : (chosen : ℕ → Type 0) (old new : List Share) → Shares t rows b suspects chosen [] new → Shares t rows b suspects chosen old (old ++ new)
   shares_behind chosen old new shares = record {
-    inside = λ inside. All-append (λ s. s.place < length (universe t)) old new inside (shares.inside (All-nil _));
-    right = λ logs points right. All-append (λ s. s.count ≡ share_in t logs b s.place) old new right (shares.right logs points (All-nil _));
+    inside = λ inside. All-append (λ s. s.suspect < length suspects) old new inside (shares.inside (All-nil _));
+    right = λ logs points right. All-append (λ s. s.count ≡ share_of t logs b suspects s.suspect) old new right (shares.right logs points (All-nil _));
     kept = keeps_before old new;
-    there = λ i lt is. has_behind old new (suspect_at suspects i).place (shares.there i lt is);
+    there = λ i lt is. has_behind old new i (shares.there i lt is);
   }
 
   -- what each piece answers of its items, all pieces answer of all items

@@ -5,8 +5,6 @@ use Rattle.std.proofs.lemmas.Bool.{cases_eq}
 use Rattle.std.proofs.lemmas.List.{get_or_append_left, get_or_push, length_push, get_or_default}
 use Rattle.std.proofs.lemmas.List.Elements.{All-push}
 use Rattle.std.proofs.lemmas.Option.{get_or_from_slice_get, slice_get_within}
-use Rattle.scan_model.specs.declared.fault.Fault.TheVariants as fault
-use Rattle.scan_model.specs.declared.fault.Stuck.TheVariants as stuck
 use Rattle.scan_model.specs.declared.logs.LogFacts.{LogFacts}
 use Rattle.scan_model.specs.ScanTest.{ScanTest}
 use Rattle.scan_model.specs.Universe.{universe}
@@ -15,28 +13,24 @@ use Rattle.match_counts.specs.declared.share.Share.{Share}
 use Rattle.match_counts.specs.declared.suspect.Suspect.{Suspect}
 use Rattle.match_counts.specs.declared.point_row.PointRow.{PointRow}
 use Rattle.match_counts.specs.PointRows.{ArePointRows}
-use Rattle.match_counts.specs.Shares.{Keeps, HasShare, no_share, count_in, share_in}
-use Rattle.match_counts.specs.Owners.{IsSuspectOf, Shares, suspect_at, IsAmong}
+use Rattle.match_counts.specs.Shares.{Keeps, HasShare, no_share}
+use Rattle.match_counts.specs.Owners.{IsSuspectOf, Shares, share_of, IsAmong}
 
 pub keeps_push : (shares : List Share) (s : Share) → Keeps shares (shares ++ s ∷ [])
-keeps_push shares s p has = (has.0, omega (arith, length_push shares s, has.1), ap (λ (x : Share). x.place) (get_or_append_left shares (s ∷ []) no_share has.0 has.1) ∙ has.2)
+keeps_push shares s i has = (has.0, omega (arith, length_push shares s, has.1), ap (λ (x : Share). x.suspect) (get_or_append_left shares (s ∷ []) no_share has.0 has.1) ∙ has.2)
 
-pub has_pushed : (shares : List Share) (s : Share) → HasShare (shares ++ s ∷ []) s.place
-has_pushed shares s = (length shares, omega (arith, length_push shares s), ap (λ (x : Share). x.place) (get_or_push shares s no_share (length shares) refl))
-
--- the share of a suspect, by what it explains and mispredicts
-pub suspect_share : (t : ScanTest) (logs : List LogFacts) (b : ℕ) (s : Suspect) (count : BlockCount) → IsSuspectOf t s → count ≡ count_in t logs b s.fault → count ≡ share_in t logs b s.place
-suspect_share t logs b s count suspect is = is ∙ ap (count_in t logs b) (sym (get_or_from_slice_get (universe t) s.place s.fault (fault.Stem 0 stuck.Zero) suspect.at))
+pub has_pushed : (shares : List Share) (s : Share) → HasShare (shares ++ s ∷ []) s.suspect
+has_pushed shares s = (length shares, omega (arith, length_push shares s), ap (λ (x : Share). x.suspect) (get_or_push shares s no_share (length shares) refl))
 
 module _ (t : ScanTest) (rows : List PointRow) (b : ℕ) (suspects : List Suspect) where
   pub shares_none : (chosen : ℕ → Type 0) (shares : List Share) → ((i : ℕ) → i < length suspects → chosen i → ⊥) → Shares t rows b suspects chosen shares shares
-  shares_none chosen shares none = record { inside = λ inside. inside; right = λ logs points right. right; kept = λ p has. has; there = λ i lt is. absurd (none i lt is) }
+  shares_none chosen shares none = record { inside = λ inside. inside; right = λ logs points right. right; kept = λ i has. has; there = λ i lt is. absurd (none i lt is) }
 
   pub shares_join : (first second both : ℕ → Type 0) (old mid new : List Share) → Shares t rows b suspects first old mid → Shares t rows b suspects second mid new → ((i : ℕ) → i < length suspects → both i → first i ⊎ second i) → Shares t rows b suspects both old new
   shares_join first second both old mid new begin end either = record {
     inside = λ inside. end.inside (begin.inside inside);
     right = λ logs points right. end.right logs points (begin.right logs points right);
-    kept = λ p has. end.kept p (begin.kept p has);
+    kept = λ i has. end.kept i (begin.kept i has);
     there = λ i lt is. elim (either i lt is) [
       | inl now ↦ end.kept _ (begin.there i lt now)
       | inr later ↦ end.there i lt later
@@ -44,16 +38,16 @@ module _ (t : ScanTest) (rows : List PointRow) (b : ℕ) (suspects : List Suspec
   }
 
   -- one suspect's share more
-  pub shares_push : (shares new : List Share) (i : ℕ) (count : BlockCount) → new ≡ shares ++ (record { place = (suspect_at suspects i).place; count = count }) ∷ [] → IsSuspectOf t (suspect_at suspects i)
-      → ((logs : List LogFacts) → ArePointRows t logs b rows → count ≡ count_in t logs b (suspect_at suspects i).fault) → Shares t rows b suspects (λ k. k ≡ i) shares new
-  shares_push shares new i count pushed suspect is =
-      let s : Share = record { place = (suspect_at suspects i).place; count = count } in
+  pub shares_push : (shares new : List Share) (i : ℕ) (count : BlockCount) → new ≡ shares ++ (record { suspect = i; count = count }) ∷ [] → i < length suspects
+      → ((logs : List LogFacts) → ArePointRows t logs b rows → count ≡ share_of t logs b suspects i) → Shares t rows b suspects (λ k. k ≡ i) shares new
+  shares_push shares new i count pushed within is =
+      let s : Share = record { suspect = i; count = count } in
       let From : List Share → Type 0 = Shares t rows b suspects (λ k. k ≡ i) shares in
       subst From (sym pushed) (record {
-        inside = λ inside. All-push (λ x. x.place < length (universe t)) shares s inside (slice_get_within (universe t) s.place (suspect_at suspects i).fault suspect.at);
-        right = λ logs points right. All-push (λ x. x.count ≡ share_in t logs b x.place) shares s right (suspect_share t logs b (suspect_at suspects i) count suspect (is logs points));
+        inside = λ inside. All-push (λ x. x.suspect < length suspects) shares s inside within;
+        right = λ logs points right. All-push (λ x. x.count ≡ share_of t logs b suspects x.suspect) shares s right (is logs points);
         kept = keeps_push shares s;
-        there = λ k lt same. let Has : ℕ → Type 0 = λ x. HasShare (shares ++ s ∷ []) (suspect_at suspects x).place in subst Has (sym same) (has_pushed shares s);
+        there = λ k lt same. let Has : ℕ → Type 0 = HasShare (shares ++ s ∷ []) in subst Has (sym same) (has_pushed shares s);
       })
 
 pub in_universe : (t : ScanTest) (s : Suspect) → IsSuspectOf t s → Contains (universe t) s.fault

@@ -21,9 +21,9 @@ use Rattle.lane_rows.specs.Planes.{Planes, held}
 use Rattle.lane_rows.specs.Lanes.{lane}
 use Rattle.lane_rows.specs.GoodRows.{pattern_of, same_kind}
 use Rattle.lane_rows.proofs.LaneCounts.{same_lanes}
+use Rattle.lane_rows.specs.Places.{has_place, room}
 use Rattle.packed_sim.specs.declared.good.PackedGood.{PackedGood}
 use Rattle.packed_sim.specs.declared.scratch.Scratch.{Scratch}
-use Rattle.packed_sim.specs.Places.{has_place, room}
 use Rattle.packed_sim.specs.Spread.{HasMoved, lane_now}
 use Rattle.packed_sim.specs.Belongs.{BelongsTo, block_at, captures, observed_at}
 use Rattle.packed_sim.specs.Loaded.{IsLoaded}

@@ -10,10 +10,11 @@ use Rattle.scan_model.specs.ScanTest.{ScanTest, HasSite}
 use Rattle.scan_model.specs.Universe.{universe}
 use Rattle.scan_model.specs.declared.logs.LogFacts.{LogFacts}
 use Rattle.match_counts.specs.declared.point_row.PointRow.{PointRow}
+use Rattle.match_counts.specs.declared.share.BlockCount.{BlockCount}
 use Rattle.match_counts.specs.declared.share.Share.{Share}
 use Rattle.match_counts.specs.declared.suspect.Suspect.{Suspect}
 use Rattle.match_counts.specs.PointRows.{ArePointRows}
-use Rattle.match_counts.specs.Shares.{AreShares, Keeps, HasShare}
+use Rattle.match_counts.specs.Shares.{count_in, AreRight, Keeps, HasShare}
 
 -- The one net that a fault flips. Past the nets: a pin that goes straight to a point, a bridge, a chain's cell.
 abbrev pub pin_owner : ScanTest → PinPlace → ℕ
@@ -42,12 +43,20 @@ pub record IsOwned (t : ScanTest) (suspects : List Suspect) (net i : ℕ) : Type
   pub within : i < length suspects
   pub owned : owner t (suspect_at suspects i).fault ≡ net
 
+-- what suspect i adds in block b
+abbrev pub share_of : ScanTest → List LogFacts → ℕ → List Suspect → ℕ → BlockCount
+share_of t logs b suspects i = count_in t logs b (suspect_at suspects i).fault
+
+-- each share is that of its suspect in block b
+abbrev pub AreShares : ScanTest → List LogFacts → ℕ → List Suspect → List Share → Type 0
+AreShares t logs b suspects shares = AreRight (share_of t logs b suspects) shares
+
 -- Over the logs that block b's rows stand for, shares that were right stay right and none is lost; the chosen suspects have theirs.
 pub record Shares (t : ScanTest) (rows : List PointRow) (b : ℕ) (suspects : List Suspect) (chosen : ℕ → Type 0) (old new : List Share) : Type 0 where
-  pub inside : All (λ s. s.place < length (universe t)) old → All (λ s. s.place < length (universe t)) new
-  pub right : (logs : List LogFacts) → ArePointRows t logs b rows → AreShares t logs b old → AreShares t logs b new
+  pub inside : All (λ s. s.suspect < length suspects) old → All (λ s. s.suspect < length suspects) new
+  pub right : (logs : List LogFacts) → ArePointRows t logs b rows → AreShares t logs b suspects old → AreShares t logs b suspects new
   pub kept : Keeps old new
-  pub there : (i : ℕ) → i < length suspects → chosen i → HasShare new (suspect_at suspects i).place
+  pub there : (i : ℕ) → i < length suspects → chosen i → HasShare new i
 
 -- the suspects of a list of numbers
 abbrev pub IsAmong : List ℕ → ℕ → ℕ → Type 0

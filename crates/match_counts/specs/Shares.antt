@@ -37,32 +37,24 @@ fault_of t place = slice_index_or (universe t) place (fault.Stem 0 stuck.Zero)
 abbrev pub count_in : ScanTest → List LogFacts → ℕ → Fault → BlockCount
 count_in t logs b f = record { tfsf = predicted_in t logs Failing f b; tpsf = predicted_in t logs Passing f b }
 
--- what the fault at a place adds in block b
-abbrev pub share_in : ScanTest → List LogFacts → ℕ → ℕ → BlockCount
-share_in t logs b place = count_in t logs b (fault_of t place)
-
 abbrev pub no_count : BlockCount
 no_count = record { tfsf = 0; tpsf = 0 }
 
 abbrev pub no_share : Share
-no_share = record { place = 0; count = no_count }
+no_share = record { suspect = 0; count = no_count }
 
--- each share is what the truth says of its place
+-- each share is what the truth says of its suspect
 abbrev pub AreRight : (ℕ → BlockCount) → List Share → Type 0
-AreRight truth shares = All (λ s. s.count ≡ truth s.place) shares
+AreRight truth shares = All (λ s. s.count ≡ truth s.suspect) shares
 
--- one of the first shares is of the place
+-- one of the first shares is of suspect i
 abbrev pub HasShareBefore : List Share → ℕ → ℕ → Type 0
-HasShareBefore shares n place = (k : ℕ) × (k < n) × ((slice_index_or shares k no_share).place ≡ place)
+HasShareBefore shares n i = (k : ℕ) × (k < n) × ((slice_index_or shares k no_share).suspect ≡ i)
 
--- a share of the place is there
+-- a share of suspect i is there
 abbrev pub HasShare : List Share → ℕ → Type 0
-HasShare shares place = HasShareBefore shares (length shares) place
-
--- each share is that of its place in block b
-abbrev pub AreShares : ScanTest → List LogFacts → ℕ → List Share → Type 0
-AreShares t logs b shares = AreRight (share_in t logs b) shares
+HasShare shares i = HasShareBefore shares (length shares) i
 
 -- no share is lost
 abbrev pub Keeps : List Share → List Share → Type 0
-Keeps old new = (p : ℕ) → HasShare old p → HasShare new p
+Keeps old new = (i : ℕ) → HasShare old i → HasShare new i

@@ -6,9 +6,9 @@ use Rattle.scan_model.specs.declared.fault.Fault.TheVariants as fault
 use Rattle.scan_model.specs.declared.parts.Point.TheVariants.{Cell}
 use Rattle.scan_model.specs.ScanTest.{ScanTest, points_of, point_at, chain_at}
 use Rattle.scan_model.specs.Suspect.{observed_net}
+use Rattle.lane_rows.specs.Places.{has_place}
 use Rattle.packed_sim.specs.declared.good.PackedGood.{PackedGood}
 use Rattle.packed_sim.specs.declared.scratch.Scratch.{Scratch}
-use Rattle.packed_sim.specs.Places.{has_place}
 use Rattle.packed_sim.specs.Belongs.{observed_at, IsScratchIn}
 use Rattle.packed_sim.specs.Loaded.{IsLoaded}
 use Rattle.match_counts.specs.declared.point_row.PointRow.{PointRow}

@@ -3,7 +3,8 @@ ghost use Rattle.scan_model.specs.ScanTest.{points_of};
 
 use crate::point_row::PointRow;
 use crate::suspect::Suspect;
-use packed_sim::{Groups, PackedGood};
+use lane_rows::Groups;
+use packed_sim::PackedGood;
 use scan_model::Parts;
 
 /// What all pieces of a block's work read: the suspects, in groups by owner, and the rows of the block's points.

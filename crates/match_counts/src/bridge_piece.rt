@@ -101,7 +101,7 @@ pub(crate) fn share_bridges<L: Ledger>(
             steps,
         )?;
         shares.push(Share {
-            place: suspect.place,
+            suspect: *item,
             count,
         })?;
     }

@@ -65,7 +65,7 @@ fn share_cell<L: Ledger>(
         steps,
     )?;
     shares.push(Share {
-        place: suspect.place,
+        suspect: item,
         count: notes.sum(),
     })?;
     Ok(Some((chain, pos)))

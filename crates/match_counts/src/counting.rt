@@ -2,7 +2,6 @@ ghost use Rattle.std.specs.Prelude.{◌≡◌, ℕ, ◌+◌, ◌<◌, List, All,
 ghost use Rattle.scan_model.specs.declared.logs.LogFacts.{LogFacts};
 ghost use Rattle.scan_model.specs.ScanTest.{points_of};
 ghost use Rattle.scan_model.specs.Response.{expected_rows};
-ghost use Rattle.scan_model.specs.Universe.{universe};
 ghost use Rattle.scan_model.specs.Coverage.{bits_of};
 ghost use Rattle.log_join.specs.Joining.{StandsFor, IsJoinedOf};
 ghost use Rattle.packed_sim.specs.Belongs.{BelongsTo};
@@ -20,8 +19,9 @@ use crate::point_rows::point_rows;
 use crate::share::Total;
 use crate::suspect::Suspect;
 use crate::totals::{add_shares, blank_table};
+use lane_rows::Groups;
 use log_join::Joined;
-use packed_sim::{Groups, PackedGood};
+use packed_sim::PackedGood;
 use scan_model::{Expected, NoMemory, Parts};
 use std::alloc::Global;
 use std::thread::Threads;
@@ -44,8 +44,8 @@ pub(crate) fn count_blocks<R: Threads + Sync>(
     requires suspects { All (IsSuspectOf parts.now) suspects.now }
     requires count { length owners.now ≡ length parts.now.netlist.nets + 3 }
     requires owners { AreOwners parts.now suspects.now owners.now }
-    requires totals { length totals.old ≡ length (universe parts.now) }
-    requires blank { (p : ℕ) → total_at totals.old p ≡ no_total }
+    requires totals { length totals.old ≡ length suspects.now }
+    requires blank { (i : ℕ) → total_at totals.old i ≡ no_total }
     ensures failing { (logs : List LogFacts) → StandsFor logs joined.now → IfOk result (λ failing. failing ≡ count_by (counts_on parts.now logs side.Failing) (bits_of parts.now)) }
     ensures known { (logs : List LogFacts) → StandsFor logs joined.now → OnOk result (AreKnown parts.now logs suspects.now (λ i. owning.owner parts.now (suspect_at suspects.now i).fault < length parts.now.netlist.nets + 3) totals.new) }
 {

@@ -1,7 +1,7 @@
-ghost use Rattle.std.specs.Prelude.{◌≡◌, ◌<◌, List, All, length, IfOk};
+ghost use Rattle.std.specs.Prelude.{◌≡◌, List, All, length, IfOk};
 ghost use Rattle.scan_model.specs.declared.logs.LogFacts.{LogFacts};
 ghost use Rattle.scan_model.specs.ScanTest.{ScanTest};
-ghost use Rattle.match_counts.specs.Owners.{places_of};
+ghost use Rattle.match_counts.specs.Owners.{IsSuspectOf, places_of};
 ghost use Rattle.match_counts.specs.Totals.{AreTotals, candidates_at};
 
 use crate::plain::push_candidate;
@@ -17,13 +17,13 @@ pub(crate) fn list_candidates(
     totals: &[Total],
     failing: u64,
 ) -> Result<Rows<Scored>, NoMemory>
-    requires { All (λ s. s.place < length totals.now) suspects.now }
-    ensures { (t : ScanTest) (logs : List LogFacts) → AreTotals t logs suspects.now failing totals.now → IfOk result (λ rows. rows ≡ candidates_at t logs (places_of suspects.now)) }
+    requires { length totals.now ≡ length suspects.now }
+    ensures { (t : ScanTest) (logs : List LogFacts) → All (IsSuspectOf t) suspects.now → AreTotals t logs suspects.now failing totals.now → IfOk result (λ rows. rows ≡ candidates_at t logs (places_of suspects.now)) }
 {
     let mut rows = Rows::new(alloc);
-    for suspect in suspects {
+    for (index, suspect) in suspects.iter().enumerate() {
         let place = suspect.place;
-        let total = totals[place as usize];
+        let total = totals[index];
         let counts = Counts {
             tfsf: total.tfsf,
             // A fault explains Failing bits alone, so nothing is cut off.

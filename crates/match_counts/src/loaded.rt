@@ -6,7 +6,7 @@ ghost use Rattle.scan_model.specs.Netlist.{driver_of, pin_at};
 ghost use Rattle.scan_model.specs.Loads.{cell};
 ghost use Rattle.scan_model.specs.Response.{data_pin};
 ghost use Rattle.scan_model.specs.Suspect.{observed_net};
-ghost use Rattle.packed_sim.specs.Places.{has_place};
+ghost use Rattle.lane_rows.specs.Places.{has_place};
 ghost use Rattle.packed_sim.specs.Belongs.{BelongsTo, has_own_row};
 ghost use Rattle.packed_sim.specs.Loaded.{IsLoaded};
 ghost use Rattle.match_counts.specs.declared.side.Side.{Side};

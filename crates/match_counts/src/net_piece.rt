@@ -14,8 +14,8 @@ use crate::point_row::PointRow;
 use crate::share::Share;
 use crate::shown::Shown;
 use crate::suspect::Suspect;
-use lane_rows::Row;
-use packed_sim::{Groups, PackedGood, Scratch};
+use lane_rows::{Groups, Row};
+use packed_sim::{PackedGood, Scratch};
 use scan_model::{Fault, NoMemory, Parts, Rows, Steps};
 use std::alloc::Global;
 use std::sync::ledger::Ledger;
@@ -63,7 +63,7 @@ fn share_group(
         let suspect = suspects[*item as usize];
         let mask = mask_of(parts, good, block, &suspect.fault, net);
         shares.push(Share {
-            place: suspect.place,
+            suspect: *item,
             count: shown.count_in(mask),
         })?;
     }

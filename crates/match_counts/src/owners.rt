@@ -7,7 +7,7 @@ ghost use Rattle.match_counts.specs.Owners as owners;
 
 use crate::suspect::Suspect;
 use fault_universe::fault_at;
-use packed_sim::Groups;
+use lane_rows::Groups;
 use scan_model::{Driver, Fault, NoMemory, Parts, PinPlace, Rows};
 use std::alloc::Global;
 

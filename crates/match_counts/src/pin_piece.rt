@@ -127,7 +127,7 @@ pub(crate) fn share_pins(
             unreachable!()
         };
         shares.push(Share {
-            place: suspect.place,
+            suspect: *item,
             count: pin_count(parts, good, block, rows, pin, value),
         })?;
     }

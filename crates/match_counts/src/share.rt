@@ -5,10 +5,10 @@ pub(crate) struct BlockCount {
     pub tpsf: u32,
 }
 
-/// What the fault at a place adds in one block.
+/// What a suspect, by its number, adds in one block.
 #[derive(Clone, Copy, Debug)]
 pub(crate) struct Share {
-    pub place: u32,
+    pub suspect: u32,
     pub count: BlockCount,
 }
 

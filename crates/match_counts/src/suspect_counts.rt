@@ -1,4 +1,4 @@
-ghost use Rattle.std.specs.Prelude.{◌≡◌, ℕ, ◌+◌, ◌≤◌, List, All, length, IfOk};
+ghost use Rattle.std.specs.Prelude.{◌≡◌, ℕ, ◌+◌, ◌^◌, ◌<◌, ◌≤◌, List, All, length, IfOk};
 ghost use Rattle.scan_model.specs.declared.logs.LogFacts.{LogFacts};
 ghost use Rattle.scan_model.specs.ScanTest.{points_of};
 ghost use Rattle.scan_model.specs.Response.{expected_rows};
@@ -17,15 +17,16 @@ use crate::suspect::Suspect;
 use crate::totals::blank_totals;
 use back_trace::suspects_over;
 use fault_universe::universe_len;
+use lane_rows::Groups;
 use log_join::Joined;
-use packed_sim::{Groups, PackedGood};
+use packed_sim::PackedGood;
 use scan_model::{Expected, NoMemory, Parts, Rows, Scored};
 use std::alloc::Global;
 use std::thread::Threads;
 
-/// The places, as long as they aren't more than there are faults.
+/// The places, as long as they aren't more than there are faults, so that 32 bits hold the number of each.
 fn few_places<'a>(parts: &Parts, places: &'a [u32]) -> &'a [u32]
-    ensures few { length result.now ≤ length (universe parts.now) }
+    ensures few { length result.now < 2 ^ 32 }
     ensures same { length places.now ≤ length (universe parts.now) → result.now ≡ places.now }
 {
     if places.len() <= universe_len(parts) as usize {
@@ -53,8 +54,8 @@ fn counts_over<R: Threads + Sync>(
     requires suspects { All (IsSuspectOf parts.now) suspects.now }
     requires count { length owners.now ≡ length parts.now.netlist.nets + 3 }
     requires owners { AreOwners parts.now suspects.now owners.now }
-    requires totals { length totals.old ≡ length (universe parts.now) }
-    requires blank { (p : ℕ) → total_at totals.old p ≡ no_total }
+    requires totals { length totals.old ≡ length suspects.now }
+    requires blank { (i : ℕ) → total_at totals.old i ≡ no_total }
     ensures { (logs : List LogFacts) → StandsFor logs joined.now → IfOk result (λ rows. rows ≡ candidates_at parts.now logs (places_of suspects.now)) }
 {
     let _ = parts.circuit();
@@ -79,12 +80,11 @@ pub fn counts<R: Threads + Sync>(
     requires joined { IsJoinedOf (length parts.now.patterns) (length (points_of parts.now)) joined.now }
     ensures { (logs : List LogFacts) → StandsFor logs joined.now → IfOk result (λ rows. rows ≡ candidates parts.now logs) }
 {
-    let faults = universe_len(parts);
     let traced = suspects_over(alloc, parts, good.rows(), expected, joined)?;
     let places = few_places(parts, traced.as_slice());
     let suspects = suspects_at(alloc, parts, places)?;
     let owners = owners_of(alloc, parts, suspects.as_slice())?;
-    let mut totals = blank_totals(alloc, faults)?;
+    let mut totals = blank_totals(alloc, suspects.len())?;
     counts_over(
         rt,
         alloc,

@@ -7,15 +7,15 @@ use crate::share::{BlockCount, Share, Total};
 use scan_model::NoMemory;
 use std::alloc::Global;
 
-/// Puts shares of one block into a table of its counts by place.
+/// Puts shares of one block into a table of its counts by suspect.
 fn set_shares(table: &mut [BlockCount], shares: &[Share])
-    requires { All (λ s. s.place < length table.old) shares.now }
+    requires { All (λ s. s.suspect < length table.old) shares.now }
     ensures put { (truth : ℕ → BlockCount) → AreRight truth shares.now → (k : ℕ) → k < length shares.now
-        → sums.count_at table.new (slice_index_or shares.now k no_share).place ≡ truth (slice_index_or shares.now k no_share).place }
-    ensures elsewhere { (p : ℕ) → HasShare shares.now p ⊎ (sums.count_at table.new p ≡ sums.count_at table.old p) }
+        → sums.count_at table.new (slice_index_or shares.now k no_share).suspect ≡ truth (slice_index_or shares.now k no_share).suspect }
+    ensures elsewhere { (i : ℕ) → HasShare shares.now i ⊎ (sums.count_at table.new i ≡ sums.count_at table.old i) }
 {
     for share in shares {
-        table[share.place as usize] = share.count;
+        table[share.suspect as usize] = share.count;
     }
 }
 
@@ -31,43 +31,43 @@ fn plus(total: Total, count: BlockCount) -> Total
     }
 }
 
-/// Moves what the table says of the places of some shares to the totals. A place that comes twice has nothing left the
-/// second time.
+/// Moves what the table says of the suspects of some shares to the totals. A suspect that comes twice has nothing left
+/// the second time.
 fn take_shares(totals: &mut [Total], table: &mut [BlockCount], shares: &[Share])
-    requires shares { All (λ s. s.place < length totals.old) shares.now }
+    requires shares { All (λ s. s.suspect < length totals.old) shares.now }
     requires len { length table.old ≡ length totals.old }
-    requires blank { (p : ℕ) → HasShare shares.now p ⊎ sums.IsBlankAt table.old p }
+    requires blank { (i : ℕ) → HasShare shares.now i ⊎ sums.IsBlankAt table.old i }
     requires at_most { sums.AreTotalsAtMost (2 ^ 63) totals.old }
     ensures blank { sums.IsBlank table.new }
-    ensures sums { (p : ℕ) → sums.total_at totals.new p ≡ sums.plus (sums.total_at totals.old p) (sums.count_at table.old p) }
+    ensures sums { (i : ℕ) → sums.total_at totals.new i ≡ sums.plus (sums.total_at totals.old i) (sums.count_at table.old i) }
     ensures at_most { (n : ℕ) → sums.AreTotalsAtMost n totals.old → sums.AreTotalsAtMost (n + 2 ^ 32) totals.new }
 {
     for share in shares {
-        let place = share.place as usize;
-        totals[place] = plus(totals[place], table[place]);
-        table[place] = BlockCount { tfsf: 0, tpsf: 0 };
+        let suspect = share.suspect as usize;
+        totals[suspect] = plus(totals[suspect], table[suspect]);
+        table[suspect] = BlockCount { tfsf: 0, tpsf: 0 };
     }
 }
 
-/// A table that says nothing of any place.
-pub(crate) fn blank_table(alloc: Global, places: usize) -> Result<Vec<BlockCount>, NoMemory>
-    ensures len { IfOk result (λ table. length table.items ≡ places) }
+/// A table that says nothing of so many suspects.
+pub(crate) fn blank_table(alloc: Global, suspects: usize) -> Result<Vec<BlockCount>, NoMemory>
+    ensures len { IfOk result (λ table. length table.items ≡ suspects) }
     ensures blank { IfOk result (λ table. sums.IsBlank table.items) }
 {
-    Ok(vec![in alloc; BlockCount { tfsf: 0, tpsf: 0 }; places]?)
+    Ok(vec![in alloc; BlockCount { tfsf: 0, tpsf: 0 }; suspects]?)
 }
 
-/// Totals of no block.
-pub(crate) fn blank_totals(alloc: Global, places: u32) -> Result<Vec<Total>, NoMemory>
-    ensures len { IfOk result (λ totals. length totals.items ≡ places) }
-    ensures blank { IfOk result (λ totals. (p : ℕ) → sums.total_at totals.items p ≡ sums.no_total) }
+/// Totals of so many suspects over no block.
+pub(crate) fn blank_totals(alloc: Global, suspects: usize) -> Result<Vec<Total>, NoMemory>
+    ensures len { IfOk result (λ totals. length totals.items ≡ suspects) }
+    ensures blank { IfOk result (λ totals. (i : ℕ) → sums.total_at totals.items i ≡ sums.no_total) }
 {
-    Ok(vec![in alloc; Total { tfsf: 0, tpsf: 0 }; places as usize]?)
+    Ok(vec![in alloc; Total { tfsf: 0, tpsf: 0 }; suspects]?)
 }
 
 /// Adds the shares of one block, by way of a blank table. A share that comes twice counts once.
 pub(crate) fn add_shares(totals: &mut [Total], table: &mut [BlockCount], shares: &[Share])
-    requires shares { All (λ s. s.place < length totals.old) shares.now }
+    requires shares { All (λ s. s.suspect < length totals.old) shares.now }
     requires len { length table.old ≡ length totals.old }
     requires blank { sums.IsBlank table.old }
     requires at_most { sums.AreTotalsAtMost (2 ^ 63) totals.old }

@@ -1,6 +1,6 @@
 ghost use Rattle.std.specs.Prelude.{◌≡◌, ℕ, ◌+◌, ◌<◌, ◌≤◌, Some, None, true, length, IfSome, OnOk};
 ghost use Rattle.scan_model.specs.ScanTest.{points_of, chain_at};
-ghost use Rattle.packed_sim.specs.Places.{has_place, room};
+ghost use Rattle.lane_rows.specs.Places.{has_place, room};
 ghost use Rattle.packed_sim.specs.Belongs.{BelongsTo, IsScratchOf, IsScratchIn};
 ghost use Rattle.packed_sim.specs.Loaded.{IsLoaded};
 ghost use Rattle.match_counts.specs.Walks.{IsWalk, IsWalkAt, IsStepNoted};
@@ -8,7 +8,8 @@ ghost use Rattle.match_counts.specs.Walks.{IsWalk, IsWalkAt, IsStepNoted};
 use crate::loaded::Loaded;
 use crate::notes::Notes;
 use crate::point_row::PointRow;
-use packed_sim::{PackedGood, PlaceSet, Scratch};
+use lane_rows::PlaceSet;
+use packed_sim::{PackedGood, Scratch};
 use scan_model::{CellKind, NoMemory, Parts, Steps};
 use std::sync::ledger::Ledger;
 

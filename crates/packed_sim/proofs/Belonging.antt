@@ -4,15 +4,11 @@ use Rattle.std.specs.Prelude.{count_by, is_some}
 use Rattle.std.specs.List.{list_any}
 use Rattle.std.proofs.lemmas.Bool.{both_ways, and_parts, ltb-true}
 use Rattle.std.proofs.lemmas.List.{length-map, get_or-map}
-use Rattle.std.proofs.lemmas.List.FromFn.{length-range_with_len}
-use Rattle.std.proofs.lemmas.List.Sums.{count_by-le-length}
 use Rattle.scan_model.specs.declared.values.Tri.{Tri}
 use Rattle.scan_model.specs.declared.parts.PatternKind.{PatternKind}
 use Rattle.scan_model.specs.declared.parts.PatternKind.TheVariants.{Capture, Shift}
 use Rattle.scan_model.specs.declared.parts.Point.TheVariants.{Output}
 use Rattle.scan_model.specs.Values.{are_opposite, tri_not}
-use Rattle.scan_model.specs.Netlist.{Netlist, is_gate, net_numbers}
-use Rattle.scan_model.specs.Walks.{IsEvaluationOrder}
 use Rattle.scan_model.specs.Cone.{in_fan_in}
 use Rattle.scan_model.specs.ScanTest.{ScanTest, IsScanTest, pattern_at, points_of, point_at}
 use Rattle.scan_model.specs.NetValue.{Forced, values_of, source_of, good_value}
@@ -23,16 +19,13 @@ use Rattle.scan_model.proofs.counting.Shown.{not_opposite_itself, observed_net-i
 use Rattle.scan_model.proofs.counting.Masks.{force_shows}
 use Rattle.lane_rows.specs.Planes.{Planes, held}
 use Rattle.lane_rows.specs.GoodRows.{pattern_of, same_kind}
+use Rattle.lane_rows.specs.Places.{has_place, room}
+use Rattle.lane_rows.proofs.Once.{counted_once, order_short}
 use Rattle.packed_sim.specs.declared.good.PackedGood.{PackedGood}
 use Rattle.packed_sim.specs.declared.scratch.Scratch.{Scratch}
-use Rattle.packed_sim.specs.Places.{has_place, room}
 use Rattle.packed_sim.specs.Rows.{no_row}
 use Rattle.packed_sim.specs.Spread.{FitsScratch, IsForced, AreGood, is_behind}
 use Rattle.packed_sim.specs.Belongs.{BelongsTo, IsScratchIn, block_at, good_at, now_at, observed_at, captures, has_own_row, gates_behind}
-use Rattle.packed_sim.proofs.Once.{counted_once}
-
-pub order_short : (c : Netlist) (order : List ℕ) → IsEvaluationOrder c order → length order ≤ length c.nets
-order_short c order ordered = omega (arith, ordered.count, count_by-le-length (is_gate c) (net_numbers c), length-range_with_len 0 (length c.nets))
 
 capture_kind : (k : PatternKind) → same_kind Capture k ≡ true → k ≡ Capture
 capture_kind Capture e = refl

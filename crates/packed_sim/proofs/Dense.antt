@@ -9,7 +9,7 @@ use Rattle.std.proofs.lemmas.Map.Keys.{IsDistinct-from_apart}
 use Rattle.std.proofs.lemmas.Map.Steps.{length-le_from_distinct_below}
 use Rattle.scan_model.proofs.FanSweeps.{any_found, any_among}
 use Rattle.lane_rows.specs.Planes.{Planes}
-use Rattle.packed_sim.proofs.Once.{distinct_from}
+use Rattle.lane_rows.proofs.Once.{distinct_from}
 use Rattle.packed_sim.specs.Rows.{no_row, row_at, rows_at, IsClean, forgotten, IsDense}
 
 -- ---- the row of a slot

@@ -1,16 +1,11 @@
-pub mod Words
 pub mod Dense
 pub mod Turns
 pub mod Settled
-pub mod Sorted
 pub mod Spreading
-pub mod Once
-pub mod Sources
 pub mod Forcing
 pub mod Belonging
 pub mod WayCounts
 pub mod FaultBits
-pub mod Renamed
 pub mod PinMasks
 pub mod Observed
 pub mod CellPlaces

@@ -34,11 +34,12 @@ use Rattle.scan_model.proofs.counting.Shown.{observed_net-in_range}
 use Rattle.scan_model.proofs.counting.ChainSteps.{own_shows, captured_net, shift_shows}
 use Rattle.lane_rows.specs.Planes.{Planes, held}
 use Rattle.lane_rows.specs.GoodRows.{pattern_of, same_kind}
+use Rattle.lane_rows.specs.Places.{has_place, room}
+use Rattle.lane_rows.specs.Wired.{Covers}
 use Rattle.packed_sim.specs.declared.good.PackedGood.{PackedGood}
 use Rattle.packed_sim.specs.declared.scratch.Scratch.{Scratch}
-use Rattle.packed_sim.specs.Places.{has_place, room}
 use Rattle.packed_sim.specs.Rows.{row_now, no_row}
-use Rattle.packed_sim.specs.Spread.{lane_now, FitsScratch, Covers, IsClosed, IsFree, IsWithin, IsOpen, IsSettled, IsSet, AreApart, is_behind}
+use Rattle.packed_sim.specs.Spread.{lane_now, FitsScratch, IsClosed, IsFree, IsWithin, IsOpen, IsSettled, IsSet, AreApart, is_behind}
 use Rattle.packed_sim.specs.Belongs.{BelongsTo, IsScratchIn, IsScratchOf, block_at, good_at, now_at, captures}
 use Rattle.packed_sim.specs.Loaded.{IsOpenLoad, IsLoaded, passed_value}
 use Rattle.packed_sim.proofs.Spreading.{live_values, behind_closed, behind_free, set_fits, set_here, set_elsewhere, set_keeps_open, clean_open}

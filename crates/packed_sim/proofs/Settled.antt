@@ -8,10 +8,11 @@ use Rattle.scan_model.specs.declared.values.Tri.{Tri}
 use Rattle.scan_model.specs.Netlist.{Netlist, IsNetlist, is_gate}
 use Rattle.scan_model.specs.NetValue.{Forced}
 use Rattle.lane_rows.specs.Planes.{Planes}
+use Rattle.lane_rows.specs.Places.{has_place, room, IsNextFrom}
+use Rattle.lane_rows.specs.Wired.{IsWired, Covers}
 use Rattle.packed_sim.specs.declared.scratch.Scratch.{Scratch}
-use Rattle.packed_sim.specs.Places.{has_place, room, IsNextFrom}
 use Rattle.packed_sim.specs.Rows.{row_now}
-use Rattle.packed_sim.specs.Spread.{IsWired, Covers, FitsScratch, IsClosed, IsFree, IsWithin, IsOpen, IsSettled, IsTurn, HasMoved}
+use Rattle.packed_sim.specs.Spread.{FitsScratch, IsClosed, IsFree, IsWithin, IsOpen, IsSettled, IsTurn, HasMoved}
 use Rattle.packed_sim.proofs.Turns.{fits_next, leaf_next, above_next, within_next, open_next, waits_at}
 
 -- What holds between two turns: nothing before a place waits any more.

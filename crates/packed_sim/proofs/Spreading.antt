@@ -16,11 +16,12 @@ use Rattle.scan_model.proofs.FanSweeps.{any_found, any_among, in_own, in_of_read
 use Rattle.scan_model.proofs.counting.Valuations.{IsValuation, agree_apart, values_meet}
 use Rattle.scan_model.proofs.counting.Branches.{no_loop}
 use Rattle.lane_rows.specs.Planes.{Planes}
-use Rattle.packed_sim.specs.declared.scratch.Scratch.{Scratch}
 use Rattle.lane_rows.specs.Planes.{held}
-use Rattle.packed_sim.specs.Places.{has_place}
+use Rattle.lane_rows.specs.Places.{has_place}
+use Rattle.lane_rows.specs.Wired.{sinks_of, IsWired, Covers, LeadsUp}
+use Rattle.packed_sim.specs.declared.scratch.Scratch.{Scratch}
 use Rattle.packed_sim.specs.Rows.{IsClean, no_row, row_now}
-use Rattle.packed_sim.specs.Spread.{lane_now, sinks_of, waits, IsWired, Covers, FitsScratch, IsClosed, IsFree, IsWithin, IsOpen, IsSet, HasMoved, LeadsUp, AreGood, AreApart, is_behind}
+use Rattle.packed_sim.specs.Spread.{lane_now, waits, FitsScratch, IsClosed, IsFree, IsWithin, IsOpen, IsSet, HasMoved, AreGood, AreApart, is_behind}
 use Rattle.packed_sim.proofs.Turns.{waits_from, waits_at}
 
 -- forced nets elsewhere do not tell

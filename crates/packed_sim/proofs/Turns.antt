@@ -17,11 +17,12 @@ use Rattle.scan_model.proofs.NetValues.{net_node_local}
 use Rattle.scan_model.proofs.FanSweeps.{any_found, any_among, in_own}
 use Rattle.scan_model.proofs.counting.Branches.{no_loop}
 use Rattle.lane_rows.specs.Planes.{Planes}
-use Rattle.packed_sim.specs.declared.scratch.Scratch.{Scratch}
 use Rattle.lane_rows.specs.Planes.{held}
-use Rattle.packed_sim.specs.Places.{has_place, room}
+use Rattle.lane_rows.specs.Places.{has_place, room}
+use Rattle.lane_rows.specs.Wired.{sinks_of, IsWired, Covers}
+use Rattle.packed_sim.specs.declared.scratch.Scratch.{Scratch}
 use Rattle.packed_sim.specs.Rows.{row_now, no_row}
-use Rattle.packed_sim.specs.Spread.{lane_now, sinks_of, waits, IsWired, Covers, FitsScratch, IsClosed, IsFree, IsWithin, IsOpen, IsTurn}
+use Rattle.packed_sim.specs.Spread.{lane_now, waits, FitsScratch, IsClosed, IsFree, IsWithin, IsOpen, IsTurn}
 
 -- ---- what the code of a turn does
 

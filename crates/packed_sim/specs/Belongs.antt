@@ -15,12 +15,12 @@ use Rattle.scan_model.specs.Masks.{touched_nets}
 use Rattle.lane_rows.specs.declared.block.Block.{Block}
 use Rattle.lane_rows.specs.Sources.{lane_values}
 use Rattle.lane_rows.specs.GoodRows.{AreGoodRows, no_block, same_kind}
+use Rattle.lane_rows.specs.Places.{has_place, room}
+use Rattle.lane_rows.specs.Wired.{IsWiredFor}
 use Rattle.packed_sim.specs.declared.good.PackedGood.{PackedGood}
 use Rattle.packed_sim.specs.declared.scratch.Scratch.{Scratch}
-use Rattle.packed_sim.specs.Places.{has_place, room}
 use Rattle.packed_sim.specs.Rows.{IsClean}
 use Rattle.packed_sim.specs.Spread.{lane_now}
-use Rattle.packed_sim.specs.Wired.{IsWiredFor}
 
 -- the net that point k observes
 abbrev pub observed_at : ScanTest → ℕ → ℕ

@@ -11,9 +11,10 @@ use Rattle.scan_model.specs.ChainShift.{loaded_at}
 use Rattle.scan_model.specs.Loads.{load, cell}
 use Rattle.scan_model.specs.NetValue.{net_value, source_of, nothing_forced}
 use Rattle.lane_rows.specs.GoodRows.{pattern_of}
+use Rattle.lane_rows.specs.Wired.{Covers, LeadsUp}
 use Rattle.packed_sim.specs.declared.good.PackedGood.{PackedGood}
 use Rattle.packed_sim.specs.declared.scratch.Scratch.{Scratch}
-use Rattle.packed_sim.specs.Spread.{FitsScratch, Covers, LeadsUp, IsOpen}
+use Rattle.packed_sim.specs.Spread.{FitsScratch, IsOpen}
 use Rattle.packed_sim.specs.Belongs.{IsScratchIn, block_at, now_at, captures}
 
 -- each cell holds what the fault behind position c loads, in both kinds of pattern

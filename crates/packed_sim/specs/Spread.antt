@@ -1,39 +1,24 @@
 -- A change that spreads through the gates of a circuit.
-use Rattle.std.specs.Prelude.{◌≡◌, ◌≢◌, ◌⊎◌, ℕ, ◌<◌, ◌≤◌, List, [], length, Bool, true, false, not, ◌==◌, ◌&&◌, ◌||◌, Option, None, Some, Contains, slice_index, slice_index_or, slice_set}
+use Rattle.std.specs.Prelude.{◌≡◌, ◌≢◌, ◌⊎◌, ℕ, ◌<◌, ◌≤◌, List, length, Bool, true, false, not, ◌==◌, ◌&&◌, ◌||◌, Option, None, Some, Contains, slice_index, slice_index_or, slice_set}
 use Rattle.std.specs.List.{list_any, range_with_len}
 use Rattle.scan_model.specs.declared.values.Tri.{Tri}
 use Rattle.scan_model.specs.declared.values.Tri.TheVariants.{Unknown}
 use Rattle.scan_model.specs.Netlist.{Netlist, reads, is_gate}
-use Rattle.scan_model.specs.Walks.{IsEvaluationOrder}
 use Rattle.scan_model.specs.NetValue.{Forced, net_node, values_of, nothing_forced}
 use Rattle.scan_model.specs.Cone.{in_fan_in}
-use Rattle.lane_rows.specs.Planes.{Planes}
+use Rattle.lane_rows.specs.Planes.{Planes, held}
+use Rattle.lane_rows.specs.Places.{has_place, room}
+use Rattle.lane_rows.specs.Wired.{sinks_of, Covers, LeadsUp}
 use Rattle.packed_sim.specs.declared.scratch.Scratch.{Scratch}
-use Rattle.lane_rows.specs.Planes.{held}
-use Rattle.packed_sim.specs.Places.{has_place, room}
 use Rattle.packed_sim.specs.Rows.{row_now, no_row}
 
 -- the value of a net in a lane
 abbrev pub lane_now : List (Option Planes) → List Planes → ℕ → ℕ → Tri
 lane_now own good j n = held (row_now own good n) j
 
-abbrev pub sinks_of : List (List ℕ) → ℕ → List ℕ
-sinks_of sinks n = slice_index_or sinks n []
-
 -- a place of the net is in the set
 abbrev pub waits : List ℕ → List ℕ → ℕ → Bool
 waits order words n = list_any (λ k. (slice_index order k == n) && has_place words k) (range_with_len 0 (length order))
-
--- An order of evaluation, and places of gates that read each net. All stand after the net's own place.
-pub record IsWired (c : Netlist) (order : List ℕ) (sinks : List (List ℕ)) : Type 0 where
-  pub ordered : IsEvaluationOrder c order
-  pub nets : length c.nets ≤ length sinks
-  pub places : (n k : ℕ) → n < length c.nets → Contains (sinks_of sinks n) k → (k < length order) × Contains (reads c (slice_index order k)) n
-  pub after : (i k : ℕ) → i < length order → Contains (sinks_of sinks (slice_index order i)) k → i < k
-
--- each gate that matters is among those of each net that it reads
-abbrev pub Covers : Netlist → List ℕ → List (List ℕ) → (ℕ → Bool) → Type 0
-Covers c order sinks live = (n k : ℕ) → k < length order → live (slice_index order k) ≡ true → Contains (reads c (slice_index order k)) n → Contains (sinks_of sinks n) k
 
 pub record FitsScratch (c : Netlist) (order : List ℕ) (good : List Planes) (s : Scratch) : Type 0 where
   pub own : length s.overlay ≡ length c.nets
@@ -61,10 +46,6 @@ is_behind c nets g = not (list_any (λ n. g == n) nets) && list_any (λ n. in_fa
 -- no gate of these nets lies behind another one
 abbrev pub AreApart : Netlist → List ℕ → Type 0
 AreApart c nets = (m n : ℕ) → Contains nets m → Contains nets n → is_gate c n ≡ true → in_fan_in c m n ≡ true → m ≡ n
-
--- what leads to a net that matters matters
-abbrev pub LeadsUp : Netlist → (ℕ → Bool) → Type 0
-LeadsUp c live = (m n : ℕ) → n < length c.nets → live n ≡ true → in_fan_in c m n ≡ true → live m ≡ true
 
 -- the rows have the values without fault in a lane
 abbrev pub AreGood : Netlist → List Planes → (ℕ → Tri) → ℕ → Type 0

@@ -11,8 +11,8 @@ ghost use Rattle.scan_model.specs.declared.values.Tri.TheVariants.{Unknown};
 ghost use Rattle.lane_rows.specs.Lanes.{lane};
 ghost use Rattle.lane_rows.specs.Planes.{held};
 ghost use Rattle.lane_rows.specs.GoodRows.{pattern_of};
+ghost use Rattle.lane_rows.specs.Places.{room};
 ghost use Rattle.packed_sim.specs.Spread.{HasMoved, IsWithin, is_behind};
-ghost use Rattle.packed_sim.specs.Places.{room};
 ghost use Rattle.packed_sim.specs.Belongs.{BelongsTo, IsScratchIn, IsScratchOf, block_at, good_at, now_at, gates_behind};
 ghost use Rattle.packed_sim.specs.Loaded.{IsOpenLoad, IsLoaded, passed_value};
 

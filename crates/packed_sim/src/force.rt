@@ -3,14 +3,14 @@ ghost use Rattle.scan_model.specs.declared.values.Tri.{Tri};
 ghost use Rattle.scan_model.specs.NetValue.{Forced, values_of};
 ghost use Rattle.scan_model.specs.Force.{force};
 ghost use Rattle.lane_rows.specs.Planes.{held};
-ghost use Rattle.packed_sim.specs.Places.{has_place, room};
+ghost use Rattle.lane_rows.specs.Places.{has_place, room};
+ghost use Rattle.lane_rows.specs.Wired.{IsWired};
 ghost use Rattle.packed_sim.specs.Rows.{IsClean};
-ghost use Rattle.packed_sim.specs.Spread.{FitsScratch, IsWired, AreApart, IsForced, is_behind};
+ghost use Rattle.packed_sim.specs.Spread.{FitsScratch, AreApart, IsForced, is_behind};
 ghost use Rattle.scan_model.proofs.counting.OneSite.{force_two};
 
 use crate::scratch::Scratch;
-use crate::wiring::Wiring;
-use lane_rows::Packed;
+use lane_rows::{Packed, Wiring};
 use scan_model::{Circuit, Steps};
 use std::sync::ledger::Ledger;
 

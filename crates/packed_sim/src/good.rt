@@ -1,6 +1,4 @@
-use crate::groups::Groups;
-use crate::wiring::Wiring;
-use lane_rows::GoodRows;
+use lane_rows::{GoodRows, Groups, Wiring};
 
 /// The fault-free values of all patterns, and what is read off the circuit once: which gates wait for a net, and which
 /// points observe it.

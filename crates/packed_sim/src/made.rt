@@ -8,12 +8,9 @@ ghost use Rattle.scan_model.specs.Suspect as suspect;
 ghost use Rattle.packed_sim.specs.Belongs.{BelongsTo, IsScratchOf, AreObserved, points_of_net};
 
 use crate::good::PackedGood;
-use crate::groups::Groups;
 use crate::overlay::Overlay;
-use crate::place_set::PlaceSet;
 use crate::scratch::Scratch;
-use crate::wiring::Wiring;
-use lane_rows::{Block, GoodRows};
+use lane_rows::{Block, GoodRows, Groups, PlaceSet, Wiring};
 use scan_model::{Circuit, NoMemory, Parts, Point};
 use std::alloc::Global;
 

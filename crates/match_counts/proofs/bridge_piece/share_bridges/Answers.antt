@@ -23,7 +23,7 @@ loop-item-preserved g c =
     record {
       scratch = c.in_ok-count.ensures.scratch;
       shares = shares_join t rows b suspects (IsAmong group i) (λ k. k ≡ item) (IsAmong group (i + 1)) c.args.shares.now c.loop-item.shares c.push.new.self c.loop-item.invariant.shares
-          (shares_push t rows b suspects c.loop-item.shares c.push.new.self item c.in_ok-count.count c.in_ok-push.ensures.ok suspect
+          (shares_push t rows b suspects c.loop-item.shares c.push.new.self item c.in_ok-count.count c.in_ok-push.ensures.ok own.within
           (λ logs points. c.in_ok-count.ensures.count logs points (subst In c.in-Bridge.is (in_universe t s suspect)) ∙ ap (count_in t logs b) (sym c.in-Bridge.is)))
           (λ k lt among. among_more group i k among);
     }

@@ -29,7 +29,6 @@ returns-clause-shares g c =
     let same : c.in-Cell.own ≡ c.args.kind = search rules in
     let is : f ≡ s.fault = ap (λ (k : CellKind). fault.Cell c.in-Cell.chain c.in-Cell.pos k) (sym same) ∙ sym c.in-Cell.is in
     let walk = c.in_ok-reach.ensures.walk in
-    let suspect = c.requires.suspects item no_suspect c.requires.item.within in
     shares_fewer t rows b suspects (λ i. i ≡ item) (λ i. (i ≡ item) × IsOfKind c.args.kind (suspect_at suspects i).fault) c.args.shares.now c.push.new.self (λ i both. both.0)
-    (shares_push t rows b suspects c.args.shares.now c.push.new.self item c.sum.result c.in_ok-push.ensures.ok suspect
+    (shares_push t rows b suspects c.args.shares.now c.push.new.self item c.sum.result c.in_ok-push.ensures.ok c.requires.item.within
     (λ logs points. notes_count t logs b rows points f c.sum.result (λ side. c.sum.ensures side ∙ fresh_sum t rows b f c.reach.new.notes walk.len walk.fresh side) ∙ ap (count_in t logs b) is))

@@ -6,8 +6,8 @@ use Rattle.match_counts.specs.declared.point_row.PointRow.{PointRow}
 use Rattle.match_counts.specs.declared.share.Share.{Share}
 use Rattle.match_counts.specs.declared.side.Side.TheVariants.{Failing}
 use Rattle.match_counts.specs.PointRows.{counts_on, ArePointRows}
-use Rattle.match_counts.specs.Shares.{share_in, hits_in}
-use Rattle.match_counts.specs.Owners.{Shares, owner, suspect_at}
+use Rattle.match_counts.specs.Shares.{hits_in}
+use Rattle.match_counts.specs.Owners.{Shares, owner, suspect_at, share_of}
 use Rattle.match_counts.proofs.Sums.{sum_next}
 use Rattle.match_counts.proofs.BlockTotals.{sums_next, sum_by_block, failing_is, by_blocks, sums_known, AreTotalsAtMost-le}
 use Rattle.match_counts.proofs.counting.count_blocks.Goals as goal
@@ -43,7 +43,7 @@ loop-block-preserved g c =
           let Points : List PointRow → Type 0 = ArePointRows t logs b in
           let points = subst Points (sym c.as_slice.ensures) (c.in_ok-rows.ensures.rows logs stands) in
           let right = part.right logs points (All-nil _) in
-          sums_next t logs suspects b old new shares (inv.sums logs stands) (added.sums (share_in t logs b) right)
+          sums_next t logs suspects b old new shares (inv.sums logs stands) (added.sums (share_of t logs b suspects) right)
           part.there;
       failing = λ logs stands.
           let Points : List PointRow → Type 0 = ArePointRows t logs b in

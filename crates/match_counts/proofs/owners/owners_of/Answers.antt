@@ -1,6 +1,6 @@
 use Rattle.std.proofs.Common.{◌≡◌, ℕ, ◌+◌, List, length, ap, ◌∙◌, arith}
 use Rattle.scan_model.specs.Netlist.{Netlist}
-use Rattle.packed_sim.specs.Grouped.{members}
+use Rattle.lane_rows.specs.Grouped.{members}
 use Rattle.match_counts.proofs.OwnerGroups.{grouped}
 use Rattle.match_counts.proofs.owners.owners_of.Goals as goal
 

@@ -21,6 +21,6 @@ loop-item-preserved c =
     let ordered = subst Ordered c.circuit.ensures.value c.order.ensures in
     let suspect = c.requires.suspects item no_suspect own.within in
     shares_join t rows b suspects (IsAmong group i) (λ k. k ≡ item) (IsAmong group (i + 1)) c.args.shares.now c.loop-item.shares c.push.new.self c.loop-item.invariant
-    (shares_push t rows b suspects c.loop-item.shares c.push.new.self item c.pin_count.result c.in_ok-push.ensures.ok suspect
+    (shares_push t rows b suspects c.loop-item.shares c.push.new.self item c.pin_count.result c.in_ok-push.ensures.ok own.within
     (λ logs points. pin_count_is t c.circuit.ensures.fits c.order.result.now ordered s.fault (in_universe t s suspect) logs b c.in-Branch.pin c.in-Branch.value c.pin_count.result c.in-Branch.is suspect.site own.owned (λ side. c.pin_count.ensures logs side points)))
     (λ k lt among. among_more group i k among)

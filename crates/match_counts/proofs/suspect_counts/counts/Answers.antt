@@ -12,7 +12,7 @@ use Rattle.match_counts.proofs.CandidateRows.{suspects_below, suspects_candidate
 use Rattle.match_counts.proofs.suspect_counts.counts.Goals as goal
 
 pub owners_of-requires-clause-few : goal.owners_of-requires-clause-few
-owners_of-requires-clause-few g c = omega (arith, ap length c.as_slice-2.ensures, c.in_ok-suspects.ensures.few, c.few_places-places.ensures.few, c.universe_len-faults.ensures, c.universe_len-faults.type_inv)
+owners_of-requires-clause-few g c = omega (arith, ap length c.as_slice-2.ensures, c.in_ok-suspects.ensures.few, c.few_places-places.ensures.few)
 
 pub returns : goal.returns
 returns g c = λ logs stands.

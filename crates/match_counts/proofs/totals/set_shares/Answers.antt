@@ -10,11 +10,11 @@ loop-share-preserved c =
     let table = c.loop-share.table in
     let s = get_or c.args.shares.now i no_share in
     let inv = c.loop-share.invariant in
-    let inside : s.place < length table = omega (arith, c.requires i no_share c.loop-share-test.true) in
+    let inside : s.suspect < length table = omega (arith, c.requires i no_share c.loop-share-test.true) in
     record {
       put = λ truth right k lt. elim (cases_eq k i) [
-        | inl same ↦ rw same (set_here truth table s.place s.count inside (right i no_share c.loop-share-test.true))
-        | inr other ↦ set_keeps truth table s.place s.count inside (right i no_share c.loop-share-test.true) (get_or c.args.shares.now k no_share).place (inv.put truth right k (omega arith))
+        | inl same ↦ rw same (set_here truth table s.suspect s.count inside (right i no_share c.loop-share-test.true))
+        | inr other ↦ set_keeps truth table s.suspect s.count inside (right i no_share c.loop-share-test.true) (get_or c.args.shares.now k no_share).suspect (inv.put truth right k (omega arith))
       ];
       elsewhere = set_elsewhere c.args.shares.now i c.args.table.now table s.count inside inv.elsewhere;
     }

@@ -13,13 +13,13 @@ loop-share-init c = record {
 }
 
 pub plus-requires : goal.plus-requires
-plus-requires c = c.loop-share.invariant.at_most (2 ^ 63) c.requires.at_most (get_or c.args.shares.now c.loop-share.share-index no_share).place
+plus-requires c = c.loop-share.invariant.at_most (2 ^ 63) c.requires.at_most (get_or c.args.shares.now c.loop-share.share-index no_share).suspect
 
 pub loop-share-preserved : goal.loop-share-preserved
 loop-share-preserved c =
     let i = c.loop-share.share-index in
     let shares = c.args.shares.now in
-    let q = (get_or shares i no_share).place in
+    let q = (get_or shares i no_share).suspect in
     let before = c.args.totals.now in
     let start = c.args.table.now in
     let now = c.loop-share.totals in
@@ -31,8 +31,8 @@ loop-share-preserved c =
     let in_table : q < length table = omega (arith, below, c.requires.len) in
     record {
       each = take_more before start now table q x in_now in_table c.plus.ensures.sum inv.each;
-      done = λ k lt. set_blank table q (get_or shares k no_share).place in_table (elim (cases_eq k i) [
-        | inl same ↦ inl (ap (λ (j : ℕ). (get_or shares j no_share).place) same)
+      done = λ k lt. set_blank table q (get_or shares k no_share).suspect in_table (elim (cases_eq k i) [
+        | inl same ↦ inl (ap (λ (j : ℕ). (get_or shares j no_share).suspect) same)
         | inr other ↦ inr (inv.done k (omega arith))
       ]);
       at_most = λ n all. take_at_most before start now table n (2 ^ 32) q x in_now c.plus.ensures.sum c.plus.ensures.at_most (inv.each q) all (inv.at_most n all);

@@ -1,5 +1,5 @@
 use Rattle.std.proofs.Common.{◌≡◌, ◌-◌}
-use Rattle.packed_sim.specs.Places.{room}
+use Rattle.lane_rows.specs.Places.{room}
 use Rattle.match_counts.proofs.walk.clear_marks.Given as goal
 
 abbrev pub invariant-loop-net : goal.invariant-loop-net

@@ -1,6 +1,6 @@
 use Rattle.std.proofs.Common.{◌≡◌, ℕ, ◌-◌, ◌<◌, ◌≤◌, true, length}
 use Rattle.scan_model.specs.declared.fault.Fault.TheVariants as fault
-use Rattle.packed_sim.specs.Places.{has_place}
+use Rattle.lane_rows.specs.Places.{has_place}
 use Rattle.match_counts.specs.Walks.{IsNetDone, IsRenoted}
 use Rattle.match_counts.proofs.loaded.Loaded.note_moved.Given as goal
 

@@ -1,0 +1,140 @@
+-- Words of a set of places.
+use Rattle.std.proofs.Common.{◌≡◌, ◌≢◌, ℕ, zero, suc, ◌+◌, ◌-◌, ◌*◌, ◌/◌, ◌%◌, ◌^◌, ◌<◌, ◌≤◌, min, not, ◌||◌, ◌&&◌, eqb, List, length, get_or, set, Some, None, refl, sym, ap, ◌∙◌, inl, inr, arith, w64}
+use Rattle.std.specs.Prelude.{bit_and, bit_or}
+use Rattle.std.specs.Int.{bit_at, bit_not, trailing_zeros}
+use Rattle.std.specs.Int.Bits.{and_lt}
+use Rattle.std.proofs.lemmas.Bool.{cases_eq, cases_lt, eq-eqb, ne_eqb, and_right}
+use Rattle.std.proofs.lemmas.List.{get_or-set_same, get_or-set_other, length-set}
+use Rattle.std.proofs.lemmas.Nat.Bits.{bit_at-lt, bit_at_and, bit_at_set_same, bit_at_set_other, bit_at_clear_same, bit_at_clear_other, bit_at-trailing_zeros, bit_at-zero, bit_at_mask_inside, bit_at_mask_below, ones_shl}
+use Rattle.lane_rows.specs.Places.{bit_is_set, has_place, IsNextWithin, IsBelowMark}
+
+-- ---- one word
+
+abbrev pub from_bit : ℕ → ℕ → ℕ
+from_bit word low = bit_and word ((2 ^ 64 - 1) * 2 ^ low % 2 ^ 64)
+
+min_one : (b : ℕ) → b < 2 → min b 1 ≡ b
+min_one zero lt = refl
+min_one (suc zero) lt = refl
+min_one (suc (suc b)) lt = absurd (omega arith)
+
+min_zero : (b : ℕ) → b < 2 → min b 0 ≡ 0
+min_zero zero lt = refl
+min_zero (suc zero) lt = refl
+min_zero (suc (suc b)) lt = absurd (omega arith)
+
+module _ (word low : ℕ) (low_lt : low < 64) where
+  from_bit_is : (k : ℕ) → bit_at (from_bit word low) k ≡ min (bit_at word k) (bit_at (2 ^ 64 - 2 ^ low) k)
+  from_bit_is k = bit_at_and word ((2 ^ 64 - 1) * 2 ^ low % 2 ^ 64) k ∙ ap (λ (m : ℕ). min (bit_at word k) (bit_at m k)) (ones_shl 64 low (omega arith))
+
+  from_bit_kept : (k : ℕ) → low ≤ k → k < 64 → bit_at (from_bit word low) k ≡ bit_at word k
+  from_bit_kept k le lt = from_bit_is k ∙ ap (min (bit_at word k)) (bit_at_mask_inside low 64 k le lt) ∙ min_one (bit_at word k) (bit_at-lt word k)
+
+  from_bit_gone : (k : ℕ) → k < low → bit_at (from_bit word low) k ≡ 0
+  from_bit_gone k lt = from_bit_is k ∙ ap (min (bit_at word k)) (bit_at_mask_below low 64 k lt) ∙ min_zero (bit_at word k) (bit_at-lt word k)
+
+  pub no_bit : from_bit word low ≡ 0 → IsNextWithin (bit_is_set word) low 64 None
+  no_bit none k le lt =
+      let bit : bit_at word k ≡ 0 = sym (from_bit_kept k le lt) ∙ ap (λ (n : ℕ). bit_at n k) none ∙ bit_at-zero k in
+      ap (λ (b : ℕ). eqb b 1) bit
+
+  pub some_bit : word < 2 ^ 64 → from_bit word low ≢ 0 → IsNextWithin (bit_is_set word) low 64 (Some (trailing_zeros w64 (from_bit word low)))
+  some_bit word_lt some =
+      let rest = from_bit word low in
+      let t = trailing_zeros w64 rest in
+      let mask_lt : (2 ^ 64 - 1) * 2 ^ low % 2 ^ 64 < 2 ^ 64 = omega arith in
+      let rest_lt : rest < 2 ^ 64 = and_lt 64 word ((2 ^ 64 - 1) * 2 ^ low % 2 ^ 64) word_lt mask_lt in
+      let found = bit_at-trailing_zeros w64 rest (above rest some) rest_lt in
+      let from_low : low ≤ t = elim (cases_lt t low) [
+        | inl before ↦ absurd (one_zero (bit_at rest t) found.1 (from_bit_gone t before))
+        | inr after ↦ after
+      ] in (
+        from_low,
+        found.0,
+        eq-eqb (bit_at word t) 1 (sym (from_bit_kept t from_low found.0) ∙ found.1),
+        λ j le lt. let bit : bit_at word j ≡ 0 = sym (from_bit_kept j le (omega (arith, found.0))) ∙ found.2 j lt in ap (λ (b : ℕ). eqb b 1) bit,
+      )
+    where
+      above : (n : ℕ) → n ≢ 0 → 0 < n
+      above zero ne = absurd (ne refl)
+      above (suc n) ne = omega arith
+
+      one_zero : (b : ℕ) → b ≡ 1 → b ≡ 0 → ⊥
+      one_zero b one none = omega arith
+
+-- ---- one word of a set
+
+module _ (words : List ℕ) (word : ℕ) where
+  has_at : (i k : ℕ) → k < 64 → i ≡ word * 64 + k → has_place words i ≡ bit_is_set (get_or words word 0) k
+  has_at i k lt is =
+      let at : i / 64 ≡ word = omega arith in
+      let bit : i % 64 ≡ k = omega arith in
+      ap (λ (n : ℕ). bit_is_set (get_or words n 0) (i % 64)) at ∙ ap (bit_is_set (get_or words word 0)) bit
+
+  pub no_place : (low : ℕ) → IsNextWithin (bit_is_set (get_or words word 0)) low 64 None → IsNextWithin (has_place words) (word * 64 + low) (word * 64 + 64) None
+  no_place low none k le lt = has_at k (k - word * 64) (omega arith) (omega arith) ∙ none (k - word * 64) (omega arith) (omega arith)
+
+  pub some_place : (low bit : ℕ) → IsNextWithin (bit_is_set (get_or words word 0)) low 64 (Some bit) → IsNextWithin (has_place words) (word * 64 + low) (word * 64 + 64) (Some (word * 64 + bit))
+  some_place low bit some = (
+    omega (arith, some.0),
+    omega (arith, some.1),
+    has_at (word * 64 + bit) bit some.1 refl ∙ some.2,
+    λ j le lt. has_at j (j - word * 64) (omega (arith, some.1)) (omega arith) ∙ some.3 (j - word * 64) (omega arith) (omega arith),
+  )
+
+-- ---- a place put in, a place taken out
+
+module _ (words : List ℕ) (place : ℕ) (inside : place / 64 < length words) where
+  other_word : (w k : ℕ) → k / 64 ≢ place / 64 → has_place (set words (place / 64) w) k ≡ has_place words k
+  other_word w k apart = ap (λ (n : ℕ). bit_is_set n (k % 64)) (get_or-set_other words (place / 64) (k / 64) w 0 apart)
+
+  same_word : (w k : ℕ) → k / 64 ≡ place / 64 → has_place (set words (place / 64) w) k ≡ bit_is_set w (k % 64)
+  same_word w k same = ap (λ (n : ℕ). bit_is_set n (k % 64)) (ap (λ (n : ℕ). get_or (set words (place / 64) w) n 0) same ∙ get_or-set_same words (place / 64) w 0 inside)
+
+  old_word : (k : ℕ) → k / 64 ≡ place / 64 → has_place words k ≡ bit_is_set (get_or words (place / 64) 0) (k % 64)
+  old_word k same = ap (λ (n : ℕ). bit_is_set (get_or words n 0) (k % 64)) same
+
+  abbrev pub put_in : ℕ
+  put_in = bit_or (get_or words (place / 64) 0) (1 * 2 ^ (place % 64) % 2 ^ 64)
+
+  abbrev pub taken_out : ℕ
+  taken_out = bit_and (get_or words (place / 64) 0) (bit_not w64 (1 * 2 ^ (place % 64) % 2 ^ 64))
+
+  pub has_put : (k : ℕ) → has_place (set words (place / 64) put_in) k ≡ (eqb k place || has_place words k)
+  has_put k = elim (cases_eq k place) [
+    | inl same ↦ rw (eq-eqb k place same) (
+        same_word put_in k (ap (λ (n : ℕ). n / 64) same)
+        ∙ ap (λ (n : ℕ). bit_is_set put_in (n % 64)) same
+        ∙ eq-eqb (bit_at put_in (place % 64)) 1 (bit_at_set_same w64 (get_or words (place / 64) 0) (place % 64) (omega arith)))
+    | inr other ↦ rw (ne_eqb k place other) (elim (cases_eq (k / 64) (place / 64)) [
+      | inl same ↦
+          let apart : k % 64 ≢ place % 64 = λ e. other (omega arith) in
+          same_word put_in k same
+          ∙ ap (λ (b : ℕ). eqb b 1) (bit_at_set_other w64 (get_or words (place / 64) 0) (place % 64) (omega arith) (k % 64) apart)
+          ∙ sym (old_word k same)
+      | inr far ↦ other_word put_in k far
+    ])
+  ]
+
+  pub has_taken : (k : ℕ) → has_place (set words (place / 64) taken_out) k ≡ (not (eqb k place) && has_place words k)
+  has_taken k = elim (cases_eq k place) [
+    | inl same ↦ rw (eq-eqb k place same) (
+        same_word taken_out k (ap (λ (n : ℕ). n / 64) same)
+        ∙ ap (λ (n : ℕ). bit_is_set taken_out (n % 64)) same
+        ∙ ap (λ (b : ℕ). eqb b 1) (bit_at_clear_same w64 (get_or words (place / 64) 0) (place % 64) (omega arith)))
+    | inr other ↦ rw (ne_eqb k place other) (elim (cases_eq (k / 64) (place / 64)) [
+      | inl same ↦
+          let apart : k % 64 ≢ place % 64 = λ e. other (omega arith) in
+          same_word taken_out k same
+          ∙ ap (λ (b : ℕ). eqb b 1) (bit_at_clear_other w64 (get_or words (place / 64) 0) (place % 64) (omega arith) (k % 64) (omega arith) apart)
+          ∙ sym (old_word k same)
+      | inr far ↦ other_word taken_out k far
+    ])
+  ]
+
+  pub mark_taken : (mark : ℕ) → IsBelowMark words mark → IsBelowMark (set words (place / 64) taken_out) mark
+  mark_taken mark below = record {
+    fits = omega (arith, below.fits, length-set words (place / 64) taken_out);
+    within = omega (arith, below.within, length-set words (place / 64) taken_out);
+    rest = λ k le. has_taken k ∙ and_right (not (eqb k place)) (has_place words k) (below.rest k le);
+  }

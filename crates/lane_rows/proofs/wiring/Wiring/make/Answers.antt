@@ -1,0 +1,14 @@
+use Rattle.scan_model.specs.Marks.{is_marked}
+use Rattle.lane_rows.proofs.Sinks.{leads_up}
+use Rattle.lane_rows.proofs.wiring.Wiring.make.Goals as goal
+
+pub returns : goal.returns
+returns c =
+    let made = rw (c.deref-2.ensures.value, c.deref-3.ensures.value) at c.in_ok-sinks.ensures in
+    record {
+      live = is_marked c.in_ok-marks.marks.items;
+      own = c.in_ok-marks.ensures.marked.own;
+      up = leads_up c.args.circuit.now c.nets.ensures.circuit.netlist c.args.observed.now (is_marked c.in_ok-marks.marks.items) c.in_ok-marks.ensures.marked;
+      wired = made.wired;
+      covers = made.covers;
+    }

@@ -1,0 +1,27 @@
+use Rattle.std.proofs.Common.{◌≡◌, ◌+◌, ◌<◌, length, map, get_or, ap, ◌∙◌, arith}
+use Rattle.scan_model.specs.Marks.{is_marked}
+use Rattle.lane_rows.proofs.Once.{once, order_short}
+use Rattle.lane_rows.proofs.Sinks.{made_for}
+use Rattle.lane_rows.proofs.wiring.sinks_of.Goals as goal
+
+pub places_of-requires-clause-fits : goal.places_of-requires-clause-fits
+places_of-requires-clause-fits c = omega (arith, order_short c.args.circuit.now c.args.order.now c.requires.order, c.nets.ensures.circuit.nets_fit)
+
+pub places_of-requires-clause-once : goal.places_of-requires-clause-once
+places_of-requires-clause-once c = once c.args.circuit.now c.args.order.now c.requires.order
+
+pub returns : goal.returns
+returns c =
+    let names = c.in_ok-names.names.items in
+    let keys = c.in_ok-keys.keys.items in
+    let count : c.len-nets.result ≡ length c.args.circuit.now.nets = c.len-nets.ensures ∙ ap length c.nets.ensures.value in
+    made_for c.args.circuit.now c.nets.ensures.circuit.netlist c.args.order.now c.in_ok-places.places.items names keys (is_marked c.args.marks.now) c.in_ok-sinks.sinks c.requires.order
+    c.in_ok-places.ensures
+    (rw c.deref.ensures.value at c.in_ok-names.ensures)
+    c.in_ok-keys.ensures.keys c.in_ok-keys.ensures.len
+    (omega (arith, c.in_ok-sinks.ensures.len, c.in_ok-pins.ensures.len, count))
+    (λ n lt.
+    let inside : n < c.len-nets.result + 1 = omega (arith, count) in
+    let within : n < length c.in_ok-pins.pins = omega (arith, c.in_ok-pins.ensures.len) in
+    (rw c.deref-3.ensures.value at (c.in_ok-sinks.ensures.groups n within))
+    ∙ ap (map (λ p. get_or names p 0)) (rw c.deref-2.ensures.value at (c.in_ok-pins.ensures.groups n inside)))

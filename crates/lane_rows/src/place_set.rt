@@ -1,0 +1,111 @@
+ghost use Rattle.std.specs.Prelude.{◌≡◌, ℕ, ◌+◌, ◌*◌, ◌/◌, ◌^◌, ◌<◌, ◌≤◌, false, length, IfOk, ◌==◌, ◌&&◌, ◌||◌, not};
+ghost use Rattle.lane_rows.specs.Places.{bit_is_set, has_place, room, IsNextFrom, IsNextWithin};
+
+use scan_model::NoMemory;
+use std::alloc::Global;
+use std::marker::Model;
+
+/// A set of places, numbers from 0 up to a bound. Contracts see its words of 64 bits, by `has_place` and `room`. No word at or
+/// past the high mark has a member.
+#[derive(Debug, Drop)]
+pub struct PlaceSet {
+    words: Vec<u64>,
+    high: usize,
+}
+
+impl Model for PlaceSet {
+    ghost use Rattle.std.specs.Prelude.{ℕ, List};
+
+    ghost Value = { List ℕ };
+
+    ghost use Rattle.lane_rows.specs.Places.{IsBelowMark};
+
+    ghost view = { λ s. s.words.items };
+
+    ghost invariant = { λ s. IsBelowMark s.words.items s.high };
+}
+
+/// The least bit from `low` on that a word has.
+fn least_bit(word: u64, low: usize) -> Option<usize>
+    requires { low < 64 }
+    ensures { IsNextWithin (bit_is_set word) low 64 result }
+{
+    let rest = word & (u64::MAX << low);
+    if rest == 0 {
+        None
+    } else {
+        Some(rest.trailing_zeros() as usize)
+    }
+}
+
+/// The least place of a word, from bit `low` on.
+fn least_place(words: &[u64], word: usize, low: usize) -> Option<usize>
+    requires words { length words.now ≤ 2 ^ 26 }
+    requires word { word < length words.now }
+    requires low { low < 64 }
+    ensures { IsNextWithin (has_place words.now) (word * 64 + low) (word * 64 + 64) result }
+{
+    match least_bit(words[word], low) {
+        Some(bit) => Some(word * 64 + bit),
+        None => None,
+    }
+}
+
+impl PlaceSet {
+    /// The empty set, with room for the places below `places`. The only error is want of memory.
+    pub fn make(alloc: Global, places: usize) -> Result<PlaceSet, NoMemory>
+        requires { places < 2 ^ 32 }
+        ensures empty { IfOk result (λ s. (k : ℕ) → has_place s k ≡ false) }
+        ensures room { IfOk result (λ s. places ≤ room s) }
+    {
+        let words = vec![in alloc; 0u64; places / 64 + 1]?;
+        Ok(PlaceSet { words, high: 0 })
+    }
+
+    /// Puts a place in, whether or not it's there.
+    pub fn insert(&mut self, place: usize)
+        requires { place < room self.old }
+        ensures places { (k : ℕ) → has_place self.new k ≡ ((k == place) || has_place self.old k) }
+        ensures room { room self.new ≡ room self.old }
+    {
+        let word = place / 64;
+        self.words[word] |= 1u64 << (place % 64);
+        self.high = self.high.max(word + 1);
+    }
+
+    /// Takes a place out, whether or not it's there.
+    pub fn remove(&mut self, place: usize)
+        requires { place < room self.old }
+        ensures places { (k : ℕ) → has_place self.new k ≡ (not (k == place) && has_place self.old k) }
+        ensures room { room self.new ≡ room self.old }
+    {
+        self.words[place / 64] &= !(1u64 << (place % 64));
+    }
+
+    /// Brings the high mark of an empty set down, so that a look for a member ends at once.
+    pub fn lower_mark(&mut self)
+        requires { (k : ℕ) → has_place self.old k ≡ false }
+        ensures { self.new ≡ self.old }
+    {
+        self.high = 0;
+    }
+
+    /// The least member that is `from` or more, if any; `from` may lie past the room.
+    pub fn next_from(&self, from: usize) -> Option<usize>
+        ensures { IsNextFrom (has_place self.now) from result }
+    {
+        let first = from / 64;
+        if first >= self.high {
+            return None;
+        }
+        if let Some(place) = least_place(&self.words, first, from % 64) {
+            return Some(place);
+        }
+        for word in first + 1..self.high {
+            if let Some(place) = least_place(&self.words, word, 0) {
+                return Some(place);
+            }
+        }
+        None
+    }
+}

@@ -1,0 +1,209 @@
+ghost use Rattle.std.specs.Prelude.{◌≡◌, ◌≢◌, ◌||◌, ◌==◌, ℕ, ◌+◌, ◌<◌, ◌≤◌, ◌^◌, true, false, Contains, length, All, IfOk, IsTrue, slice_index};
+ghost use Rattle.std.specs.List.{list_any};
+ghost use Rattle.scan_model.specs.Netlist.{is_gate, is_gate_net, reads, pin_at};
+ghost use Rattle.scan_model.specs.Walks.{IsEvaluationOrder};
+ghost use Rattle.scan_model.specs.Marks.{is_marked};
+ghost use Rattle.lane_rows.specs.Wired.{AreMarked, IsMadeFor, IsWiredFor, sink_key, sink_gate};
+
+use crate::groups::Groups;
+use scan_model::{Circuit, Driver, Net, NoMemory, Pin, PinPlace};
+use std::alloc::Global;
+
+/// The gates of a circuit in an order of evaluation, and for each net who waits for it: the gates that read it and lead to an
+/// observed net.
+#[derive(Debug, Drop)]
+pub struct Wiring {
+    /// The net of each gate, once each, behind the gates that it reads.
+    pub order: Vec<u32>,
+    /// In group n the places in `order`, from 0, of the gates that wait for net n. What stands in groups past the nets means
+    /// nothing.
+    pub sinks: Groups,
+}
+
+/// The place of each gate in an order.
+fn places_of(alloc: Global, order: &[u32], nets: usize) -> Result<Vec<u32>, NoMemory>
+    requires nets { All (λ g. g < nets) order.now }
+    requires fits { length order.now < 2 ^ 32 }
+    requires once { (i j : ℕ) → i < j → j < length order.now → slice_index order.now i ≢ slice_index order.now j }
+    ensures { IfOk result (λ places. (k : ℕ) → k < length order.now → slice_index places.items (slice_index order.now k) ≡ k) }
+{
+    let mut places = vec![in alloc; 0u32; nets]?;
+    write_places(&mut places, order);
+    Ok(places)
+}
+
+fn write_places(places: &mut [u32], order: &[u32])
+    requires nets { All (λ g. g < length places.old) order.now }
+    requires fits { length order.now < 2 ^ 32 }
+    requires once { (i j : ℕ) → i < j → j < length order.now → slice_index order.now i ≢ slice_index order.now j }
+    ensures { (k : ℕ) → k < length order.now → slice_index places.new (slice_index order.now k) ≡ k }
+{
+    for k in 0..order.len() {
+        places[order[k] as usize] = k as u32;
+    }
+}
+
+/// Marks nets.
+fn mark_all(marks: &mut [bool], nets: &[u32])
+    requires { All (λ n. n < length marks.old) nets.now }
+    ensures { (k : ℕ) → k < length nets.now → is_marked marks.new (slice_index nets.now k) ≡ true }
+{
+    for k in 0..nets.len() {
+        marks[nets[k] as usize] = true;
+    }
+}
+
+/// Marks what a gate reads.
+fn mark_reads(circuit: &Circuit, marks: &mut [bool], gate: u32)
+    requires gate { gate < length circuit.now.nets }
+    requires marks { length marks.old ≡ length circuit.now.nets }
+    ensures { (n : ℕ) → is_marked marks.new n ≡ (is_marked marks.old n || list_any (λ h. n == h) (reads circuit.now gate)) }
+{
+    for i in 0..circuit.read_count(gate) {
+        marks[circuit.read_at(gate, i) as usize] = true;
+    }
+}
+
+/// Marks what a gate with a mark reads.
+fn mark_back(circuit: &Circuit, marks: &mut [bool], gate: u32)
+    requires gate { gate < length circuit.now.nets }
+    requires marks { length marks.old ≡ length circuit.now.nets }
+    ensures reads { is_marked marks.old gate ≡ true → (n : ℕ) → Contains (reads circuit.now gate) n → is_marked marks.new n ≡ true }
+    ensures kept { (n : ℕ) → is_marked marks.old n ≡ true → is_marked marks.new n ≡ true }
+    ensures only { (n : ℕ) → is_marked marks.new n ≡ true → is_marked marks.old n ≡ false → Contains (reads circuit.now gate) n }
+{
+    if marks[gate as usize] {
+        mark_reads(circuit, marks, gate);
+    }
+}
+
+/// Marks all that leads to a net with a mark, by one sweep back through the gates.
+fn mark_sources(circuit: &Circuit, order: &[u32], marks: &mut [bool])
+    requires order { IsEvaluationOrder circuit.now order.now }
+    requires marks { length marks.old ≡ length circuit.now.nets }
+    ensures kept { (n : ℕ) → is_marked marks.old n ≡ true → is_marked marks.new n ≡ true }
+    ensures closed { (g n : ℕ) → g < length circuit.now.nets → is_gate circuit.now g ≡ true → is_marked marks.new g ≡ true → Contains (reads circuit.now g) n → is_marked marks.new n ≡ true }
+{
+    let _ = circuit.nets();
+    let mut k = order.len();
+    while k > 0 {
+        k -= 1;
+        mark_back(circuit, marks, order[k]);
+    }
+}
+
+/// Marks on the nets that lead to one of the observed nets.
+fn live_marks(
+    alloc: Global,
+    circuit: &Circuit,
+    order: &[u32],
+    observed: &[u32],
+) -> Result<Vec<bool>, NoMemory>
+    requires order { IsEvaluationOrder circuit.now order.now }
+    requires observed { All (λ n. n < length circuit.now.nets) observed.now }
+    ensures len { IfOk result (λ marks. length marks.items ≡ length circuit.now.nets) }
+    ensures marked { IfOk result (λ marks. AreMarked circuit.now observed.now (is_marked marks.items)) }
+{
+    let mut marks = vec![in alloc; false; circuit.nets().len()]?;
+    mark_all(&mut marks, observed);
+    mark_sources(circuit, order, &mut marks);
+    Ok(marks)
+}
+
+fn has_gate(nets: &[Net], net: u32) -> bool
+    requires { net < length nets.now }
+    ensures { result ≡ is_gate_net nets.now net }
+{
+    matches!(nets[net as usize].driver, Driver::Gate(_))
+}
+
+/// The net that a pin sees where it is an operand of a gate with a mark, else one past the nets.
+fn key_of(circuit: &Circuit, marks: &[bool], pin: u32) -> u32
+    requires pin { pin < length circuit.now.pins }
+    requires marks { length marks.now ≡ length circuit.now.nets }
+    ensures value { result ≡ sink_key circuit.now (is_marked marks.now) pin }
+    ensures range { result ≤ length circuit.now.nets }
+{
+    let nets = circuit.nets().as_slice();
+    let pin = circuit.pins().as_slice()[pin as usize];
+    if let PinPlace::Operand { net, .. } = pin.place {
+        if has_gate(nets, net) && marks[net as usize] {
+            return pin.net;
+        }
+    }
+    nets.len() as u32
+}
+
+/// The place of the gate of which a pin is an operand.
+fn place_of(circuit: &Circuit, places: &[u32], pin: u32) -> u32
+    requires { pin < length circuit.now.pins }
+    ensures { result ≡ slice_index places.now (sink_gate circuit.now pin) }
+{
+    match circuit.pins().as_slice()[pin as usize].place {
+        PinPlace::Operand { net, .. } => match places.get(net as usize) {
+            Some(place) => *place,
+            None => 0,
+        },
+        PinPlace::Output { .. } => match places.first() {
+            Some(place) => *place,
+            None => 0,
+        },
+    }
+}
+
+fn keys_of(alloc: Global, circuit: &Circuit, marks: &[bool]) -> Result<Vec<u32>, NoMemory>
+    requires { length marks.now ≡ length circuit.now.nets }
+    ensures len { IfOk result (λ keys. length keys.items ≡ length circuit.now.pins) }
+    ensures keys { IfOk result (λ keys. (p : ℕ) → p < length circuit.now.pins → slice_index keys.items p ≡ sink_key circuit.now (is_marked marks.now) p) }
+    ensures range { IfOk result (λ keys. All (λ k. k < length circuit.now.nets + 1) keys.items) }
+{
+    let mut keys = Vec::with_capacity(alloc, circuit.pins().len())?;
+    for pin in 0..circuit.pins().len() {
+        keys.push(key_of(circuit, marks, pin as u32))?;
+    }
+    Ok(keys)
+}
+
+fn pin_places(alloc: Global, circuit: &Circuit, places: &[u32]) -> Result<Vec<u32>, NoMemory>
+    ensures { IfOk result (λ names. (p : ℕ) → p < length circuit.now.pins → slice_index names.items p ≡ slice_index places.now (sink_gate circuit.now p)) }
+{
+    let mut names = Vec::with_capacity(alloc, circuit.pins().len())?;
+    for pin in 0..circuit.pins().len() {
+        names.push(place_of(circuit, places, pin as u32))?;
+    }
+    Ok(names)
+}
+
+/// For each net the places of the gates with a mark that read it.
+fn sinks_of(
+    alloc: Global,
+    circuit: &Circuit,
+    order: &[u32],
+    marks: &[bool],
+) -> Result<Groups, NoMemory>
+    requires order { IsEvaluationOrder circuit.now order.now }
+    requires marks { length marks.now ≡ length circuit.now.nets }
+    ensures { IfOk result (IsMadeFor circuit.now order.now (is_marked marks.now)) }
+{
+    let nets = circuit.nets().len();
+    let places = places_of(alloc, order, nets)?;
+    let keys = keys_of(alloc, circuit, marks)?;
+    let names = pin_places(alloc, circuit, &places)?;
+    let pins = Groups::of(alloc, &keys, nets + 1)?;
+    let sinks = pins.renamed(alloc, &names)?;
+    Ok(sinks)
+}
+
+impl Wiring {
+    /// The wiring of a circuit, for the gates that lead to one of the observed nets. The only error is want of memory.
+    pub fn make(alloc: Global, circuit: &Circuit, observed: &[u32]) -> Result<Wiring, NoMemory>
+        requires { All (λ n. n < length circuit.now.nets) observed.now }
+        ensures { IfOk result (λ w. IsWiredFor circuit.now observed.now w.order.items w.sinks) }
+    {
+        let _ = circuit.nets();
+        let order = Vec::from_slice(alloc, circuit.order().as_slice())?;
+        let marks = live_marks(alloc, circuit, &order, observed)?;
+        let sinks = sinks_of(alloc, circuit, &order, &marks)?;
+        Ok(Wiring { order, sinks })
+    }
+}
