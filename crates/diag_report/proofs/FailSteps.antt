@@ -1,5 +1,5 @@
 -- The lines of predicted fails, bit by bit.
-use Rattle.std.proofs.Common.{◌≡◌, ◌≢◌, ℕ, zero, suc, ◌+◌, ◌*◌, ◌/◌, ◌%◌, ◌<◌, get_or, take, arith, Bool, true, false, not, ◌&&◌, eqb, ltb, cond, List, [], ◌∷◌, ◌++◌, map, refl, sym, ap, subst, ◌∙◌, inl, inr, append-nil, append_assoc, length}
+use Rattle.std.proofs.Common.{◌≡◌, ◌≢◌, ℕ, zero, suc, ◌+◌, ◌*◌, ◌/◌, ◌%◌, ◌<◌, get_or, take, arith, Bool, true, false, not, ◌&&◌, eqb, ltb, cond, List, [], ◌∷◌, ◌++◌, map, refl, sym, ap, subst, ◌∙◌, inl, inr, append-nil, length}
 use Rattle.std.specs.Prelude.{All, filter, codes}
 use Rattle.std.specs.Int.{bit_at}
 use Rattle.std.specs.List.{range_with_len}
@@ -22,6 +22,7 @@ use Rattle.diag_report.specs.LineEnds.{AddsLines}
 use Rattle.diag_report.specs.PredictedLog.{fail_lines}
 use Rattle.diag_report.specs.WordFails.{has_fails, points_with_fails, bits_from}
 use Rattle.diag_report.proofs.LineSteps.{both_added}
+use Rattle.diag_report.proofs.TallySteps.{block_append}
 
 fail_lines-append : (t : ScanTest) (f : Fault) (xs ys : List Bit) → fail_lines t f (xs ++ ys) ≡ fail_lines t f xs ++ fail_lines t f ys
 fail_lines-append t f xs ys = ap (map (bit_line t (codes "fail"))) (filter-append (predicts_fail t f) xs ys) ∙ map-append (bit_line t (codes "fail")) (filter (predicts_fail t f) xs) (filter (predicts_fail t f) ys)
@@ -118,22 +119,10 @@ point_left fails k d points lt none so_far =
 
 -- ---- patterns
 
-bits_from-append : (t : ScanTest) (a m n : ℕ) → bits_from t a (m + n) ≡ bits_from t a m ++ bits_from t (a + m) n
-bits_from-append t a zero n =
-    let count : 0 + n ≡ n = omega arith in
-    let same : a ≡ a + 0 = omega arith in
-    ap (λ (k : ℕ). bits_from t a k) count ∙ ap (λ (b : ℕ). bits_from t b n) same
-bits_from-append t a (suc m) n =
-    let row = row_bits a (length (points_of t)) in
-    let count : suc m + n ≡ suc (m + n) = omega arith in
-    let next : a + 1 + m ≡ a + suc m = omega arith in
-    ap (λ (k : ℕ). bits_from t a k) count ∙ ap (λ (bs : List Bit). row ++ bs) (bits_from-append t (a + 1) m n ∙ ap (λ (b : ℕ). bits_from t (a + 1) m ++ bits_from t b n) next)
-    ∙ sym (append_assoc row (bits_from t (a + 1) m) (bits_from t (a + suc m) n))
-
 -- more patterns
 pub patterns_listed : (t : ScanTest) (f : Fault) (first m n : ℕ) (a b c : Draft) → AddsLines (fail_lines t f (bits_from t first m)) a b → AddsLines (fail_lines t f (bits_from t (first + m) n)) b c → AddsLines (fail_lines t f (bits_from t first (m + n))) a c
 patterns_listed t f first m n a b c before then =
-    subst (λ (ls : List (List ℕ)). AddsLines ls a c) (sym (ap (fail_lines t f) (bits_from-append t first m n) ∙ fail_lines-append t f (bits_from t first m) (bits_from t (first + m) n)))
+    subst (λ (ls : List (List ℕ)). AddsLines ls a c) (sym (ap (fail_lines t f) (block_append (length (points_of t)) first m n) ∙ fail_lines-append t f (bits_from t first m) (bits_from t (first + m) n)))
     (both_added (fail_lines t f (bits_from t first m)) (fail_lines t f (bits_from t (first + m) n)) a b c before then)
 
 -- one pattern

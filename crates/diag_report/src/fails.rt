@@ -145,9 +145,11 @@ fn fail_lines<L: Ledger>(
     alloc: Global,
     draft: &mut Draft,
     parts: &Parts,
+    good: &PackedGood,
     fault: &Fault,
     blank: Blank,
 ) -> Result<(), NoMemory>
+    requires good { BelongsTo parts.now good.now }
     requires fault { Contains (universe parts.now) fault.now }
     requires name { blank.name ≡ L.name }
     requires parts { blank.parts ≡ L.parts }
@@ -155,9 +157,8 @@ fn fail_lines<L: Ledger>(
     ensures { OnOk result (AddsLines (log.fail_lines parts.now fault.now (bits_of parts.now)) draft.old draft.new) }
 {
     let mut steps = Steps::<L>::open(blank);
-    let good = PackedGood::make(alloc, parts)?;
     let mut fails = vec![in alloc; 0u64; parts.points().len()]?;
-    fails_by_word(alloc, draft, parts, &good, fault, &mut fails, &mut steps)
+    fails_by_word(alloc, draft, parts, good, fault, &mut fails, &mut steps)
 }
 
 /// Adds the last line.
@@ -168,8 +169,37 @@ fn last_line(draft: &mut Draft) -> Result<(), NoMemory>
     end_line(draft)
 }
 
-/// The fail log that the fault at a place predicts: all patterns are tested, and exactly its predicted fails are listed.
-/// The fault is simulated in 64 patterns at a time; besides it takes time linear in the patterns and points.
+/// The fail log that the fault at a place predicts, over fault-free values that are kept: all patterns are tested, and exactly
+/// its predicted fails are listed. The fault is simulated in 64 patterns at a time; besides it takes time linear in the patterns
+/// and points.
+pub fn fails_text_over(
+    alloc: Global,
+    parts: &Parts,
+    good: &PackedGood,
+    design: &[u8],
+    die: &[u8],
+    place: u32,
+) -> Result<Name, NoMemory>
+    requires good { BelongsTo parts.now good.now }
+    requires place { place < length (universe parts.now) }
+    requires design { IsTrue (is_tag design.now) }
+    requires die { IsTrue (is_tag die.now) }
+    ensures text { IfOk result (λ text. text ≡ log.predicted_log parts.now design.now die.now (log.fault_of parts.now place)) }
+    ensures reading { IfOk result (λ text. log.HasWordNames parts.now → log_reading (log_frame parts.now design.now die.now) text ≡ Ok (log.predicted_facts parts.now (log.fault_of parts.now place))) }
+    ensures counts { log.ExplainsOwnLog parts.now (log.fault_of parts.now place) }
+{
+    let Some(fault) = fault_at(parts, place) else {
+        unreachable!()
+    };
+    let mut draft = new_draft(alloc);
+    head(&mut draft, parts, design, die)?;
+    fail_lines::<Brand>(alloc, &mut draft, parts, good, &fault, Blank::new(1))?;
+    last_line(&mut draft)?;
+    let Draft { text, .. } = draft;
+    Ok(text)
+}
+
+/// The same, over fault-free values that are made for it alone.
 pub fn fails_text(
     alloc: Global,
     parts: &Parts,
@@ -184,13 +214,6 @@ pub fn fails_text(
     ensures reading { IfOk result (λ text. log.HasWordNames parts.now → log_reading (log_frame parts.now design.now die.now) text ≡ Ok (log.predicted_facts parts.now (log.fault_of parts.now place))) }
     ensures counts { log.ExplainsOwnLog parts.now (log.fault_of parts.now place) }
 {
-    let Some(fault) = fault_at(parts, place) else {
-        unreachable!()
-    };
-    let mut draft = new_draft(alloc);
-    head(&mut draft, parts, design, die)?;
-    fail_lines::<Brand>(alloc, &mut draft, parts, &fault, Blank::new(1))?;
-    last_line(&mut draft)?;
-    let Draft { text, .. } = draft;
-    Ok(text)
+    let good = PackedGood::make(alloc, parts)?;
+    fails_text_over(alloc, parts, &good, design, die, place)
 }

@@ -10,7 +10,7 @@ mod summary;
 mod tally;
 mod text;
 
-pub use fails::fails_text;
+pub use fails::{fails_text, fails_text_over};
 pub use ranking::rank;
 pub use report::{PastEnd, Report};
 pub use summary::summary_text;

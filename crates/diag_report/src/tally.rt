@@ -1,11 +1,11 @@
-ghost use Rattle.std.specs.Prelude.{◌≡◌, ℕ, ◌+◌, ◌^◌, ◌<◌, ◌≤◌, ◌++◌, List, length, IfOk, OnOk};
-ghost use Rattle.scan_model.specs.declared.logs.Bit.{Bit};
+ghost use Rattle.std.specs.Prelude.{◌≡◌, ℕ, ◌+◌, ◌*◌, ◌^◌, ◌<◌, ◌≤◌, List, length, map, filter, All, IfOk, OnOk};
 ghost use Rattle.scan_model.specs.declared.logs.LogFacts.{LogFacts};
 ghost use Rattle.scan_model.specs.ScanTest.{points_of};
-ghost use Rattle.scan_model.specs.Classes.{class_with};
+ghost use Rattle.scan_model.specs.Coverage.{bit_of};
+ghost use Rattle.scan_model.specs.Classes.{class_with, is_failing, is_passing};
 ghost use Rattle.log_join.specs.Joining.{StandsFor, IsJoinedOf, FitsExpected};
 ghost use Rattle.fault_universe.specs.BitRows.{row_bits};
-ghost use Rattle.diag_report.specs.BitTally.{tally_over, tally_of, noted, IsTallyOf};
+ghost use Rattle.diag_report.specs.BitTally.{tally_of, word_block, listed, listed_over, HaveSameAside, IsTallyOf};
 
 use log_join::Joined;
 use scan_model::{Bit, BitClass, Expected, NoMemory, Parts, Rows};
@@ -20,49 +20,131 @@ pub(crate) struct Tally {
     pub(crate) masked: Rows<Bit>,
 }
 
-/// Notes one bit.
-fn note(tally: &mut Tally, class: BitClass, bit: Bit) -> Result<(), NoMemory>
-    requires failing { tally.old.failing < 2 ^ 63 }
-    requires passing { tally.old.passing < 2 ^ 63 }
-    ensures { OnOk result (tally.new ≡ noted tally.old class bit) }
+/// How many bits of the 64 patterns of a word are Failing.
+fn count_failing(expected: &Expected, joined: &Joined, word: u32, points: u32) -> u64
+    requires expected { FitsExpected expected.now joined.now }
+    requires word { 64 * word < joined.now.patterns }
+    requires points { points ≡ joined.now.points }
+    ensures count { (logs : List LogFacts) → StandsFor logs joined.now
+        → result ≡ length (filter (λ b. is_failing (class_with expected.now logs b)) (word_block joined.now.patterns word points)) }
+    ensures few { result ≤ 64 * points }
+{
+    let mut count = 0;
+    for point in 0..points {
+        let bits = joined.failing_word(expected, word, point);
+        count += u64::from(bits.count_ones());
+    }
+    count
+}
+
+/// How many bits of the 64 patterns of a word are Passing.
+fn count_passing(expected: &Expected, joined: &Joined, word: u32, points: u32) -> u64
+    requires expected { FitsExpected expected.now joined.now }
+    requires word { 64 * word < joined.now.patterns }
+    requires points { points ≡ joined.now.points }
+    ensures count { (logs : List LogFacts) → StandsFor logs joined.now
+        → result ≡ length (filter (λ b. is_passing (class_with expected.now logs b)) (word_block joined.now.patterns word points)) }
+    ensures few { result ≤ 64 * points }
+{
+    let mut count = 0;
+    for point in 0..points {
+        let bits = joined.passing_word(expected, word, point);
+        count += u64::from(bits.count_ones());
+    }
+    count
+}
+
+/// The points with a Conflict or a Masked bit in some of the 64 patterns of a word, in rising order.
+fn set_aside_points(
+    alloc: Global,
+    expected: &Expected,
+    joined: &Joined,
+    word: u32,
+    points: u32,
+) -> Result<Rows<u32>, NoMemory>
+    requires expected { FitsExpected expected.now joined.now }
+    requires word { 64 * word < joined.now.patterns }
+    requires points { points ≡ joined.now.points }
+    ensures inside { IfOk result (All (λ k. k < points)) }
+    ensures aside { IfOk result (λ found. (logs : List LogFacts) → StandsFor logs joined.now → (j : ℕ) → j < 64 → 64 * word + j < joined.now.patterns
+        → HaveSameAside (class_with expected.now logs) (map (bit_of (64 * word + j)) found) (row_bits (64 * word + j) points)) }
+{
+    let mut found = Rows::new(alloc);
+    for point in 0..points {
+        let bits = joined.set_aside_word(expected, word, point);
+        if bits != 0 {
+            found.push(point)?;
+        }
+    }
+    Ok(found)
+}
+
+/// Lists one bit, if it is Conflict or Masked.
+fn list(tally: &mut Tally, class: BitClass, bit: Bit) -> Result<(), NoMemory>
+    ensures { OnOk result (tally.new ≡ listed tally.old class bit) }
 {
     match class {
         BitClass::Conflict => tally.conflict.push(bit)?,
         BitClass::Masked => tally.masked.push(bit)?,
-        BitClass::Failing => tally.failing += 1,
-        BitClass::Passing => tally.passing += 1,
-        BitClass::Uncounted => {}
+        _ => {}
     }
     Ok(())
 }
 
-/// Notes the bits of one pattern.
-fn tally_row(
+/// Lists the Conflict and the Masked bits of a pattern at some points.
+fn list_row(
     tally: &mut Tally,
     expected: &Expected,
     joined: &Joined,
     pattern: u32,
-    points: u32,
+    points: &[u32],
 ) -> Result<(), NoMemory>
     requires expected { FitsExpected expected.now joined.now }
     requires pattern { pattern < joined.now.patterns }
-    requires points { points ≡ joined.now.points }
-    requires few { points ≤ 131072 }
-    requires tally { IsTallyOf points (2 ^ 62) tally.old }
-    ensures classes { OnOk result ((logs : List LogFacts) (bits : List Bit) → StandsFor logs joined.now
-        → tally.old ≡ tally_over (class_with expected.now logs) bits
-        → tally.new ≡ tally_over (class_with expected.now logs) (bits ++ row_bits pattern points)) }
-    ensures tally { OnOk result ((n : ℕ) → IsTallyOf points n tally.old → IsTallyOf points (n + points) tally.new) }
+    requires points { All (λ k. k < joined.now.points) points.now }
+    ensures listed { OnOk result ((logs : List LogFacts) → StandsFor logs joined.now
+        → tally.new ≡ listed_over (class_with expected.now logs) (map (bit_of pattern) points.now) tally.old) }
+    ensures tally { OnOk result ((n : ℕ) → IsTallyOf joined.now.points n tally.old → IsTallyOf joined.now.points n tally.new) }
 {
-    for point in 0..points {
-        let bit = Bit { pattern, point };
+    for i in 0..points.len() {
+        let bit = Bit {
+            pattern,
+            point: points[i],
+        };
         let class = joined.class(expected, &bit);
-        note(tally, class, bit)?;
+        list(tally, class, bit)?;
     }
     Ok(())
 }
 
-/// Divides all bits into classes, in one pass.
+/// Lists the Conflict and the Masked bits of the 64 patterns of a word.
+fn list_word(
+    alloc: Global,
+    tally: &mut Tally,
+    expected: &Expected,
+    joined: &Joined,
+    word: u32,
+    patterns: u32,
+    points: u32,
+) -> Result<(), NoMemory>
+    requires expected { FitsExpected expected.now joined.now }
+    requires word { 64 * word < joined.now.patterns }
+    requires patterns { patterns ≡ joined.now.patterns }
+    requires points { points ≡ joined.now.points }
+    ensures listed { OnOk result ((logs : List LogFacts) → StandsFor logs joined.now
+        → tally.new ≡ listed_over (class_with expected.now logs) (word_block joined.now.patterns word points) tally.old) }
+    ensures tally { OnOk result ((n : ℕ) → IsTallyOf joined.now.points n tally.old → IsTallyOf joined.now.points n tally.new) }
+{
+    let found = set_aside_points(alloc, expected, joined, word, points)?;
+    let first = 64 * word;
+    let end = first.saturating_add(64).min(patterns);
+    for pattern in first..end {
+        list_row(tally, expected, joined, pattern, found.as_slice())?;
+    }
+    Ok(())
+}
+
+/// Divides all bits into classes, 64 patterns at a time.
 pub(crate) fn tally_bits(
     alloc: Global,
     parts: &Parts,
@@ -81,8 +163,11 @@ pub(crate) fn tally_bits(
         masked: Rows::new(alloc),
     };
     let points = parts.points().len() as u32;
-    for pattern in 0..parts.patterns().len() as u32 {
-        tally_row(&mut tally, expected, joined, pattern, points)?;
+    let patterns = parts.patterns().len() as u32;
+    for word in 0..(patterns + 63) / 64 {
+        tally.failing += count_failing(expected, joined, word, points);
+        tally.passing += count_passing(expected, joined, word, points);
+        list_word(alloc, &mut tally, expected, joined, word, patterns, points)?;
     }
     Ok(tally)
 }

@@ -15,7 +15,7 @@ use Rattle.scan_model.specs.BitTable.{table_bit}
 use Rattle.scan_model.specs.Coverage.{bit_of, same_bit, not_after, lists, covers, FitsLog}
 use Rattle.scan_model.specs.Classes.{some_fails, some_passes, class_by, class_of, is_failing, is_passing}
 use Rattle.scan_model.proofs.BitTables.{place_in_word, bit_of_and, bit_of_not}
-use Rattle.log_join.specs.Joining.{JoinedBits, StandsFor}
+use Rattle.log_join.specs.Joining.{JoinedBits, StandsFor, is_set_aside}
 
 -- ---- a log's failing bits are covered
 pub listed_is_covered : (log : LogFacts) (patterns points : ℕ) (b : Bit) → FitsLog patterns points log → lists log b ≡ true → covers log b ≡ true
@@ -163,3 +163,36 @@ passing_where logs joined word k j decided v stands in_points fits lt is =
     word_where joined.passed joined.failed joined.points word k j decided (ltb w joined.patterns) (some_passes logs b) (some_fails logs b) (not (is_unknown v)) (is_passing (class_of logs v b)) fits lt is
     (λ inside. stands.passed w k (ltb-true w joined.patterns inside) in_points) (λ inside. stands.failed w k (ltb-true w joined.patterns inside) in_points)
     (passing_class (some_fails logs b) (some_passes logs b) v)
+
+-- ---- bits that are set aside
+set_aside_class : (failed passed : Bool) (v : Tri) → (failed && not (is_failing (class_by failed passed v))) ≡ is_set_aside (class_by failed passed v)
+set_aside_class true true v = refl
+set_aside_class true false Zero = refl
+set_aside_class true false One = refl
+set_aside_class true false Unknown = refl
+set_aside_class false true Zero = refl
+set_aside_class false true One = refl
+set_aside_class false true Unknown = refl
+set_aside_class false false v = refl
+
+-- a word without the bits of another, as far as there are patterns
+without : (a b mask j : ℕ) (inside in_a in_b is_class : Bool) → b < 2 ^ 64 → j < 64 → (inside ≡ true → eqb (bit_at a j) 1 ≡ in_a) → eqb (bit_at b j) 1 ≡ (inside && in_b) → eqb (bit_at mask j) 1 ≡ inside
+    → (in_a && not in_b) ≡ is_class → eqb (bit_at (bit_and (bit_and a (bit_not w64 b)) mask) j) 1 ≡ (inside && is_class)
+without a b mask j true in_a in_b is_class fits lt is_a is_b is_mask class =
+    word_bit a b mask j fits lt
+    ∙ ap (λ (x : Bool). (x && not (eqb (bit_at b j) 1)) && eqb (bit_at mask j) 1) (is_a refl)
+    ∙ ap (λ (x : Bool). (in_a && not x) && eqb (bit_at mask j) 1) is_b
+    ∙ ap (λ (x : Bool). (in_a && not in_b) && x) is_mask ∙ and_true (in_a && not in_b) ∙ class
+without a b mask j false in_a in_b is_class fits lt is_a is_b is_mask class =
+    word_bit a b mask j fits lt ∙ ap (λ (x : Bool). (eqb (bit_at a j) 1 && not (eqb (bit_at b j) 1)) && x) is_mask ∙ and_false (eqb (bit_at a j) 1 && not (eqb (bit_at b j) 1))
+
+pub set_aside_where : (logs : List LogFacts) (joined : JoinedBits) (word k j failing there : ℕ) (v : Tri) → StandsFor logs joined → k < joined.points → failing < 2 ^ 64 → j < 64
+    → eqb (bit_at failing j) 1 ≡ (ltb (64 * word + j) joined.patterns && is_failing (class_of logs v (bit_of (64 * word + j) k))) → eqb (bit_at there j) 1 ≡ ltb (64 * word + j) joined.patterns
+    → eqb (bit_at (bit_and (bit_and (get_or joined.failed (word * joined.points + k) 0) (bit_not w64 failing)) there) j) 1
+    ≡ (ltb (64 * word + j) joined.patterns && is_set_aside (class_of logs v (bit_of (64 * word + j) k)))
+set_aside_where logs joined word k j failing there v stands in_points fits lt fails is_there =
+    let w = 64 * word + j in
+    let b = bit_of w k in
+    without (get_or joined.failed (word * joined.points + k) 0) failing there j (ltb w joined.patterns) (some_fails logs b) (is_failing (class_of logs v b)) (is_set_aside (class_of logs v b)) fits lt
+    (λ inside. table_word joined.failed joined.points word k j lt ∙ stands.failed w k (ltb-true w joined.patterns inside) in_points) fails is_there
+    (set_aside_class (some_fails logs b) (some_passes logs b) v)

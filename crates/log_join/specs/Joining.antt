@@ -1,10 +1,11 @@
 -- What joined logs stand for.
-use Rattle.std.specs.Prelude.{◌≡◌, ℕ, ◌<◌, List, length, All, Contains}
+use Rattle.std.specs.Prelude.{◌≡◌, ℕ, ◌<◌, Bool, ◌||◌, List, length, All, Contains}
 use Rattle.scan_model.specs.declared.values.Tri.{Tri}
 use Rattle.scan_model.specs.declared.logs.LogFacts.{LogFacts}
+use Rattle.scan_model.specs.declared.logs.BitClass.{BitClass}
 use Rattle.scan_model.specs.BitTable.{table_bit}
 use Rattle.scan_model.specs.Coverage.{bit_of}
-use Rattle.scan_model.specs.Classes.{some_fails, some_passes}
+use Rattle.scan_model.specs.Classes.{some_fails, some_passes, is_conflict, is_masked}
 
 -- two tables of bits: what some log covers as failing, and what some log covers as passing
 pub record JoinedBits : Type 0 where
@@ -29,3 +30,7 @@ IsJoinedOf patterns points joined = (joined.patterns ≡ patterns) × (joined.po
 -- a row of expected values for each pattern, with a value for each point
 abbrev pub FitsExpected : List (List Tri) → JoinedBits → Type 0
 FitsExpected rows joined = (length rows ≡ joined.patterns) × All (λ row. length row ≡ joined.points) rows
+
+-- some log lists the bit, and it doesn't count as Failing
+abbrev pub is_set_aside : BitClass → Bool
+is_set_aside class = is_conflict class || is_masked class

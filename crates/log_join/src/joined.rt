@@ -6,7 +6,7 @@ ghost use Rattle.scan_model.specs.Values.{is_unknown};
 ghost use Rattle.scan_model.specs.ChainShift.{value_at};
 ghost use Rattle.scan_model.specs.Coverage.{bit_of, lists, covers, FitsLog};
 ghost use Rattle.scan_model.specs.Classes.{class_by, class_of, is_failing, is_passing};
-ghost use Rattle.log_join.specs.Joining.{StandsFor, HaveSameLogs, IsJoinedOf, FitsExpected};
+ghost use Rattle.log_join.specs.Joining.{StandsFor, HaveSameLogs, IsJoinedOf, FitsExpected, is_set_aside};
 
 use crate::coverage::cover;
 use crate::fails::{copy_bits, set_listed};
@@ -103,6 +103,21 @@ impl Joined {
         let place = word as usize * self.points as usize + point as usize;
         let decided = self.decided_word(expected, word, point);
         self.passed.as_slice()[place] & !self.failed.as_slice()[place] & decided
+    }
+
+    /// The Conflict and the Masked bits of a point in 64 patterns, in the same way: what some log lists and is not Failing.
+    pub fn set_aside_word(&self, expected: &Expected, word: u32, point: u32) -> u64
+        requires expected { FitsExpected expected.now self.now }
+        requires word { 64 * word < self.now.patterns }
+        requires point { point < self.now.points }
+        ensures { (logs : List LogFacts) → StandsFor logs self.now → (j : ℕ) → j < 64
+            → (bit_at result j == 1) ≡ (nat_lt (64 * word + j) self.now.patterns
+            && is_set_aside (class_of logs (value_at (slice_index_or expected.now (64 * word + j) []) point) (bit_of (64 * word + j) point))) }
+    {
+        let place = word as usize * self.points as usize + point as usize;
+        let failing = self.failing_word(expected, word, point);
+        let there = pattern_mask(word as usize, 0, self.patterns as usize);
+        self.failed.as_slice()[place] & !failing & there
     }
 
     /// The patterns that exist and whose expected value is known, of 64 at a point.
