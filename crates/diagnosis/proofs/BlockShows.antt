@@ -1,6 +1,6 @@
 -- What a point shows in a lane of a block of fault-free rows.
 use Rattle.std.proofs.Common.{◌≡◌, ℕ, ◌<◌, length, None, refl, sym, ◌∙◌}
-use Rattle.std.specs.Prelude.{if◌then◌else◌}
+use Rattle.std.specs.Prelude.{◌||◌, if◌then◌else◌}
 use Rattle.std.proofs.lemmas.Bool.{lt-ltb}
 use Rattle.scan_model.specs.declared.values.Tri.{Tri}
 use Rattle.scan_model.specs.declared.values.Tri.TheVariants.{Zero, One, Unknown}
@@ -14,11 +14,11 @@ use Rattle.scan_model.specs.Suspect.{observed_net}
 use Rattle.scan_model.proofs.counting.Shown.{observed_good, observed_net-in_range}
 use Rattle.lane_rows.specs.declared.block.Block.{Block}
 use Rattle.lane_rows.specs.Lanes.{lane}
-use Rattle.lane_rows.specs.Planes.{value_of_bits}
 use Rattle.lane_rows.specs.Sources.{lane_values}
 use Rattle.lane_rows.specs.GoodRows.{AreBlockRows, pattern_of, same_kind}
 
-pub value_of_its_bits : (v : Tri) → value_of_bits (is_one v) (is_zero v) ≡ v
+-- a value is known where it is 1 or 0
+pub value_of_its_bits : (v : Tri) → (if is_zero v || is_one v then (if is_one v then One else Zero) else Unknown) ≡ v
 value_of_its_bits Zero = refl
 value_of_its_bits One = refl
 value_of_its_bits Unknown = refl

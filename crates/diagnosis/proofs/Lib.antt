@@ -20,10 +20,12 @@ pub mod Packed
 pub mod PackedReads
 pub mod BundleFaults
 pub mod DifferentTexts
+pub mod Cases
 pub mod Views
 pub mod AnyOrder
 pub mod LogFits
 pub mod Places
 pub mod Reports
 pub mod BlockShows
+pub mod ShownWords
 mod CutReports

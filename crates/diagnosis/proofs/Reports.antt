@@ -1,5 +1,5 @@
 -- The report that is written.
-use Rattle.std.proofs.Common.{◌≡◌, ◌<◌, ◌∙◌, ℕ, List, length, refl, sym, subst, ap}
+use Rattle.std.proofs.Common.{◌≡◌, ◌<◌, ◌∙◌, ℕ, List, length, sym, subst, ap}
 use Rattle.std.specs.Prelude.{All, IsPermutation}
 use Rattle.std.specs.List.{IsDistinct}
 use Rattle.std.proofs.lemmas.List.Sorted.{All-permutation}
@@ -11,8 +11,9 @@ use Rattle.scan_model.specs.MatchCounts.{candidates}
 use Rattle.scan_model.specs.Ranking.{same_place, ranked}
 use Rattle.scan_model.specs.ReportText.{report_layout, report_lines}
 use Rattle.scan_model.proofs.CandidatePlaces.{candidates_below, candidates_distinct}
-use Rattle.diagnosis.specs.Designs.{DesignFacts, ReadLogFacts, ViewFacts, IsView, facts_of, view_lines}
-use Rattle.diagnosis.proofs.Views.{texts_stand}
+use Rattle.diagnosis.specs.Designs.{facts_of}
+use Rattle.diagnosis.specs.Cases.{CaseFacts, IsCase, case_lines}
+use Rattle.diagnosis.proofs.Cases.{texts_stand}
 
 module _ (t : ScanTest) (logs : List LogFacts) (counted sorted : List Scored) (all : counted ≡ candidates t logs) where
   -- the rows are places of the universe
@@ -22,26 +23,18 @@ module _ (t : ScanTest) (logs : List LogFacts) (counted sorted : List Scored) (a
       All-permutation Below counted sorted same (subst (All Below) (sym all) (candidates_below (universe t) t logs))
 
   -- they are in ranking order
-  pub in_order : (test : ScanTest) → (IsDistinct same_place counted → sorted ≡ ranked counted) → t ≡ test → sorted ≡ ranked (candidates test logs)
-  in_order test one is_test =
-      one (subst (IsDistinct same_place) (sym all) (candidates_distinct (universe t) t logs)) ∙ ap ranked all
-      ∙ ap (λ t. ranked (candidates t logs)) is_test
+  pub in_order : (IsDistinct same_place counted → sorted ≡ ranked counted) → sorted ≡ ranked (candidates t logs)
+  in_order one = one (subst (IsDistinct same_place) (sym all) (candidates_distinct (universe t) t logs)) ∙ ap ranked all
 
   -- and make the report
-  pub layout_is_report : (d e design die : List ℕ) (count : ℕ) (test : ScanTest) → (IsDistinct same_place counted → sorted ≡ ranked counted)
-      → t ≡ test → d ≡ design → e ≡ die → count ≡ length logs → report_layout (universe t) t d e count logs sorted ≡ report_lines test design die logs
-  layout_is_report d e design die count test one is_test is_design is_die is_count =
-      ap (λ rows. report_layout (universe t) t d e count logs rows) (in_order t one refl)
+  pub layout_is_report : (d e design die : List ℕ) (count : ℕ) → (IsDistinct same_place counted → sorted ≡ ranked counted)
+      → d ≡ design → e ≡ die → count ≡ length logs → report_layout (universe t) t d e count logs sorted ≡ report_lines t design die logs
+  layout_is_report d e design die count one is_design is_die is_count =
+      ap (λ rows. report_layout (universe t) t d e count logs rows) (in_order one)
       ∙ ap (λ n. report_layout (universe t) t d e n logs (ranked (candidates t logs))) is_count
       ∙ ap (λ n. report_layout (universe t) t n e (length logs) logs (ranked (candidates t logs))) is_design
       ∙ ap (λ n. report_layout (universe t) t design n (length logs) logs (ranked (candidates t logs))) is_die
-      ∙ ap (λ t. report_lines t design die logs) is_test
 
--- over the logs of a view they are its report's lines
-pub view_lines_are : (v : ViewFacts) (d : DesignFacts) (die : List ℕ) (logs : List ReadLogFacts) → IsView v → d ≡ v.design → die ≡ v.die → logs ≡ v.logs
-    → report_lines d.test d.name die (facts_of logs) ≡ view_lines v
-view_lines_are v d die logs view is_design is_die are_logs =
-    ap (λ (d : DesignFacts). report_lines d.test d.name die (facts_of logs)) is_design
-    ∙ ap (λ x. report_lines v.design.test v.design.name x (facts_of logs)) is_die
-    ∙ ap (λ ls. report_lines v.design.test v.design.name v.die (facts_of ls)) are_logs
-    ∙ ap (λ facts. report_lines v.design.test v.design.name v.die facts) (sym (texts_stand v view))
+-- over the logs of a case they are its report's lines
+pub case_lines_are : (k : CaseFacts) → IsCase k → report_lines k.test k.design k.die (facts_of k.logs) ≡ case_lines k
+case_lines_are k case = ap (report_lines k.test k.design k.die) (sym (texts_stand k case))

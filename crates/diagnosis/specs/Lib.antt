@@ -4,4 +4,6 @@ pub mod Sections
 pub mod Reading
 pub mod Designs
 pub mod Adding
+pub mod Cases
+pub mod Subjects
 pub mod FaultFree

@@ -1,81 +1,23 @@
 //! The report of a die, and its digest.
-ghost use Rattle.std.specs.Prelude.{◌≡◌, ◌<◌, ℕ, List, All, length, map, IfOk};
-ghost use Rattle.std.specs.Arc.{arc_value};
+ghost use Rattle.std.specs.Prelude.{◌≡◌, ◌<◌, ℕ, List, length, IfOk};
 ghost use Rattle.sha2.specs.Sha256.{sha256};
 ghost use Rattle.scan_model.specs.Lines.{pieces};
-ghost use Rattle.scan_model.specs.ScanTest.{points_of};
 ghost use Rattle.scan_model.specs.DieReport.{die_report};
 ghost use Rattle.scan_model.specs.MatchCounts.{candidates};
 ghost use Rattle.scan_model.specs.Ranking.{ranked};
 ghost use Rattle.scan_model.specs.ReportText as text_of;
-ghost use Rattle.log_join.specs.Joining.{StandsFor, IsJoinedOf};
-ghost use Rattle.diagnosis.specs.Designs.{StandsOver, view_lines, view_report, texts_of, facts_of, HaveSameTexts};
+ghost use Rattle.diagnosis.specs.Designs.{view_lines, view_report, texts_of, facts_of, HaveSameTexts};
 
 use crate::design::Design;
-use crate::log::ReadLog;
+use crate::diagnosed::{Diagnosis, Subject, diagnosis_of};
 use crate::view::DieView;
-use diag_report::{Head, Report, make_text, rank};
-use log_join::Joined;
-use match_counts::counts;
+use diag_report::Report;
 use packed_sim::PackedGood;
-use scan_model::{Digest, Name, NoMemory, Parts, Rows, Scored};
+use scan_model::{Digest, NoMemory};
 use sha2::Sha256;
 use std::alloc::Global;
 use std::marker::Model;
-use std::sync::Arc;
 use std::thread::Threads;
-
-// The logs, joined.
-fn joined_of(alloc: Global, parts: &Parts, logs: &[Arc<ReadLog>]) -> Result<Joined, NoMemory>
-    requires stand { All (StandsOver parts.now) (map (λ log. arc_value log) logs.now) }
-    ensures size { IfOk result (IsJoinedOf (length parts.now.patterns) (length (points_of parts.now))) }
-    ensures stands { IfOk result (StandsFor (facts_of (map (λ log. arc_value log) logs.now))) }
-{
-    let patterns = parts.patterns().len() as u32;
-    let points = parts.points().len() as u32;
-    let mut joined = Joined::make(alloc, patterns, points)?;
-    for log in logs {
-        joined.add(log.facts());
-    }
-    Ok(joined)
-}
-
-/// The report of a die, and the candidates that it lists, best first.
-#[derive(Drop)]
-pub struct Diagnosis {
-    pub report: Report,
-    pub candidates: Rows<Scored>,
-}
-
-// The diagnosis of different logs of the die.
-fn diagnosis_of<R: Threads + Sync>(
-    rt: &R,
-    alloc: Global,
-    design: &Design,
-    die: &[u8],
-    logs: &[Arc<ReadLog>],
-) -> Result<Diagnosis, NoMemory>
-    requires stand { All (StandsOver design.now.test) (map (λ log. arc_value log) logs.now) }
-    ensures report { IfOk result (λ d. d.report ≡ text_of.report_lines design.now.test design.now.name die.now (facts_of (map (λ log. arc_value log) logs.now))) }
-    ensures candidates { IfOk result (λ d. d.candidates ≡ ranked (candidates design.now.test (facts_of (map (λ log. arc_value log) logs.now)))) }
-{
-    let parts = design.parts();
-    let expected = design.expected();
-    let joined = joined_of(alloc, parts, logs)?;
-    let good = PackedGood::make(alloc, parts)?;
-    let mut rows = counts(rt, alloc, parts, &good, expected, &joined)?;
-    rank(&mut rows);
-    let head = Head {
-        design: Name::copy_of(alloc, design.name())?,
-        die: Name::copy_of(alloc, die)?,
-        logs: logs.len() as u64,
-    };
-    let report = make_text(alloc, parts, &head, expected, &joined, &rows)?;
-    Ok(Diagnosis {
-        report,
-        candidates: rows,
-    })
-}
 
 /// The report over the logs of a die, with the candidates that it lists.
 pub fn make_diagnosis<R: Threads + Sync>(
@@ -88,7 +30,18 @@ pub fn make_diagnosis<R: Threads + Sync>(
     ensures cut { IfOk result (λ d. pieces (view_report view.now) ≡ d.report) }
     ensures candidates { IfOk result (λ d. d.candidates ≡ ranked (candidates view.now.design.test (facts_of view.now.logs))) }
 {
-    diagnosis_of(rt, alloc, view.design(), view.die(), view.logs())
+    let design: &Design = view.design();
+    let parts = design.parts();
+    let good = PackedGood::make(alloc, parts)?;
+    let subject = Subject {
+        design: design.name(),
+        die: view.die(),
+        parts,
+        good: &good,
+        expected: design.expected(),
+        logs: view.logs(),
+    };
+    diagnosis_of(rt, alloc, &subject)
 }
 
 /// The report over the logs of a die. Its lines are its text cut behind each LF. The order of the logs doesn't matter, nor does

@@ -1,13 +1,12 @@
 //! The fault-free responses of a test, from the fault-free values of its nets in rows of 512 patterns.
-ghost use Rattle.std.specs.Prelude.{◌≡◌, ℕ, ◌+◌, ◌*◌, ◌<◌, min, All, length, map, None, IfOk, OnOk};
-ghost use Rattle.std.specs.List.{range_with_len};
+ghost use Rattle.std.specs.Prelude.{◌≡◌, ℕ, ◌+◌, ◌*◌, ◌/◌, ◌<◌, length, None, IfOk, OnOk};
 ghost use Rattle.scan_model.specs.declared.parts.Point.TheVariants as variant;
 ghost use Rattle.scan_model.specs.declared.parts.PatternKind.TheVariants as kind;
 ghost use Rattle.scan_model.specs.Netlist.{driver_of};
 ghost use Rattle.scan_model.specs.ScanTest.{IsScanTest, IsPoint, IsFlop, pattern_at, points_of};
 ghost use Rattle.scan_model.specs.Loads.{cell};
 ghost use Rattle.scan_model.specs.Suspect as suspect;
-ghost use Rattle.scan_model.specs.Response.{observed, response, expected_rows};
+ghost use Rattle.scan_model.specs.Response.{observed, expected_rows};
 ghost use Rattle.lane_rows.specs.Planes.{held};
 ghost use Rattle.lane_rows.specs.GoodRows.{pattern_of, AreBlockRows, AreGoodRows};
 ghost use Rattle.diagnosis.specs.FaultFree as shows;
@@ -19,11 +18,18 @@ use std::alloc::Global;
 /// The patterns of a word.
 const WORD_PATTERNS: usize = 64;
 
-/// What a point shows in 64 patterns: those in which it is 1 and those in which it is 0.
+/// What a point shows in 64 patterns: those in which it is known, and those in which it is 1.
 #[derive(Clone, Copy, Debug)]
 struct Shown {
+    known: u64,
     ones: u64,
-    zeros: u64,
+}
+
+/// What all points show: a word for each point in the first 64 patterns, then in the next 64, and so on.
+#[derive(Debug, Drop)]
+struct ShownWords {
+    known: Rows<u64>,
+    ones: Rows<u64>,
 }
 
 /// The net of a cell.
@@ -83,99 +89,77 @@ fn shown_in_word(parts: &Parts, rows: &GoodRows, word: usize, point: Point) -> S
     ensures { (i : ℕ) → i < 64 → 64 * word + i < length parts.now.patterns → shows.value_in i result ≡ observed parts.now None (64 * word + i) point }
 {
     let shown = shown_in_block(parts, &rows.blocks()[word / 8], point);
+    let ones = shown.ones().word(word % 8);
+    let zeros = shown.zeros().word(word % 8);
     Shown {
-        ones: shown.ones().word(word % 8),
-        zeros: shown.zeros().word(word % 8),
+        known: ones | zeros,
+        ones,
     }
 }
 
-/// What the points show in the 64 patterns of a word.
-fn shown_by_points(
-    alloc: Global,
+/// No words yet, with room for all.
+fn no_words(alloc: Global, parts: &Parts) -> Result<ShownWords, NoMemory>
+    ensures { IfOk result (λ words. shows.AreShown parts.now 0 words) }
+{
+    let words = parts.patterns().len().div_ceil(WORD_PATTERNS);
+    let room = words * parts.points().len();
+    Ok(ShownWords {
+        known: Rows::from_vec(Vec::with_capacity(alloc, room)?),
+        ones: Rows::from_vec(Vec::with_capacity(alloc, room)?),
+    })
+}
+
+/// Adds what the points show in the 64 patterns of a word.
+fn push_word(
     parts: &Parts,
     rows: &GoodRows,
     word: usize,
-    points: &[Point],
-) -> Result<Vec<Shown>, NoMemory>
+    words: &mut ShownWords,
+) -> Result<(), NoMemory>
     requires rows { AreGoodRows parts.now rows.now }
     requires word { 64 * word < length parts.now.patterns }
-    requires points { All (IsPoint parts.now) points.now }
-    ensures { IfOk result (λ shown. shows.AreShown parts.now word points.now shown.items) }
+    requires before { shows.AreShown parts.now (word * length (points_of parts.now)) words.old }
+    ensures { OnOk result (shows.AreShown parts.now (word * length (points_of parts.now) + length (points_of parts.now)) words.new) }
 {
-    let mut shown = Vec::with_capacity(alloc, points.len())?;
-    for point in points {
-        shown.push(shown_in_word(parts, rows, word, *point))?;
-    }
-    Ok(shown)
-}
-
-/// The value in one of 64 patterns.
-fn value_in(shown: Shown, at: usize) -> Tri
-    requires { at < 64 }
-    ensures { result ≡ shows.value_in at shown }
-{
-    if (shown.ones >> at) & 1 == 1 {
-        Tri::One
-    } else if (shown.zeros >> at) & 1 == 1 {
-        Tri::Zero
-    } else {
-        Tri::Unknown
-    }
-}
-
-/// What points show in one of 64 patterns.
-fn response_in(alloc: Global, shown: &[Shown], at: usize) -> Result<Rows<Tri>, NoMemory>
-    requires { at < 64 }
-    ensures { IfOk result (λ row. row ≡ map (shows.value_in at) shown.now) }
-{
-    let mut row = Vec::with_capacity(alloc, shown.len())?;
-    for each in shown {
-        row.push(value_in(*each, at))?;
-    }
-    Ok(Rows::from_vec(row))
-}
-
-/// Adds the responses in the patterns of a word, as far as there are patterns.
-fn push_responses(
-    alloc: Global,
-    parts: &Parts,
-    shown: &[Shown],
-    word: usize,
-    responses: &mut Vec<Rows<Tri>>,
-) -> Result<(), NoMemory>
-    requires word { 64 * word < length parts.now.patterns }
-    requires shown { shows.AreShown parts.now word (points_of parts.now) shown.now }
-    requires before { responses.old.items ≡ map (response parts.now None) (range_with_len 0 (64 * word)) }
-    ensures { OnOk result (responses.new.items ≡ map (response parts.now None) (range_with_len 0 (min (64 * word + 64) (length parts.now.patterns)))) }
-{
-    let patterns = parts.patterns().len();
-    let first = WORD_PATTERNS * word;
-    let last = (first + WORD_PATTERNS).min(patterns);
-    for pattern in first..last {
-        responses.push(response_in(alloc, shown, pattern - first)?)?;
+    for point in parts.points().as_slice() {
+        let shown = shown_in_word(parts, rows, word, *point);
+        words.known.push(shown.known)?;
+        words.ones.push(shown.ones)?;
     }
     Ok(())
 }
 
-/// The fault-free response in each pattern.
-fn responses(alloc: Global, parts: &Parts) -> Result<Rows<Rows<Tri>>, NoMemory>
-    ensures { IfOk result (λ rows. rows ≡ expected_rows parts.now) }
+/// What all points show, from fault-free rows.
+fn shown_words(alloc: Global, parts: &Parts, rows: &GoodRows) -> Result<ShownWords, NoMemory>
+    requires { AreGoodRows parts.now rows.now }
+    ensures { IfOk result (λ words. shows.AreShown parts.now ((length parts.now.patterns + 63) / 64 * length (points_of parts.now)) words) }
 {
-    let rows = GoodRows::make(alloc, parts)?;
-    let patterns = parts.patterns().len();
-    let mut responses = Vec::with_capacity(alloc, patterns)?;
-    for word in 0..patterns.div_ceil(WORD_PATTERNS) {
-        let shown = shown_by_points(alloc, parts, &rows, word, parts.points().as_slice())?;
-        push_responses(alloc, parts, &shown, word, &mut responses)?;
+    let mut words = no_words(alloc, parts)?;
+    for word in 0..parts.patterns().len().div_ceil(WORD_PATTERNS) {
+        push_word(parts, rows, word, &mut words)?;
     }
-    Ok(Rows::from_vec(responses))
+    Ok(words)
 }
 
 /// The fault-free responses: a row for each pattern, with a value for each point in test order. The only error is want of
-/// memory: while it runs it holds a byte for each value.
+/// memory.
 pub fn fault_free_responses(alloc: Global, parts: &Parts) -> Result<Expected, NoMemory>
     ensures { IfOk result (λ rows. rows ≡ expected_rows parts.now) }
 {
-    let rows = responses(alloc, parts)?;
-    Expected::of_rows(alloc, parts.points().len() as u32, &rows)
+    let rows = GoodRows::make(alloc, parts)?;
+    responses_over(alloc, parts, &rows)
+}
+
+/// The same, from fault-free rows that are kept.
+pub fn responses_over(alloc: Global, parts: &Parts, rows: &GoodRows) -> Result<Expected, NoMemory>
+    requires { AreGoodRows parts.now rows.now }
+    ensures { IfOk result (λ expected. expected ≡ expected_rows parts.now) }
+{
+    let ShownWords { known, ones } = shown_words(alloc, parts, rows)?;
+    Ok(Expected::of_words(
+        parts.patterns().len() as u32,
+        parts.points().len() as u32,
+        known,
+        ones,
+    ))
 }

@@ -3,19 +3,25 @@
 #![tactic(auto)]
 
 mod bundle;
+mod case;
 mod checked;
 mod design;
+mod diagnosed;
 mod fault_free;
 mod log;
+mod logs;
 mod put;
 mod section;
 mod texts;
 mod view;
 
 pub use bundle::{Sections, bundle_text};
-pub use checked::{Checked, Diagnosis, check_report, make_diagnosis, make_report};
+pub use case::{Case, case_diagnosis, case_report};
+pub use checked::{Checked, check_report, make_diagnosis, make_report};
 pub use design::{Design, design_of, design_with, read_bundle};
-pub use log::{ReadLog, log_of};
+pub use diagnosed::Diagnosis;
+pub use log::{ReadLog, log_of, log_over};
 pub use put::Put;
 pub use section::{BundleFault, Section};
+pub use texts::parts_of;
 pub use view::DieView;

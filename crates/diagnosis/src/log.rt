@@ -4,10 +4,11 @@ ghost use Rattle.scan_model.specs.Words.{is_tag};
 ghost use Rattle.scan_model.specs.LogText.{log_frame, log_reading};
 ghost use Rattle.text_parts.specs.Gives.{Gives};
 ghost use Rattle.diagnosis.specs.Designs.{IsLogOf};
+ghost use Rattle.diagnosis.specs.Cases.{IsLogOver};
 
 use crate::design::Design;
 use fail_logs::read_log;
-use scan_model::{LogFacts, Name};
+use scan_model::{LogFacts, Name, NoMemory, Parts};
 use std::alloc::Global;
 use std::marker::Model;
 use text_parts::ReadFault;
@@ -34,6 +35,27 @@ impl Model for ReadLog {
 }
 
 impl ReadLog {
+    // The log of a text that stands for the facts.
+    fn make(
+        alloc: Global,
+        design: &[u8],
+        die: &[u8],
+        text: Name,
+        facts: LogFacts,
+    ) -> Result<ReadLog, NoMemory>
+        requires { is_tag die.now ≡ true }
+        ensures { IfOk result (λ log. log ≡ record { design = design.now; die = die.now; text = text; facts = facts }) }
+    {
+        let design = Name::copy_of(alloc, design)?;
+        let die = Name::copy_of(alloc, die)?;
+        Ok(ReadLog {
+            design,
+            die,
+            text,
+            facts,
+        })
+    }
+
     /// The name of its design.
     pub fn design(&self) -> &[u8]
         ensures { result.now ≡ self.now.design }
@@ -79,10 +101,23 @@ pub fn log_of(
     ensures reading { Gives (λ log. log.facts) result (log_reading (log_frame design.now.test design.now.name die.now) bytes.now) }
 {
     let facts = read_log(alloc, design.parts(), design.name(), die, bytes)?;
-    Ok(ReadLog {
-        design: Name::copy_of(alloc, design.name())?,
-        die: Name::copy_of(alloc, die)?,
-        text: Name::copy_of(alloc, bytes)?,
-        facts,
-    })
+    let text = Name::copy_of(alloc, bytes)?;
+    Ok(ReadLog::make(alloc, design.name(), die, text, facts)?)
+}
+
+/// The log of a die of a design of that name, over its parts, which takes its text.
+pub fn log_over(
+    alloc: Global,
+    parts: &Parts,
+    design: &[u8],
+    die: &[u8],
+    text: Name,
+) -> Result<ReadLog, ReadFault>
+    requires die { is_tag die.now ≡ true }
+    ensures text { IfOk result (λ log. log.text ≡ text) }
+    ensures log { IfOk result (IsLogOver parts.now design.now die.now) }
+    ensures reading { Gives (λ log. log.facts) result (log_reading (log_frame parts.now design.now die.now) text) }
+{
+    let facts = read_log(alloc, parts, design, die, text.as_slice())?;
+    Ok(ReadLog::make(alloc, design, die, text, facts)?)
 }

@@ -9,7 +9,8 @@ ghost use Rattle.bridge_pairs.specs.PairText.{pairs_reading};
 ghost use Rattle.diagnosis.specs.declared.section.Section.TheVariants as section;
 ghost use Rattle.diagnosis.specs.Bundle.{in_section, texts_reading};
 ghost use Rattle.diagnosis.specs.Sections.{four_texts};
-ghost use Rattle.diagnosis.specs.Reading.{RefusedBy, ReadAs, IsIn};
+ghost use Rattle.diagnosis.specs.Reading.{four, RefusedBy, ReadAs, IsIn};
+ghost use Rattle.diag_report.specs.PredictedLog.{HasWordNames};
 
 use crate::bundle::Sections;
 use crate::section::{BundleFault, Section};
@@ -77,4 +78,26 @@ pub fn read_texts(alloc: Global, texts: &Sections<'_>) -> Result<Parts, BundleFa
     let patterns = read_patterns(alloc, &circuit, &chains, texts.patterns)?;
     let pairs = read_pairs(alloc, &circuit, texts.neighbours)?;
     Ok(Parts::make(alloc, circuit, chains, patterns, pairs)?)
+}
+
+/// The same, of four texts one by one. The nets and the chains of the parts have names that a log can name.
+pub fn parts_of(
+    alloc: Global,
+    netlist: &[u8],
+    scan: &[u8],
+    patterns: &[u8],
+    neighbours: &[u8],
+) -> Result<Parts, BundleFault>
+    ensures stands { IfOk result (λ parts. texts_reading (four netlist.now scan.now patterns.now neighbours.now) ≡ Ok parts) }
+    ensures names { IfOk result HasWordNames }
+    ensures fault { IfErr result (RefusedBy (texts_reading (four netlist.now scan.now patterns.now neighbours.now))) }
+{
+    let texts = Sections {
+        netlist,
+        scan,
+        patterns,
+        neighbours,
+    };
+    let parts = read_texts(alloc, &texts)?;
+    Ok(parts)
 }

@@ -1,15 +1,13 @@
 //! A die with logs of it.
-ghost use Rattle.std.specs.Prelude.{◌≡◌, ◌∷◌, ◌++◌, ◌+◌, [], true, length, map, position, if◌then◌else◌, IfOk, OnErr};
-ghost use Rattle.std.specs.List.{position_or_len};
-ghost use Rattle.std.specs.Str.{bytes_eq};
+ghost use Rattle.std.specs.Prelude.{◌≡◌, [], true, length, map, IfOk, OnErr};
 ghost use Rattle.std.specs.Arc.{arc_value};
-ghost use Rattle.scan_model.specs.Words.{is_tag, has_word};
-ghost use Rattle.diagnosis.specs.declared.put.Put.TheVariants.{Created, Same};
-ghost use Rattle.diagnosis.specs.Designs.{IsLogOf, IsView, texts_of};
+ghost use Rattle.scan_model.specs.Words.{is_tag};
+ghost use Rattle.diagnosis.specs.Designs.{IsLogOf, IsView};
 ghost use Rattle.diagnosis.specs.Adding.{Added};
 
 use crate::design::Design;
 use crate::log::ReadLog;
+use crate::logs::push_log;
 use crate::put::Put;
 use scan_model::{Name, NoMemory, Rows};
 use std::alloc::Global;
@@ -54,13 +52,7 @@ impl DieView {
         ensures added { IfOk result (λ put. Added put (arc_value log) self.old self.new) }
         ensures err { OnErr result (self.new ≡ self.old) }
     {
-        if let Some(place) = place_of(self.logs.as_slice(), log.text()) {
-            let number = place as u64 + 1;
-            return Ok(Put::Same { number });
-        }
-        self.logs.push(log)?;
-        let number = self.logs.len() as u64;
-        Ok(Put::Created { number })
+        push_log(&mut self.logs, log)
     }
 
     // The same die with the same logs once more.
@@ -115,11 +107,4 @@ fn more_references(alloc: Global, logs: &[Arc<ReadLog>]) -> Result<Rows<Arc<Read
         copies.push(Arc::try_clone(log)?)?;
     }
     Ok(copies)
-}
-
-// The place of the first log of that text.
-fn place_of(logs: &[Arc<ReadLog>], text: &[u8]) -> Option<usize>
-    ensures { result ≡ position (bytes_eq text.now) (texts_of (map (λ log. arc_value log) logs.now)) }
-{
-    logs.iter().position(|log| text == log.text())
 }

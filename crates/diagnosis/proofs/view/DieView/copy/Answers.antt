@@ -1,4 +1,4 @@
-use Rattle.std.proofs.Common.{◌≡◌, ◌∙◌, rules, map, sym, subst}
+use Rattle.std.proofs.Common.{◌∙◌, rules, map, sym, subst}
 use Rattle.std.specs.Arc.{arc_value}
 use Rattle.diagnosis.specs.Designs.{IsView}
 use Rattle.diagnosis.proofs.Views.{same_view}
