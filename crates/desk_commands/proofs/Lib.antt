@@ -15,5 +15,3 @@ pub mod PlainWords
 pub mod Assigned
 pub mod Requests
 pub mod ReadLogs
-pub mod Runs
-pub mod Served

@@ -1,24 +1,32 @@
 -- Logs that are read one after another and added to a die.
-use Rattle.std.proofs.Common.{◌≡◌, ◌∙◌, ◌<◌, ◌+◌, ℕ, true, List, [], ◌∷◌, ◌++◌, All, Contains, Ok, Err, get_or, refl, sym, ap, subst, map, length, drop, Bor}
+use Rattle.std.proofs.Common.{◌≡◌, ◌∙◌, ◌<◌, ◌≤◌, ◌+◌, ℕ, true, false, nat_le, List, [], ◌∷◌, ◌++◌, All, Contains, Option, Some, None, IsSomeAnd, Result, Ok, Err, IfOk, IfErr, get_or, refl, sym, ap, subst, map, length, drop, Bor, arith}
+use Rattle.std.proofs.lemmas.Bool.Decides.{nat_tests}
 use Rattle.std.proofs.lemmas.List.{drop-map, drop_more, map-append}
 use Rattle.std.proofs.lemmas.List.Elements.{All-nil, All-push, All-weaker, Contains-append_left, Contains-push}
 use Rattle.std.proofs.lemmas.Map.Views.{Contains-from_any}
 use Rattle.std.proofs.lemmas.Slice.Eq.{bytes_eq-Decides}
+use Rattle.text_parts.specs.declared.fault.ReadFault.{ReadFault}
+use Rattle.text_parts.specs.declared.fault.ReadFault.TheVariants as read_fault
+use Rattle.text_parts.specs.Gives.{Fails}
 use Rattle.desk_outside.specs.declared.shelf.File.{File}
+use Rattle.desk_outside.specs.Files.{text_of}
+use Rattle.scan_model.specs.declared.logs.LogFacts.{LogFacts}
 use Rattle.scan_model.specs.ScanTest.{ScanTest}
 use Rattle.scan_model.specs.Words.{has_word}
-use Rattle.scan_model.specs.LogText.{LogFrame, log_frame}
+use Rattle.scan_model.specs.LogText.{LogFrame, log_frame, log_reading}
 use Rattle.scan_model.specs.DieReport.{die_report}
 use Rattle.diagnosis.specs.declared.put.Put.{Put}
 use Rattle.diagnosis.specs.declared.put.Put.TheVariants.{Created, Same}
-use Rattle.diagnosis.specs.Adding.{Added}
-use Rattle.diagnosis.specs.Designs.{DesignFacts, ReadLogFacts, ViewFacts, HaveSameTexts, texts_of}
+use Rattle.diagnosis.specs.Designs.{ReadLogFacts, HaveSameTexts, texts_of}
+use Rattle.diagnosis.specs.Cases.{CaseFacts, AddedAmong, IsTextAdded, log_in, with_logs}
 use Rattle.desk_commands.specs.declared.files.Stop.{Stop}
+use Rattle.desk_commands.specs.declared.files.Stop.TheVariants.{Refused, Fault, NoMemory}
+use Rattle.desk_commands.specs.declared.files.Refusal.TheVariants.{Absent, TooLong, Rule}
 use Rattle.desk_commands.specs.Words.{Request}
-use Rattle.desk_commands.specs.Reading.{Reading, value}
-use Rattle.desk_commands.specs.Stops.{Follows}
-use Rattle.desk_commands.specs.Work.{ReadDesign, log_file, logs_after, logs_reading, with_design}
-use Rattle.desk_commands.specs.Logs.{GoesOn, AreRead}
+use Rattle.desk_commands.specs.Reading.{Reading, file_limit, file_value, at_name, value}
+use Rattle.desk_commands.specs.Stops.{Follows, StopsAt, StopsFor, IsNamed}
+use Rattle.desk_commands.specs.Work.{ReadDesign, by_rules, in_place_of, log_file, logs_after, logs_reading, with_design}
+use Rattle.desk_commands.specs.Logs.{GoesOn, AreRead, IsFileAdded, FileFollows}
 use Rattle.desk_commands.proofs.Chain.{at_stop, after_serving}
 
 -- the next of the names that are left
@@ -47,22 +55,64 @@ module _ (texts others : List (List ℕ)) (text : List ℕ) (same : HaveSameText
   )
 
 -- the die's texts are those read before and the log's
-pub one_added : (put : Put) (log : ReadLogFacts) (old new : ViewFacts) (others : List (List ℕ)) → Added put log old new → HaveSameTexts (texts_of old.logs) others
-    → HaveSameTexts (texts_of new.logs) (others ++ log.text ∷ [])
+one_added : (put : Put) (log : ReadLogFacts) (old new : List ReadLogFacts) (others : List (List ℕ)) → AddedAmong put log old new → HaveSameTexts (texts_of old) others
+    → HaveSameTexts (texts_of new) (others ++ log.text ∷ [])
 one_added (Created number) log old new others added same =
-    let more : texts_of new.logs ≡ texts_of old.logs ++ log.text ∷ [] =
-    ap (λ (v : ViewFacts). texts_of v.logs) added.2 ∙ map-append (λ (l : ReadLogFacts). l.text) old.logs (log ∷ []) in
-    subst (λ (ts : List (List ℕ)). HaveSameTexts ts (others ++ log.text ∷ [])) (sym more) (new_text (texts_of old.logs) others log.text same)
+    let more : texts_of new ≡ texts_of old ++ log.text ∷ [] = ap texts_of added.2 ∙ map-append (λ (l : ReadLogFacts). l.text) old (log ∷ []) in
+    subst (λ (ts : List (List ℕ)). HaveSameTexts ts (others ++ log.text ∷ [])) (sym more) (new_text (texts_of old) others log.text same)
 one_added (Same number) log old new others added same =
-    subst (λ (v : ViewFacts). HaveSameTexts (texts_of v.logs) (others ++ log.text ∷ [])) (sym added.2) (text_again (texts_of old.logs) others log.text same added.0)
+    subst (λ (logs : List ReadLogFacts). HaveSameTexts (texts_of logs) (others ++ log.text ∷ [])) (sym added.2) (text_again (texts_of old) others log.text same added.0)
 
-pub keeps_design : (put : Put) (log : ReadLogFacts) (old new : ViewFacts) → Added put log old new → new.design ≡ old.design
-keeps_design (Created number) log old new added = ap (λ (v : ViewFacts). v.design) added.2
-keeps_design (Same number) log old new added = ap (λ (v : ViewFacts). v.design) added.2
+-- ---- a file
 
-pub keeps_die : (put : Put) (log : ReadLogFacts) (old new : ViewFacts) → Added put log old new → new.die ≡ old.die
-keeps_die (Created number) log old new added = ap (λ (v : ViewFacts). v.die) added.2
-keeps_die (Same number) log old new added = ap (λ (v : ViewFacts). v.die) added.2
+-- the name of a file that is read alone
+is_alone : (name n : List ℕ) → n ≡ name → Contains (name ∷ []) n
+is_alone name n is = subst (Contains (name ∷ [])) (sym is) (Contains-push [] name)
+
+module _ (files : List File) (frame : LogFrame) (name : List ℕ) where
+  too_long : (text : Option (List ℕ)) → IsSomeAnd text (λ t. file_limit < length t) → file_value (λ text. in_place_of (by_rules (log_reading frame text)) text) text ≡ Err TooLong
+  too_long None long = absurd long
+  too_long (Some text) long = let over : nat_le (length text) file_limit ≡ false = grind (arith, nat_tests) in rw over refl
+
+  -- a file that doesn't serve
+  pub file_stops : (stop : Stop) → StopsAt (text_of files name) name stop → Follows {X = List ℕ} (Err stop) (log_file files frame name)
+  file_stops (Refused n Absent) is = rw (is.1, is.0) refl
+  file_stops (Refused n TooLong) is = ap (at_name name) (too_long (text_of files name) is.1) ∙ ap (λ (x : List ℕ). Err (x, TooLong)) (sym is.0)
+  file_stops (Refused n (Rule fault)) is = absurd is.1
+  file_stops (Fault n) is = is_alone name n.now is
+  file_stops NoMemory is = tt
+
+  module _ (text : List ℕ) (held : text_of files name ≡ Some text) (within : length text ≤ file_limit) where
+    -- what its text comes to
+    outcome_is : (log_file files frame name).outcome ≡ at_name name (in_place_of (by_rules (log_reading frame text)) text)
+    outcome_is = let fits : nat_le (length text) file_limit ≡ true = grind (arith, nat_tests) in rw (held, fits) refl
+
+    refuses : (fault : ReadFault) (stop : Stop) → Fails fault (log_reading frame text) → StopsFor name fault stop → Follows {X = List ℕ} (Err stop) (log_file files frame name)
+    refuses (read_fault.Text f) (Refused n refusal) fails is = outcome_is ∙ rw (fails, is.0, is.1) refl
+    refuses (read_fault.Text f) (Fault n) fails is = absurd is
+    refuses (read_fault.Text f) NoMemory fails is = absurd is
+    refuses read_fault.NoMemory stop fails is = rw is tt
+
+    serves : (facts : LogFacts) → log_reading frame text ≡ Ok facts → (log_file files frame name).outcome ≡ Ok text
+    serves facts reads = outcome_is ∙ rw reads refl
+
+-- a case with other logs has the same frame
+pub same_frame : (k new : CaseFacts) → new ≡ with_logs k new.logs → log_frame new.test new.design new.die ≡ log_frame k.test k.design k.die
+same_frame k new kept = ap (λ (k : CaseFacts). log_frame k.test k.design k.die) kept
+
+-- a file whose text is added, or refused
+pub file_follows : (files : List File) (k : CaseFacts) (new : List ReadLogFacts) (name text : List ℕ) (answer : Result Put ReadFault) (result : Result Put Stop)
+    → text_of files name ≡ Some text → length text ≤ file_limit → IsNamed name answer result
+    → IfOk answer (λ put. IsTextAdded put text k new) → IfErr answer (λ fault. Fails fault (log_reading (log_frame k.test k.design k.die) text))
+    → FileFollows result k new (log_file files (log_frame k.test k.design k.die) name)
+file_follows files k new name text (Ok put) (Ok put') held within is added fails = record {
+  text = text;
+  serves = serves files (log_frame k.test k.design k.die) name text held within added.facts added.reads;
+  added = subst (λ (p : Put). IsTextAdded p text k new) (sym is) added;
+}
+file_follows files k new name text (Err fault) (Err stop) held within is added fails = refuses files (log_frame k.test k.design k.die) name text held within fault stop fails is
+file_follows files k new name text (Ok put) (Err stop) held within is added fails = absurd is
+file_follows files k new name text (Err fault) (Ok put) held within is added fails = absurd is
 
 -- ---- the names one after another
 
@@ -76,14 +126,14 @@ module _ (files : List File) (frame : LogFrame) (names : List (List ℕ)) where
   pub none_before : AreReadBefore files frame names names []
   none_before = record { texts = []; goes_on = λ result follows. follows; same = (All-nil (Contains []), All-nil (Contains [])) }
 
-  module _ (left rest : List (List ℕ)) (name : List ℕ) (next : left ≡ name ∷ rest) (v : ViewFacts) (before : AreReadBefore files frame names left v.logs) where
+  module _ (left rest : List (List ℕ)) (name : List ℕ) (next : left ≡ name ∷ rest) (logs : List ReadLogFacts) (before : AreReadBefore files frame names left logs) where
     -- a log that serves: its text comes after the others
-    pub one_more : (put : Put) (log : ReadLogFacts) (new : ViewFacts) → (log_file files frame name).outcome ≡ Ok log.text → Added put log v new → AreReadBefore files frame names rest new.logs
-    one_more put log new serves added = record {
-      texts = before.texts ++ log.text ∷ [];
+    pub one_more : (put : Put) (k : CaseFacts) (new : List ReadLogFacts) → k.logs ≡ logs → IsFileAdded (log_file files frame name) put k new → AreReadBefore files frame names rest new
+    one_more put k new are file = record {
+      texts = before.texts ++ file.text ∷ [];
       goes_on = λ result follows.
-          before.goes_on result (rw next (after_serving (log_file files frame name) (λ t. logs_after files frame (before.texts ++ t ∷ []) rest) log.text result serves follows));
-      same = one_added put log v new before.texts added before.same;
+          before.goes_on result (rw next (after_serving (log_file files frame name) (λ t. logs_after files frame (before.texts ++ t ∷ []) rest) file.text result file.serves follows));
+      same = one_added put (log_in k file.text file.added.facts) k.logs new before.texts file.added.added (rw are before.same);
     }
 
     -- a log that doesn't serve stops them all
@@ -101,37 +151,34 @@ module _ (files : List File) (frame : LogFrame) (names : List (List ℕ)) where
 
 -- ---- the report
 
-module _ (files : List File) (r : Request) (d : ReadDesign) (design : DesignFacts) (names : List (List ℕ)) (test : design.test ≡ d.test) (name : design.name ≡ r.design) (logs : names ≡ r.logs) where
-  -- what the logs come to over a design, and what they come to in the request
-  abbrev over_design : Reading (List (List ℕ))
-  over_design = logs_reading files (log_frame design.test design.name r.die) names
+module _ (files : List File) (r : Request) (d : ReadDesign) (k : CaseFacts) (names : List (List ℕ)) (test : k.test ≡ d.test) (design : k.design ≡ r.design) (die : k.die ≡ r.die) (logs : names ≡ r.logs) where
+  -- what the logs come to over a case, and what they come to in the request
+  abbrev over_case : Reading (List (List ℕ))
+  over_case = logs_reading files (log_frame k.test k.design k.die) names
 
   abbrev in_request : Reading (List (List ℕ))
   in_request = logs_reading files (log_frame d.test r.design r.die) r.logs
 
-  same_logs : over_design ≡ in_request
-  same_logs =
-      ap (λ (t : ScanTest). logs_reading files (log_frame t design.name r.die) names) test
-      ∙ ap (λ (n : List ℕ). logs_reading files (log_frame d.test n r.die) names) name
-      ∙ ap (logs_reading files (log_frame d.test r.design r.die)) logs
+  same_logs : over_case ≡ in_request
+  same_logs = rw (test, design, die, logs) refl
 
   abbrev report_with : List (List ℕ) → Reading (List ℕ)
   report_with texts = value (die_report d.test r.design r.die texts)
 
-  pub no_report : (stop : Stop) → Follows {X = List (List ℕ)} (Err stop) over_design → Follows {X = List ℕ} (Err stop) (with_design files r d)
+  pub no_report : (stop : Stop) → Follows {X = List (List ℕ)} (Err stop) over_case → Follows {X = List ℕ} (Err stop) (with_design files r d)
   no_report stop is =
       at_stop in_request report_with stop (subst (λ (reading : Reading (List (List ℕ))). Follows {X = List (List ℕ)} (Err stop) reading) same_logs is)
 
-  same_report : (v : ViewFacts) (texts : List (List ℕ)) → v.design ≡ design → v.die ≡ r.die → die_report v.design.test v.design.name v.die texts ≡ die_report d.test r.design r.die texts
-  same_report v texts of_design of_die =
-      ap (λ (s : DesignFacts). die_report s.test s.name v.die texts) of_design
-      ∙ ap (λ (t : ScanTest). die_report t design.name v.die texts) test
-      ∙ ap (λ (n : List ℕ). die_report d.test n v.die texts) name
-      ∙ ap (λ (x : List ℕ). die_report d.test r.design x texts) of_die
+  same_report : (new : CaseFacts) (texts : List (List ℕ)) → new ≡ with_logs k new.logs → die_report new.test new.design new.die texts ≡ die_report d.test r.design r.die texts
+  same_report new texts kept =
+      ap (λ (k : CaseFacts). die_report k.test k.design k.die texts) kept
+      ∙ ap (λ (t : ScanTest). die_report t k.design k.die texts) test
+      ∙ ap (λ (n : List ℕ). die_report d.test n k.die texts) design
+      ∙ ap (λ (n : List ℕ). die_report d.test r.design n texts) die
 
   -- the report of a die whose logs are read
-  pub report_follows : (v : ViewFacts) (text report : List ℕ) → v.design ≡ design → v.die ≡ r.die → AreRead over_design v.logs
-      → ((texts : List (List ℕ)) → HaveSameTexts (texts_of v.logs) texts → text ≡ die_report v.design.test v.design.name v.die texts) → report ≡ text → Follows (Ok report) (with_design files r d)
-  report_follows v text report of_design of_die read any_order is =
+  pub report_follows : (new : CaseFacts) (text report : List ℕ) → new ≡ with_logs k new.logs → AreRead over_case new.logs
+      → ((texts : List (List ℕ)) → HaveSameTexts (texts_of new.logs) texts → text ≡ die_report new.test new.design new.die texts) → report ≡ text → Follows (Ok report) (with_design files r d)
+  report_follows new text report kept read any_order is =
       after_serving in_request report_with read.texts (Ok report) (ap (λ (reading : Reading (List (List ℕ))). reading.outcome) (sym same_logs) ∙ read.serve)
-      (ap Ok (sym (is ∙ any_order read.texts read.same ∙ same_report v read.texts of_design of_die)))
+      (ap Ok (sym (is ∙ any_order read.texts read.same ∙ same_report new read.texts kept)))

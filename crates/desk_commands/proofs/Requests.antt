@@ -2,7 +2,7 @@
 use Rattle.std.proofs.Common.{◌≡◌, ◌≢◌, ◌≤◌, ◌∙◌, ℕ, Bool, true, false, ◌&&◌, ◌||◌, ◌==◌, List, length, Option, Some, None, refl, ap, ap₂, sym, codes, arith, slice_index, true≢false}
 use Rattle.std.specs.Prelude.{nat_le, if◌then◌else◌}
 use Rattle.std.specs.List.{list_all}
-use Rattle.std.proofs.lemmas.Bool.{false_from_ne_true, leb-true, or_right}
+use Rattle.std.proofs.lemmas.Bool.{false_from_ne_true, leb-true}
 use Rattle.std.proofs.lemmas.Slice.Eq.{bytes_eq-Decides}
 use Rattle.scan_model.specs.Words.{is_tag, number_of}
 use Rattle.desk_outside.specs.declared.shelf.File.{File}
@@ -123,12 +123,6 @@ module _ (words : List (List ℕ)) (files : List File) where
       not_check.0 not_pack.0 not_diagnose.0 not_diagnose.1
 
 -- ---- what right words promise
-
-pub said_right : (words : List (List ℕ)) (c : Command) → Says words c → names_page words ≡ true
-said_right words (Check names) says = rw says.0 refl
-said_right words (Pack names) says = or_right (is_check words) _ (rw says.0 refl)
-said_right words (Diagnose d) says = or_right (is_check words) _ (or_right (is_pack words) _ (rw says.0 refl))
-said_right words (Demo demo) says = or_right (is_check words) _ (or_right (is_pack words) _ (or_right (is_diagnose words) _ says.0))
 
 few_of_demo : (words : List (List ℕ)) → is_demo words ≡ true → is_block_count (number_of (word_at words 2)) ≡ true
 few_of_demo words e = (both (is_number (number_of (word_at words 1))) _ (both (begins (codes "demo") words) _ (both (length words == 3) _ e).1).1).1

@@ -27,9 +27,6 @@ diagnose = with_rule
 abbrev pub demo : App
 demo = with_rule (with_rule (new_app (codes "demo")) (argument (codes "seed"))) (argument (codes "blocks"))
 
-abbrev pub serve : App
-serve = with_rule (with_rule (with_rule (with_rule (new_app (codes "serve")) (argument (codes "port"))) (argument (codes "workers"))) (argument (codes "sessions"))) (argument (codes "store"))
-
 -- the word of an argument, and the words of one that has several
 abbrev pub text_of : Text → List Row → Text
 text_of name rows = unwrap_or (first_of name rows) []

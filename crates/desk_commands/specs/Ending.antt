@@ -1,7 +1,5 @@
--- How a run may end.
-use Rattle.std.specs.Prelude.{◌≡◌, ◌≢◌, ◌⊎◌, ℕ, List, ◌++◌, codes, Option, Contains}
-use Rattle.std.specs.Io.KnownBytes.{append_known}
-use Rattle.desk_outside.specs.Bytes.{AddsPart}
+-- What is due at the end of a command.
+use Rattle.std.specs.Prelude.{◌≡◌, ◌≢◌, ◌⊎◌, ℕ, List, ◌++◌, codes, Contains}
 use Rattle.desk_commands.specs.Work.{Output}
 
 -- the shelf failed at a file that is then read, and its count rose
@@ -16,22 +14,6 @@ pub record FaultIsDue (output : Output) (rose : Type 0) (status : ℕ) (text : L
 abbrev pub IsDueOf : Output → Type 0 → ℕ → List ℕ → Type 0
 IsDueOf output rose status text = ((status ≡ output.status) × (text ≡ output.text)) ⊎ FaultIsDue output rose status text
 
--- all the bytes were added; or the sink's count rose, and bytes from their front were added
-abbrev pub Ends : ℕ → List ℕ → ℕ → Option (List ℕ) → Option (List ℕ) → Type 0 → Type 0
-Ends status text result old new rose =
-    ((result ≡ status) × (new ≡ append_known old text)) ⊎ ((result ≡ 6) × AddsPart old new text × rose)
-
--- a status and the bytes that go before it: those that are due, or those for want of memory
-abbrev pub MayEnd : Output → Type 0 → ℕ → List ℕ → Type 0
-MayEnd output rose status text = IsDueOf output rose status text ⊎ ((status ≡ 8) × (text ≡ codes "memory\n"))
-
 -- a status that is none of those of `serve` alone
 abbrev pub IsOfPage : ℕ → Type 0
 IsOfPage status = (status ≢ 7) × (status ≢ 9) × (status ≢ 10)
-
--- a run ended as it may: with a page that was due, of which a failing sink has a part
-pub record Ran (output : Output) (shelf_rose sink_rose : Type 0) (result : ℕ) (old new : Option (List ℕ)) : Type 0 where
-  pub status : ℕ
-  pub text : List ℕ
-  pub due : MayEnd output shelf_rose status text
-  pub ends : Ends status text result old new sink_rose

@@ -2,7 +2,9 @@
 use Rattle.std.specs.Prelude.{◌≡◌, ℕ, List, Result, Ok, Err}
 use Rattle.desk_outside.specs.declared.shelf.File.{File}
 use Rattle.scan_model.specs.LogText.{LogFrame}
-use Rattle.diagnosis.specs.Designs.{ReadLogFacts, ViewFacts, HaveSameTexts, texts_of}
+use Rattle.diagnosis.specs.declared.put.Put.{Put}
+use Rattle.diagnosis.specs.Designs.{ReadLogFacts, HaveSameTexts, texts_of}
+use Rattle.diagnosis.specs.Cases.{CaseFacts, IsTextAdded}
 use Rattle.desk_commands.specs.declared.files.Stop.{Stop}
 use Rattle.desk_commands.specs.Reading.{Reading}
 use Rattle.desk_commands.specs.Stops.{Follows}
@@ -19,7 +21,13 @@ pub record AreRead (reading : Reading (List (List ℕ))) (logs : List ReadLogFac
   pub serve : reading.outcome ≡ Ok texts
   pub same : HaveSameTexts (texts_of logs) texts
 
--- the die's logs are those that reading comes to; a stop is one of reading
-abbrev pub ViewFollows : Result ViewFacts Stop → Reading (List (List ℕ)) → Type 0
-ViewFollows (Ok view) reading = AreRead reading view.logs
-ViewFollows (Err stop) reading = Follows {X = List (List ℕ)} (Err stop) reading
+-- a file serves, and its text is added to a case as a log
+pub record IsFileAdded (reading : Reading (List ℕ)) (put : Put) (old : CaseFacts) (new : List ReadLogFacts) : Type 0 where
+  pub text : List ℕ
+  pub serves : reading.outcome ≡ Ok text
+  pub added : IsTextAdded put text old new
+
+-- the log of a file is added; a stop is one of reading
+abbrev pub FileFollows : Result Put Stop → CaseFacts → List ReadLogFacts → Reading (List ℕ) → Type 0
+FileFollows (Ok put) old new reading = IsFileAdded reading put old new
+FileFollows (Err stop) old new reading = Follows {X = List ℕ} (Err stop) reading

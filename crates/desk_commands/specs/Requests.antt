@@ -6,8 +6,7 @@ use Rattle.desk_commands.specs.declared.command.DesignFiles.{DesignFiles}
 use Rattle.desk_commands.specs.declared.command.Diagnose.{Diagnose}
 use Rattle.desk_commands.specs.declared.command.Command.{Command}
 use Rattle.desk_commands.specs.declared.command.Command.TheVariants as command
-use Rattle.desk_commands.specs.Words.{DesignNames, Request, names_page, is_check, is_pack, is_diagnose, is_demo, names_from, request_of, number_at, word_at}
-use Rattle.desk_serve.specs.Runs.{Asked}
+use Rattle.desk_commands.specs.Words.{DesignNames, Request, names_page, is_check, is_pack, is_diagnose, is_demo, names_from, request_of, number_at}
 use Rattle.desk_commands.specs.Work.{Output, output_of, check_reading, pack_reading, report_reading}
 use Rattle.desk_commands.specs.Demo.{demo_output}
 
@@ -45,10 +44,6 @@ Says words (command.Demo demo) = (is_demo words ≡ true) × (demo.seed ≡ numb
 abbrev pub TakenFor : List (List ℕ) → Option Command → Type 0
 TakenFor words None = names_page words ≡ false
 TakenFor words (Some c) = Says words c
-
--- what the words of `serve` ask for
-abbrev pub asked_by : List (List ℕ) → Asked
-asked_by words = record { port = number_at words 1; workers = number_at words 2; sessions = number_at words 3; store = word_at words 4 }
 
 -- what right words promise of their command
 abbrev pub IsSound : Command → Type 0

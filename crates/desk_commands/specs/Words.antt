@@ -1,4 +1,4 @@
--- Which words are right, and what they name.
+-- Which words name a command that comes to a page, and what they say.
 use Rattle.std.specs.Prelude.{ℕ, ◌+◌, List, [], length, Bool, true, false, not, ◌&&◌, ◌||◌, ◌==◌, nat_lt, nat_le, drop, codes, Option, None, Some, slice_index, slice_index_or}
 use Rattle.std.specs.List.{list_all}
 use Rattle.std.specs.Str.{bytes_eq}
@@ -47,14 +47,6 @@ is_demo words = (length words == 3) && (begins (codes "demo") words && (is_numbe
 -- one of the commands that come to a page
 abbrev pub names_page : List (List ℕ) → Bool
 names_page words = is_check words || (is_pack words || (is_diagnose words || is_demo words))
-
--- `serve PORT WORKERS SESSIONS STORE`
-abbrev pub is_serve : List (List ℕ) → Bool
-is_serve words = (length words == 5) && (begins (codes "serve") words
-    && (is_count_to 65535 (number_of (word_at words 1)) && (is_count_to 64 (number_of (word_at words 2)) && is_count_to 1000000 (number_of (word_at words 3)))))
-
-abbrev pub are_right : List (List ℕ) → Bool
-are_right words = is_serve words || names_page words
 
 -- the names of the four files of a design
 pub record DesignNames : Type 0 where

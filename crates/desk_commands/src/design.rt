@@ -38,6 +38,16 @@ pub struct ReadDesign {
     pub parts: Parts,
 }
 
+impl ReadDesign {
+    /// The scan test alone.
+    pub fn into_parts(self) -> Parts
+        ensures { result ≡ self.parts }
+    {
+        let ReadDesign { parts, .. } = self;
+        parts
+    }
+}
+
 fn read_circuit<'a, F: Shelf>(
     alloc: Global,
     shelf: &mut F,

@@ -1,6 +1,7 @@
 //! The generator: the four texts of a design of so many blocks, drawn from a seed.
 mod block;
 pub mod draws;
+mod names;
 mod netlist;
 mod pairs;
 mod patterns;

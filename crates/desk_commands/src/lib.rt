@@ -1,4 +1,4 @@
-//! The commands of the desk, over words, a shelf of files and a sink of bytes.
+//! The commands of the desk that come to a page, over words and a shelf of files.
 #![tactic(auto)]
 
 mod command;
@@ -7,11 +7,11 @@ mod design;
 mod files;
 mod generator;
 mod page;
-mod top;
 mod words;
 
 pub use command::{Command, Demo, DesignFiles, Diagnose};
+pub use commands::page_of_command;
 pub use generator::draws::Draws;
 pub use generator::{Made, made_design};
-pub use top::{finish, run};
-pub use words::command_of;
+pub use page::Page;
+pub use words::{argument, begins, command_of, matches_of, number_in, text_of, word};

@@ -1,15 +1,15 @@
-//! Which words are right, and the command that they name.
+//! Which words name a command that comes to a page, and that command.
 mod assigned;
 
-ghost use Rattle.std.specs.Prelude.{◌≡◌, ◌==◌, ◌<◌, List, map, length, true, IfOk, OnErr, string_bytes, codes};
+ghost use Rattle.std.specs.Prelude.{◌≡◌, map, true, IfOk, OnErr, string_bytes};
 ghost use Rattle.std.specs.List.{list_all};
-ghost use Rattle.desk_commands.specs.Words.{is_plain_word, word_at, begins, is_check, is_pack, is_diagnose, is_demo, is_serve, is_count_to, names_page};
+ghost use Rattle.desk_commands.specs.Words.{is_plain_word, word_at, begins, is_check, is_pack, is_diagnose, is_demo, names_page};
 ghost use Rattle.scan_model.specs.Words.{number_of};
 ghost use Rattle.desk_commands.specs.Requests.{TakenFor};
 
 use crate::command::Command;
 use crate::words::assigned::{demo_of, design_files_of, diagnose_of};
-pub use assigned::serving_of;
+pub use assigned::{argument, matches_of, number_in, text_of};
 use scan_model::NoMemory;
 use std::alloc::Global;
 use text_parts::{is_tag, number_of};
@@ -26,8 +26,8 @@ fn are_plain(words: &[String]) -> bool
     words.iter().all(|word| is_plain(word.as_bytes()))
 }
 
-// The word at a place, which is empty past the last.
-fn word(words: &[String], place: usize) -> &str
+/// The word at a place, which is empty past the last.
+pub fn word(words: &[String], place: usize) -> &str
     ensures { result.now ≡ word_at (map string_bytes words.now) place }
 {
     match words.get(place) {
@@ -36,8 +36,9 @@ fn word(words: &[String], place: usize) -> &str
     }
 }
 
+/// Whether all words are plain and the first is this command.
 #[tactic(auto, using(crate::proofs::WordFacts::all_plain))]
-fn begins(command: &str, words: &[String]) -> bool
+pub fn begins(command: &str, words: &[String]) -> bool
     ensures { result ≡ begins command.now (map string_bytes words.now) }
 {
     are_plain(words) && word(words, 0) == command
@@ -71,27 +72,6 @@ fn is_demo(words: &[String]) -> bool
         && begins("demo", words)
         && number_of(word(words, 1).as_bytes()).is_some()
         && matches!(number_of(word(words, 2).as_bytes()), Some(1..=200))
-}
-
-// Whether the word at a place is a number word of a number from 1 to `most`.
-fn is_count(words: &[String], place: usize, most: u32) -> bool
-    ensures { result ≡ is_count_to most (number_of (word_at (map string_bytes words.now) place)) }
-{
-    match number_of(word(words, place).as_bytes()) {
-        Some(number) => 1 <= number && number <= most,
-        None => false,
-    }
-}
-
-/// Whether the words are those of `serve`.
-pub fn is_serve(words: &[String]) -> bool
-    ensures { result ≡ is_serve (map string_bytes words.now) }
-{
-    words.len() == 5
-        && begins("serve", words)
-        && is_count(words, 1, 65_535)
-        && is_count(words, 2, 64)
-        && is_count(words, 3, 1_000_000)
 }
 
 /// The command that the words are taken for, or nothing where they name none that comes to a page, which takes no memory.

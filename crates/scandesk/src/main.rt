@@ -10,7 +10,7 @@ use crate::file_cabinet::FileCabinet;
 use crate::file_shelf::FileShelf;
 use crate::stdout_sink::StdoutSink;
 use crate::tcp::TcpStreet;
-use desk_commands::{finish, run};
+use desk_run::{finish, run};
 use std::alloc::Global;
 use std::process::ExitCode;
 use std::rt::Env;

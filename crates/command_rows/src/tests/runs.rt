@@ -1,7 +1,7 @@
 //! Runs over memory.
 use super::files::files_in_memory;
-use desk_commands::run;
 use desk_outside::{File, MemCabinet, MemShelf, MemSink, MemStreet, Sink, are_distinct};
+use desk_run::run;
 use scan_model::Rows;
 use std::alloc::{AllocError, Global};
 use std::sync::Wait;

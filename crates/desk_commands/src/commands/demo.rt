@@ -5,9 +5,10 @@ mod lines;
 
 ghost use Rattle.std.specs.Prelude.{◌≡◌, ◌≤◌, ◌++◌, Some, Ok, IfOk, IfErr, OnOk, IfSome};
 ghost use Rattle.scan_model.specs.ReportText as text_of;
+ghost use Rattle.diag_report.specs.PredictedLog.{HasWordNames};
 ghost use Rattle.diagnosis.specs.Bundle.{texts_reading};
 ghost use Rattle.diagnosis.specs.Reading.{RefusedBy};
-ghost use Rattle.desk_commands.specs.Demo.{demo_name, demo_output, injected_lines, section_word};
+ghost use Rattle.desk_commands.specs.Demo.{demo_output, injected_lines, section_word};
 ghost use Rattle.desk_commands.specs.Injected.{IsFound, IsAfterTexts, IsText, IsRefusal, place_of, texts_of};
 
 use crate::command::Demo;
@@ -17,8 +18,8 @@ use crate::commands::demo::lines::{add_count, add_digest, add_head, add_injected
 use crate::generator::draws::Draws;
 use crate::generator::{Made, made_design};
 use crate::page::{Page, line_page, rule_line};
-use diagnosis::{BundleFault, Design, Section, design_of};
-use scan_model::{Name, NoMemory, Rows};
+use diagnosis::{BundleFault, Section, parts_of};
+use scan_model::{Name, NoMemory, Parts, Rows};
 use std::alloc::Global;
 use std::thread::Threads;
 
@@ -53,22 +54,21 @@ fn add_diagnosis<R: Threads + Sync>(
     rt: &R,
     alloc: Global,
     text: &mut Name,
-    design: Design,
+    parts: Parts,
     injected: Injected,
 ) -> Result<(), NoMemory>
-    requires name { design.name ≡ demo_name }
-    requires found { IsFound design.test injected }
-    ensures { OnOk result (text.new ≡ text.old ++ text_of.joined (injected_lines design.test (Some injected.place))) }
+    requires found { IsFound parts injected }
+    ensures { OnOk result (text.new ≡ text.old ++ text_of.joined (injected_lines parts (Some injected.place))) }
 {
     let place = injected.place;
-    add_injected(alloc, text, design.parts(), place)?;
+    add_injected(alloc, text, &parts, place)?;
     add_count(
         alloc,
         text,
         "fails",
         injected.log.facts().fails.len() as u64,
     )?;
-    let diagnosis = diagnosis_of(rt, alloc, design, injected)?;
+    let diagnosis = diagnosis_of(rt, alloc, parts, injected)?;
     add_count(alloc, text, "candidates", diagnosis.candidates.len() as u64)?;
     add_rank(alloc, text, diagnosis.candidates.as_slice(), place)?;
     add_digest(text, diagnosis.report.bytes())
@@ -79,16 +79,15 @@ fn add_found<R: Threads + Sync>(
     rt: &R,
     alloc: Global,
     text: &mut Name,
-    design: Design,
+    parts: Parts,
     injected: Option<Injected>,
 ) -> Result<(), NoMemory>
-    requires name { design.name ≡ demo_name }
-    requires found { IfSome injected (IsFound design.test) }
-    ensures { OnOk result (text.new ≡ text.old ++ text_of.joined (injected_lines design.test (place_of injected))) }
+    requires { IfSome injected (IsFound parts) }
+    ensures { OnOk result (text.new ≡ text.old ++ text_of.joined (injected_lines parts (place_of injected))) }
 {
     match injected {
         None => text.append(b"injected none\n"),
-        Some(injected) => add_diagnosis(rt, alloc, text, design, injected),
+        Some(injected) => add_diagnosis(rt, alloc, text, parts, injected),
     }
 }
 
@@ -97,30 +96,29 @@ fn page_of_design<R: Threads + Sync>(
     rt: &R,
     alloc: Global,
     demo: Demo,
-    design: Design,
+    parts: Parts,
     draws: &mut Draws,
 ) -> Result<Page, NoMemory>
-    requires name { design.name ≡ demo_name }
+    requires names { HasWordNames parts }
     requires draws { IsAfterTexts demo.seed demo.blocks draws.old.state }
     ensures status { IfOk result (λ page. page.status ≡ 0) }
-    ensures text { IfOk result (λ page. IsText demo.seed demo.blocks design.test page.text) }
+    ensures text { IfOk result (λ page. IsText demo.seed demo.blocks parts page.text) }
 {
-    let injected = inject(alloc, &design, draws)?;
+    let injected = inject(alloc, &parts, draws)?;
     let mut text = Rows::new(alloc);
-    add_head(alloc, &mut text, demo, design.parts())?;
-    add_found(rt, alloc, &mut text, design, injected)?;
+    add_head(alloc, &mut text, demo, &parts)?;
+    add_found(rt, alloc, &mut text, parts, injected)?;
     Ok(Page { status: 0, text })
 }
 
-// The design of the texts that were made.
-fn read_made(alloc: Global, made: &Made) -> Result<Design, BundleFault>
-    ensures name { IfOk result (λ design. design.name ≡ demo_name) }
-    ensures stands { IfOk result (λ design. texts_reading (texts_of made.now) ≡ Ok design.test) }
+// The scan test of the texts that were made.
+fn read_made(alloc: Global, made: &Made) -> Result<Parts, BundleFault>
+    ensures stands { IfOk result (λ parts. texts_reading (texts_of made.now) ≡ Ok parts) }
+    ensures names { IfOk result HasWordNames }
     ensures fault { IfErr result (RefusedBy (texts_reading (texts_of made.now))) }
 {
-    design_of(
+    parts_of(
         alloc,
-        b"demo",
         made.netlist.as_slice(),
         made.scan.as_slice(),
         made.patterns.as_slice(),
@@ -136,7 +134,7 @@ pub fn demo_page<R: Threads + Sync>(rt: &R, alloc: Global, demo: Demo) -> Result
 {
     let mut made = made_design(alloc, demo.seed, demo.blocks)?;
     match read_made(alloc, &made) {
-        Ok(design) => page_of_design(rt, alloc, demo, design, &mut made.draws),
+        Ok(parts) => page_of_design(rt, alloc, demo, parts, &mut made.draws),
         Err(fault) => refused_page(alloc, fault),
     }
 }

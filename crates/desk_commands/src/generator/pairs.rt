@@ -2,6 +2,7 @@
 ghost use Rattle.std.specs.Prelude.{◌≡◌, ◌<◌, ◌≤◌, ◌++◌, IfOk, OnOk};
 ghost use Rattle.desk_commands.specs.MadePairs.{made_pairs, pair_line};
 
+use crate::generator::names::push_net;
 use scan_model::{Name, NoMemory};
 use std::alloc::Global;
 
@@ -9,12 +10,14 @@ use std::alloc::Global;
 const NEAR_GATE: u32 = 50;
 
 /// Adds the line of a block and the next.
-fn push_pair(alloc: Global, text: &mut Name, block: u32) -> Result<(), NoMemory>
+fn push_pair(text: &mut Name, block: u32) -> Result<(), NoMemory>
     requires { block < 200 }
     ensures { OnOk result (text.new ≡ text.old ++ pair_line block) }
 {
-    let line = format!(in alloc; "g{block}_{NEAR_GATE},g{}_{NEAR_GATE}\n", block + 1)?;
-    text.append(line.as_bytes())
+    push_net(text, b'g', block, NEAR_GATE)?;
+    text.push(b',')?;
+    push_net(text, b'g', block + 1, NEAR_GATE)?;
+    text.push(b'\n')
 }
 
 /// The neighbour list of so many blocks.
@@ -24,7 +27,7 @@ pub fn made_pairs(alloc: Global, blocks: u32) -> Result<Name, NoMemory>
 {
     let mut text = Name::copy_of(alloc, b"net_a,net_b\n")?;
     for block in 0..blocks.saturating_sub(1) {
-        push_pair(alloc, &mut text, block)?;
+        push_pair(&mut text, block)?;
     }
     Ok(text)
 }

@@ -1,22 +1,20 @@
 //! Right words, which `clap` assigns to the arguments of their command.
-ghost use Rattle.std.specs.Prelude.{◌≡◌, ◌≤◌, List, map, length, Some, true, false, IfOk, string_bytes, codes};
+ghost use Rattle.std.specs.Prelude.{◌≡◌, ◌≤◌, map, length, Some, true, false, IfOk, string_bytes};
 ghost use Rattle.std.specs.List.{list_all};
 ghost use Rattle.scan_model.specs.Words.{number_of};
 ghost use Rattle.clap.specs.Words.{app_of, found_of, is_simple, matches_of, rows_of, rule_of};
 ghost use Rattle.desk_commands.specs.Words.{is_plain_word, names_from, number_at, request_of};
-ghost use Rattle.desk_commands.specs.Requests.{named_files, said, asked_by};
-ghost use Rattle.desk_serve.specs.Runs.{asked_of};
+ghost use Rattle.desk_commands.specs.Requests.{named_files, said};
 ghost use Rattle.desk_commands.specs.Assigned.{argument, arguments, text_of, texts_of, names_in, with_files};
 
 use crate::command::{Demo, DesignFiles, Diagnose};
 use clap::{Arg, ArgMatches};
-use desk_serve::Serving;
 use scan_model::NoMemory;
 use std::alloc::{AllocError, Global};
 use text_parts::number_of;
 
-// An argument of one word.
-fn argument(alloc: Global, name: &str) -> Arg<'_>
+/// An argument of one word.
+pub fn argument(alloc: Global, name: &str) -> Arg<'_>
     ensures rule { rule_of result ≡ argument name.entry.now }
     ensures local { result.global ≡ false }
 {
@@ -42,8 +40,8 @@ fn with_files(alloc: Global, command: clap::Command<'_>) -> Result<clap::Command
         .arg(argument(alloc, "neighbours"))
 }
 
-// The words of the arguments. They were found right before, so `clap` refuses them for want of memory alone.
-fn matches_of<'a>(
+/// The words of the arguments. Where they were found right before, `clap` refuses them for want of memory alone.
+pub fn matches_of<'a>(
     command: clap::Command<'a>,
     words: &'a [String],
 ) -> Result<ArgMatches<'a>, NoMemory>
@@ -56,8 +54,8 @@ fn matches_of<'a>(
     }
 }
 
-// The word of an argument.
-fn text_of<'a>(matches: &ArgMatches<'a>, name: &str) -> Result<&'a str, NoMemory>
+/// The word of an argument.
+pub fn text_of<'a>(matches: &ArgMatches<'a>, name: &str) -> Result<&'a str, NoMemory>
     ensures { IfOk result (λ text. text.now ≡ text_of name.now (rows_of (found_of matches.now))) }
 {
     matches.get_str(name).ok_or(NoMemory)
@@ -77,8 +75,8 @@ fn texts_of<'a>(
     }
 }
 
-// The number of the word of an argument.
-fn number_in(matches: &ArgMatches<'_>, name: &str) -> Result<u32, NoMemory>
+/// The number of the word of an argument.
+pub fn number_in(matches: &ArgMatches<'_>, name: &str) -> Result<u32, NoMemory>
     ensures { IfOk result (λ n. number_of (text_of name.now (rows_of (found_of matches.now))) ≡ Some n) }
 {
     let word = text_of(matches, name)?;
@@ -127,37 +125,6 @@ pub fn diagnose_of<'a>(alloc: Global, words: &'a [String]) -> Result<Diagnose<'a
         die: text_of(&matches, "die")?,
         files: names_in(&matches)?,
         logs: texts_of(alloc, &matches, "log")?,
-    })
-}
-
-// The port of the word of an argument.
-fn port_in(matches: &ArgMatches<'_>, name: &str) -> Result<u16, NoMemory>
-    ensures { IfOk result (λ port. number_of (text_of name.now (rows_of (found_of matches.now))) ≡ Some port) }
-{
-    let number = number_in(matches, name)?;
-    match u16::try_from(number) {
-        Ok(port) => Ok(port),
-        Err(_) => Err(NoMemory),
-    }
-}
-
-/// What the words of `serve` ask for.
-pub fn serving_of<'a>(alloc: Global, words: &'a [String]) -> Result<Serving<'a>, NoMemory>
-    requires count { length words.now ≡ 5 }
-    requires plain { list_all is_plain_word (map string_bytes words.now) ≡ true }
-    ensures { IfOk result (λ serving. asked_of serving ≡ asked_by (map string_bytes words.entry.now)) }
-{
-    let command = clap::Command::new(alloc, "serve")
-        .arg(argument(alloc, "port"))?
-        .arg(argument(alloc, "workers"))?
-        .arg(argument(alloc, "sessions"))?
-        .arg(argument(alloc, "store"))?;
-    let matches = matches_of(command, words)?;
-    Ok(Serving {
-        port: port_in(&matches, "port")?,
-        workers: number_in(&matches, "workers")?,
-        sessions: number_in(&matches, "sessions")?,
-        store: text_of(&matches, "store")?,
     })
 }
 

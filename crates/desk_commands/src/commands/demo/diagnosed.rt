@@ -6,36 +6,32 @@ ghost use Rattle.desk_commands.specs.Demo.{demo_name, own_candidates, own_report
 ghost use Rattle.desk_commands.specs.Injected.{IsFound};
 
 use crate::commands::demo::injected::Injected;
-use diagnosis::{Design, Diagnosis, DieView, make_diagnosis};
-use scan_model::{Name, NoMemory};
+use diagnosis::{Case, Diagnosis, case_diagnosis};
+use scan_model::{NoMemory, Parts};
 use std::alloc::Global;
-use std::sync::Arc;
 use std::thread::Threads;
 
 // The die with its one log.
-fn view_of(alloc: Global, design: Design, injected: Injected) -> Result<DieView, NoMemory>
-    requires name { design.name ≡ demo_name }
-    requires found { IsFound design.test injected }
-    ensures { IfOk result (λ view. view ≡ record { design = design; die = demo_name; logs = injected.log ∷ [] }) }
+fn case_of(alloc: Global, parts: Parts, injected: Injected) -> Result<Case, NoMemory>
+    requires { IsFound parts injected }
+    ensures { IfOk result (λ case. case ≡ record { design = demo_name; die = demo_name; test = parts; logs = injected.log ∷ [] }) }
 {
-    let die = Name::copy_of(alloc, b"demo")?;
-    let mut view = DieView::make(alloc, Arc::new(alloc, design)?, die)?;
-    view.add(Arc::new(alloc, injected.log)?)?;
-    Ok(view)
+    let mut case = Case::make(alloc, b"demo", b"demo", parts)?;
+    case.add_log(alloc, injected.log)?;
+    Ok(case)
 }
 
 /// The report over the log and its candidates.
 pub fn diagnosis_of<R: Threads + Sync>(
     rt: &R,
     alloc: Global,
-    design: Design,
+    parts: Parts,
     injected: Injected,
 ) -> Result<Diagnosis, NoMemory>
-    requires name { design.name ≡ demo_name }
-    requires found { IsFound design.test injected }
-    ensures report { IfOk result (λ d. text_of.joined d.report ≡ own_report design.test (fault_of design.test injected.place)) }
-    ensures candidates { IfOk result (λ d. d.candidates ≡ own_candidates design.test (fault_of design.test injected.place)) }
+    requires found { IsFound parts injected }
+    ensures report { IfOk result (λ d. text_of.joined d.report ≡ own_report parts (fault_of parts injected.place)) }
+    ensures candidates { IfOk result (λ d. d.candidates ≡ own_candidates parts (fault_of parts injected.place)) }
 {
-    let view = view_of(alloc, design, injected)?;
-    make_diagnosis(rt, alloc, &view)
+    let case = case_of(alloc, parts, injected)?;
+    case_diagnosis(rt, alloc, &case)
 }

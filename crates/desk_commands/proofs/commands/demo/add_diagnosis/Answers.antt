@@ -1,10 +1,7 @@
-use Rattle.std.proofs.Common.{◌≡◌, ◌∷◌, ◌++◌, length, sym, ap, subst, ◌∙◌}
-use Rattle.std.specs.Prelude.{codes, decimal}
+use Rattle.std.proofs.Common.{◌≡◌, length, sym, ap, ◌∙◌}
 use Rattle.std.proofs.lemmas.Result.{on_ok_weaker}
 use Rattle.scan_model.specs.declared.logs.LogFacts.{LogFacts}
 use Rattle.scan_model.specs.declared.logs.Scored.{Scored}
-use Rattle.scan_model.specs.ScanTest.{ScanTest}
-use Rattle.scan_model.specs.ReportText.{line, fault_words}
 use Rattle.diag_report.specs.PredictedLog.{fault_of, predicted_bits}
 use Rattle.diagnosis.specs.Designs.{ReadLogFacts}
 use Rattle.desk_commands.specs.Demo.{own_candidates, own_report}
@@ -13,12 +10,10 @@ use Rattle.desk_commands.proofs.commands.demo.add_diagnosis.Goals as goal
 
 pub returns : goal.returns
 returns g c =
-    let t = c.args.design.test in
+    let t = c.args.parts in
     let place = c.args.injected.place in
     let f = fault_of t place in
     let rows = c.as_slice.result.now in
-    let HasLine : ScanTest → Type 0 = λ x. c.add_injected.new.text ≡ c.args.text.now ++ line (codes "injected" ∷ decimal place ∷ fault_words x (fault_of x place)) in
-    let injected : HasLine t = subst HasLine c.parts.ensures.value c.in_ok-add_injected.ensures in
     let fails : c.len.result ≡ length (predicted_bits t f) =
     c.len.ensures ∙ ap (λ (facts : LogFacts). length facts.fails) c.facts.ensures ∙ ap (λ (log : ReadLogFacts). length log.facts.fails) c.requires.found.own.is in
     let report : c.bytes.result.now ≡ own_report t f = c.bytes.ensures ∙ c.in_ok-diagnosis.ensures.report in
@@ -28,6 +23,6 @@ returns g c =
     (
     diagnosis_added t place c.len.result c.len-2.result rows c.bytes.result.now
     c.args.text.now c.add_injected.new.text c.add_count.new.text c.add_count-2.new.text c.add_rank.new.text c.add_digest.new.text
-    fails are_rows report count injected c.in_ok-add_count.ensures c.in_ok-add_count-2.ensures c.in_ok-add_rank.ensures
+    fails are_rows report count c.in_ok-add_injected.ensures c.in_ok-add_count.ensures c.in_ok-add_count-2.ensures c.in_ok-add_rank.ensures
     )
     c.add_digest.ensures

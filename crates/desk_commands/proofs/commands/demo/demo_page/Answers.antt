@@ -7,11 +7,11 @@ page_of_design-requires-clause-draws g c κs within = record { is = c.in_ok-made
 
 pub returns-in-Ok-clause-status : goal.returns-in-Ok-clause-status
 returns-in-Ok-clause-status g c =
-    status_read c.args.demo.seed c.args.demo.blocks (texts_of c.in_ok-made.made) c.in_ok-made.ensures.texts c.page_of_design.result c.in-Ok.design.test c.in-Ok.ensures.stands c.page_of_design.ensures.status
+    status_read c.args.demo.seed c.args.demo.blocks (texts_of c.in_ok-made.made) c.in_ok-made.ensures.texts c.page_of_design.result c.in-Ok.parts c.in-Ok.ensures.stands c.page_of_design.ensures.status
 
 pub returns-in-Ok-clause-text : goal.returns-in-Ok-clause-text
 returns-in-Ok-clause-text g c =
-    text_read c.args.demo.seed c.args.demo.blocks (texts_of c.in_ok-made.made) c.in_ok-made.ensures.texts c.page_of_design.result c.in-Ok.design.test c.in-Ok.ensures.stands c.page_of_design.ensures.text
+    text_read c.args.demo.seed c.args.demo.blocks (texts_of c.in_ok-made.made) c.in_ok-made.ensures.texts c.page_of_design.result c.in-Ok.parts c.in-Ok.ensures.stands c.page_of_design.ensures.text
 
 pub returns-clause-status : goal.returns-clause-status
 returns-clause-status g c =

@@ -1,7 +1,4 @@
-use Rattle.std.proofs.Common.{◌≡◌, ◌++◌, subst}
-use Rattle.scan_model.specs.ScanTest.{ScanTest}
-use Rattle.scan_model.specs.ReportText.{joined}
-use Rattle.desk_commands.specs.Injected.{head_lines, place_of}
+use Rattle.desk_commands.specs.Injected.{place_of}
 use Rattle.desk_commands.proofs.DemoLines.{text_is}
 use Rattle.desk_commands.proofs.commands.demo.page_of_design.Goals as goal
 
@@ -9,6 +6,5 @@ pub returns-clause-text : goal.returns-clause-text
 returns-clause-text g c =
     let seed = c.args.demo.seed in
     let blocks = c.args.demo.blocks in
-    let HasHead : ScanTest → Type 0 = λ t. c.add_head.new.text ≡ c.new-text.result ++ joined (head_lines seed blocks t) in
-    text_is seed blocks c.args.design.test (place_of c.in_ok-injected.injected) c.new-text.result c.add_head.new.text c.add_found.new.text
-    c.new-text.ensures (subst HasHead c.parts.ensures.value c.in_ok-add_head.ensures) c.in_ok-add_found.ensures (c.in_ok-injected.ensures.drawn seed blocks c.requires.draws)
+    text_is seed blocks c.args.parts (place_of c.in_ok-injected.injected) c.new-text.result c.add_head.new.text c.add_found.new.text
+    c.new-text.ensures c.in_ok-add_head.ensures c.in_ok-add_found.ensures (c.in_ok-injected.ensures.drawn seed blocks c.requires.draws)

@@ -5,4 +5,4 @@ use Rattle.desk_commands.specs.MadeNetlist.{cell_line}
 use Rattle.desk_commands.proofs.generator.netlist.push_cells.Given as goal
 
 abbrev pub invariant-loop-cell : goal.invariant-loop-cell
-invariant-loop-cell l = l.text ≡ l.initial.text ++ flat_map (cell_line l.block) (range_with_len 0 l.cell-counter)
+invariant-loop-cell l = l.text ≡ l.initial.text ++ flat_map (cell_line l.block) (range_with_len 0 l.cell)

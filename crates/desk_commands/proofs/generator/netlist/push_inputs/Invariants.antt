@@ -5,4 +5,4 @@ use Rattle.desk_commands.specs.MadeNetlist.{input_line}
 use Rattle.desk_commands.proofs.generator.netlist.push_inputs.Given as goal
 
 abbrev pub invariant-loop-input : goal.invariant-loop-input
-invariant-loop-input l = l.text ≡ l.initial.text ++ flat_map (input_line l.block) (range_with_len 0 l.input-counter)
+invariant-loop-input l = l.text ≡ l.initial.text ++ flat_map (input_line l.block) (range_with_len 0 l.input)

@@ -2,11 +2,11 @@ use Rattle.std.proofs.Common.{◌≡◌, ◌∙◌, ap, ap₂, codes, length, ma
 use Rattle.std.proofs.lemmas.List.{length-map}
 use Rattle.scan_model.specs.Words.{number_of}
 use Rattle.clap.specs.Words.{with_rule}
-use Rattle.desk_serve.specs.Runs.{Asked}
-use Rattle.desk_commands.specs.Words.{number_at, word_at}
-use Rattle.desk_commands.specs.Assigned.{serve, text_of}
-use Rattle.desk_commands.proofs.Assigned.{asked_is, serve_assigned, serve_is_simple, found_by, number_named}
-use Rattle.desk_commands.proofs.words.assigned.serving_of.Goals as goal
+use Rattle.desk_commands.specs.Assigned.{text_of}
+use Rattle.desk_commands.proofs.Assigned.{found_by, number_named}
+use Rattle.desk_run.specs.Assigned.{serve}
+use Rattle.desk_run.proofs.Assigned.{asked_is, serve_assigned, serve_is_simple}
+use Rattle.desk_run.proofs.words.serving_of.Goals as goal
 
 pub returns : goal.returns
 returns c =

@@ -1,16 +1,17 @@
 //! The top call.
-ghost use Rattle.std.specs.Prelude.{◌≡◌, ◌≤◌, ◌⊎◌, ℕ, List, false, true, map, Some, IfOk, OnErr, OnOk, string_bytes, codes};
+ghost use Rattle.std.specs.Prelude.{◌≡◌, ◌≤◌, ◌⊎◌, List, false, true, map, Some, string_bytes, codes};
 ghost use Rattle.desk_outside.specs.declared.shelf.File.{File};
 ghost use Rattle.std.specs.Io.KnownBytes.{append_known};
 ghost use Rattle.desk_outside.specs.Faults.{Rose};
-ghost use Rattle.desk_commands.specs.Words.{are_right, is_serve, names_page};
-ghost use Rattle.desk_commands.specs.Requests.{asked_by};
 ghost use Rattle.desk_serve.specs.Runs.{HasRun};
+ghost use Rattle.desk_commands.specs.Words.{names_page};
 ghost use Rattle.desk_commands.specs.Commands.{work};
-ghost use Rattle.desk_commands.specs.Ending.{Ran, Ends, IsOfPage};
+ghost use Rattle.desk_commands.specs.Ending.{IsOfPage};
+ghost use Rattle.desk_run.specs.Words.{are_right, is_serve, asked_by};
+ghost use Rattle.desk_run.specs.Ending.{Ran, Ends};
 
-use crate::commands::page_of_command;
-use crate::words::{command_of, is_serve, serving_of};
+use crate::words::{is_serve, serving_of};
+use desk_commands::{command_of, page_of_command};
 use desk_outside::{Cabinet, Failed, Shelf, Sink, Street, write_all};
 use desk_serve::{Ending, ended, serve};
 use scan_model::NoMemory;

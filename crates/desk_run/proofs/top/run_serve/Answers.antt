@@ -1,12 +1,11 @@
-use Rattle.std.proofs.Common.{◌≡◌, ◌∙◌, ◌<◌, ◌≤◌, List, map, string_bytes, refl, sym, ap, subst, inl, inr, arith, length}
+use Rattle.std.proofs.Common.{◌≡◌, ◌∙◌, map, string_bytes, refl, sym, ap, subst, inl, inr, arith}
 use Rattle.std.proofs.lemmas.List.{length-map}
-use Rattle.desk_outside.specs.Faults.{Rose}
 use Rattle.desk_serve.specs.declared.ending.Ending.TheVariants.{NoMemory}
-use Rattle.desk_serve.specs.Runs.{Asked, Outside, HasEnded}
+use Rattle.desk_serve.specs.Runs.{Asked, HasEnded}
 use Rattle.desk_serve.proofs.Closing.{no_keeper}
-use Rattle.desk_commands.specs.Requests.{asked_by}
-use Rattle.desk_commands.proofs.Served.{serve_count, serve_plain, serve_workers}
-use Rattle.desk_commands.proofs.top.run_serve.Goals as goal
+use Rattle.desk_run.specs.Words.{asked_by}
+use Rattle.desk_run.proofs.Served.{serve_count, serve_plain, serve_workers}
+use Rattle.desk_run.proofs.top.run_serve.Goals as goal
 
 pub serving_of-requires-clause-count : goal.serving_of-requires-clause-count
 serving_of-requires-clause-count g c = sym (length-map c.args.words.now string_bytes) ∙ serve_count (map string_bytes c.args.words.now) c.requires

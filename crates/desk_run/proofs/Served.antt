@@ -1,6 +1,6 @@
 -- What a run of `serve` says by its exit status.
 use Rattle.std.proofs.Common.{◌≡◌, ◌≢◌, ◌≤◌, ◌∙◌, ℕ, Bool, true, false, List, Option, Some, None, ◌==◌, codes, length, eqb-true, refl, sym, ap, subst, inl, inr, arith, true≢false}
-use Rattle.std.specs.Prelude.{◌||◌, ◌&&◌, ◌⊎◌, nat_le}
+use Rattle.std.specs.Prelude.{◌&&◌, nat_le}
 use Rattle.std.specs.List.{list_all}
 use Rattle.std.proofs.lemmas.Bool.{leb-true}
 use Rattle.scan_model.specs.Words.{number_of}
@@ -9,8 +9,10 @@ use Rattle.desk_serve.specs.declared.ending.Ending.{Ending}
 use Rattle.desk_serve.specs.declared.ending.Ending.TheVariants.{Done, SinkFault, StoreFault, NoMemory, Spoiled, StreetFault}
 use Rattle.desk_serve.specs.Lines.{status_of}
 use Rattle.desk_serve.specs.Runs.{Asked, Outside, HasEnded, HasRun, IsWritten}
-use Rattle.desk_commands.specs.Ending.{Ends, IsOfPage}
-use Rattle.desk_commands.specs.Words.{are_right, begins, is_count_to, is_plain_word, is_serve, names_page, number_at, word_at}
+use Rattle.desk_commands.specs.Ending.{IsOfPage}
+use Rattle.desk_commands.specs.Words.{begins, is_count_to, is_plain_word, names_page, number_at, word_at}
+use Rattle.desk_run.specs.Ending.{Ends}
+use Rattle.desk_run.specs.Words.{are_right, is_serve}
 
 -- the statuses of files and words are none of `serve`
 other_status : (ending : Ending) → (status_of ending ≢ 2) × (status_of ending ≢ 5)

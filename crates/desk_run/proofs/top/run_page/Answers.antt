@@ -1,8 +1,8 @@
 use Rattle.std.proofs.Common.{map, string_bytes, codes, inl, inr, refl}
 use Rattle.desk_commands.proofs.Requests.{wrong_work, said_sound}
-use Rattle.desk_commands.proofs.Runs.{said_due}
-use Rattle.desk_commands.proofs.Served.{ends_of_page, of_2, of_8}
-use Rattle.desk_commands.proofs.top.run_page.Goals as goal
+use Rattle.desk_run.proofs.Runs.{said_due}
+use Rattle.desk_run.proofs.Served.{ends_of_page, of_2, of_8}
+use Rattle.desk_run.proofs.top.run_page.Goals as goal
 
 pub returns-in-Ok-None-clause-told : goal.returns-in-Ok-None-clause-told
 returns-in-Ok-None-clause-told g c = λ held e.

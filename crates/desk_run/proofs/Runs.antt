@@ -1,5 +1,5 @@
 -- What is due at the end of a run.
-use Rattle.std.proofs.Common.{◌≡◌, List, ℕ, subst}
+use Rattle.std.proofs.Common.{List, ℕ, subst}
 use Rattle.desk_outside.specs.declared.shelf.File.{File}
 use Rattle.desk_commands.specs.declared.command.Command.{Command}
 use Rattle.desk_commands.specs.Commands.{work}

@@ -1,7 +1,7 @@
-use Rattle.std.proofs.Common.{◌≡◌, ◌∙◌, map, string_bytes, true, false, refl, sym, subst, true≢false}
-use Rattle.desk_commands.specs.Words.{are_right, is_serve, names_page}
-use Rattle.desk_commands.proofs.Served.{never_2, never_5, sink_rose, store_rose, spoiled_alone, street_rose, serve_is_right, page_is_right}
-use Rattle.desk_commands.proofs.top.run.Goals as goal
+use Rattle.std.proofs.Common.{◌≡◌, ◌∙◌, map, string_bytes, true, false, refl, sym, true≢false}
+use Rattle.desk_run.specs.Words.{is_serve}
+use Rattle.desk_run.proofs.Served.{never_2, never_5, sink_rose, store_rose, spoiled_alone, street_rose, serve_is_right, page_is_right}
+use Rattle.desk_run.proofs.top.run.Goals as goal
 
 pub returns-then-is_serve-clause-told : goal.returns-then-is_serve-clause-told
 returns-then-is_serve-clause-told g c =

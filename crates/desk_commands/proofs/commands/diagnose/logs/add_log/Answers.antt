@@ -1,0 +1,15 @@
+use Rattle.std.proofs.Common.{◌≡◌, Err, rules}
+use Rattle.scan_model.specs.LogText.{log_frame}
+use Rattle.desk_commands.proofs.ReadLogs.{file_stops, file_follows}
+use Rattle.desk_commands.proofs.commands.diagnose.logs.add_log.Goals as goal
+
+pub returns-in_err-text-clause-told : goal.returns-in_err-text-clause-told
+returns-in_err-text-clause-told g c = λ held e.
+    let is : c.from_residual.result ≡ Err c.in_err-text.field-0.0 = search rules in
+    let k = c.args.case.now in
+    rw is (file_stops held (log_frame k.test k.design k.die) c.args.name.now c.in_err-text.field-0.0 (c.in_err-text.ensures.stops held e))
+
+pub returns-clause-told : goal.returns-clause-told
+returns-clause-told g c = λ held e.
+    file_follows held c.args.case.now c.add-answer.new.self.logs c.args.name.now c.in_ok-text.text c.add-answer.result c.named.result
+    (c.in_ok-text.ensures.text held e) c.in_ok-text.ensures.within c.named.ensures.named c.add-answer.ensures.added c.add-answer.ensures.fault

@@ -1,0 +1,22 @@
+-- How a run may end.
+use Rattle.std.specs.Prelude.{◌≡◌, ◌⊎◌, ℕ, List, codes, Option}
+use Rattle.std.specs.Io.KnownBytes.{append_known}
+use Rattle.desk_outside.specs.Bytes.{AddsPart}
+use Rattle.desk_commands.specs.Work.{Output}
+use Rattle.desk_commands.specs.Ending.{IsDueOf}
+
+-- all the bytes were added; or the sink's count rose, and bytes from their front were added
+abbrev pub Ends : ℕ → List ℕ → ℕ → Option (List ℕ) → Option (List ℕ) → Type 0 → Type 0
+Ends status text result old new rose =
+    ((result ≡ status) × (new ≡ append_known old text)) ⊎ ((result ≡ 6) × AddsPart old new text × rose)
+
+-- a status and the bytes that go before it: those that are due, or those for want of memory
+abbrev pub MayEnd : Output → Type 0 → ℕ → List ℕ → Type 0
+MayEnd output rose status text = IsDueOf output rose status text ⊎ ((status ≡ 8) × (text ≡ codes "memory\n"))
+
+-- a run ended as it may: with a page that was due, of which a failing sink has a part
+pub record Ran (output : Output) (shelf_rose sink_rose : Type 0) (result : ℕ) (old new : Option (List ℕ)) : Type 0 where
+  pub status : ℕ
+  pub text : List ℕ
+  pub due : MayEnd output shelf_rose status text
+  pub ends : Ends status text result old new sink_rose
