@@ -1,6 +1,6 @@
 #!/bin/sh
-# Runs `rt ci --anew` at the top of the repository, with the words of this script after it, and prints where its processor
-# time went: for each crate the seconds of its proof, of its tests and of its must-fail edits, with the number of checks that
+# Runs `rt ci` from nothing at the top of the repository (`rt ci --anew`, where the kit keeps what passed), with the words of this
+# script after it, and prints where its processor time went: for each crate the seconds of its proof, of its tests and of its must-fail edits, with the number of checks that
 # the edits took (one more where the crate is checked once for all of them), and the whole in minutes. The provers are looked at once a second in the process table, so each counts up to a second too little;
 # what no prover took (compilers, programs, tests that run) stands as the rest. The status is that of the gate.
 top=$(CDPATH='' cd -- "$(dirname -- "$0")/.." && pwd) || exit 1
@@ -74,8 +74,13 @@ def tell(taken, whole, passed):
     print(f'the rest {whole - sum(columns):.0f} s; the whole {whole / 60:.1f} minutes of processors, {passed / 60:.1f} minutes by the clock')
 
 
+def keeps():
+    """Whether the kit's `rt ci` keeps what passed, so that it must be told to begin anew."""
+    return '--anew' in subprocess.run(['rt', 'help'], capture_output=True, text=True, check=False).stderr
+
+
 begun = time.monotonic()
-gate = subprocess.Popen(['rt', 'ci', '--anew', *sys.argv[1:]])
+gate = subprocess.Popen(['rt', 'ci', *['--anew'] * keeps(), *sys.argv[1:]])
 taken = {}
 while gate.poll() is None:
     look(gate.pid, taken)

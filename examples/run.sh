@@ -1,13 +1,11 @@
 #!/bin/sh
 # Runs the worked day of the README and the examples of docs/formats.md, and compares what is printed with what is
-# expected. The program is the built one, or that of the first word; the examples of library calls are the stored run of a
-# small program over the libraries, in examples/book.
+# expected. The program is the built one, or that of the first word.
 top=$(CDPATH='' cd -- "$(dirname -- "$0")/.." && pwd) || exit 1
 program=${1:-$top/crates/scandesk/out/scandesk}
 # Without words the program says that it doesn't understand; where it isn't there, it is built first.
 [ -x "$program" ] || "$top/scandesk" >/dev/null
 work=$(mktemp -d) || exit 1
-mkdir "$work/calls"
 trap 'rm -rf "$work"' EXIT
 runs=0
 wrong=0
@@ -59,14 +57,6 @@ the_files() {
     esac
 }
 
-# expect_call LINE WORD..: this is the last line of the calls that the words tell. They are all made at the end.
-expect_call() {
-    printf '%s\n' "$1" >>"$work/stdout"
-    shift
-    runs=$((runs + 1))
-    printf '%s\n' book "$@" >>"$work/args"
-}
-
 # expect_rule KIND RULE LINE: the file `example` breaks the rule at the line.
 expect_rule() {
     the_files "$1"
@@ -75,11 +65,8 @@ expect_rule() {
         scan) name=s27.scan ;;
         patterns) name=s27.pat ;;
         neighbours) name=none.csv ;;
-        bundle)
-            cp example "$work/calls/rule$2.bundle"
-            expect_call "section bundle line $3 rule $2" 9 design s27 "rule$2.bundle"
-            return
-            ;;
+        # A bundle is the body of a request.
+        bundle) return ;;
         log)
             expect_line 3 "example line $3 rule $2" diagnose s27 D1 s27.bench s27.scan s27.pat none.csv example
             return
@@ -171,72 +158,26 @@ the_answers() {
     done <"$work/answers"
 }
 
-# The answers of the libraries: a row has the rule, its meaning, an example and the last line that it writes.
-library_answers() {
-    awk '/^## / { on = $0 ~ /^## Answers of the libraries/ } on && /^\| [0-9]+ \|/ { split($0, cell, " *[|] *"); print cell[4] "|" cell[5] }' "$top/docs/formats.md" |
-        tr -d '\140'
-}
-
-the_library_answers() {
-    cd "$work/calls" || exit 1
-    the_files none
+# The bodies of the requests of docs/formats.md.
+the_bodies() {
     "$program" pack s27.bench s27.scan s27.pat none.csv >s27.bundle
     { cat s27.bundle; echo net_a,net_b; } >other.bundle
     printf 'FAILLOG 1\ndie D1\ndesign s27\ntested 0 0\nfail 0 out G17\nend\n' >one.log
-    library_answers >"$work/library-answers"
-    while IFS='|' read -r words line; do
-        # The words have no blanks.
-        # shellcheck disable=SC2086
-        expect_call "$line" $words
-    done <"$work/library-answers"
+    right=a18da399681001adde28d6ab4468d9b58dc884b4d0de8bad094a9173161b11db
+    printf '{"revision": 1, "signer": "ann", "digest": "%s"}' $right >right.json
+    printf '{"revision": 2, "signer": "ann", "digest": "%s"}' $right >later.json
+    printf '{"revision": 1, "signer": "ann", "digest": "%s"}' 44eba18990ccfad95d7b74d7082d2b505e26f0deb9cbb2bf3c79cf1d020483e0 >wrong.json
+    : >empty
 }
 
-# crates_below NAME..: these crates of the repository and all that they stand on.
-crates_below() {
-    awk -F ': *' -v wanted="$*" '
-        { deps[$1] = $2 }
-        END {
-            count = split(wanted, due, " ")
-            while (count > 0) {
-                name = due[count--]
-                if (!(name in deps) || name in seen) continue
-                seen[name]
-                print name
-                more = split(deps[name], below, " ")
-                for (i = 1; i <= more; i++) due[++count] = below[i]
-            }
-        }
-    ' "$top/crates.txt"
-}
-
-# Makes the calls: the small program is proved and run with them as its stored run, by a gate of its own in a copy of the
-# crates that it rests on. What the gate proved is kept.
-make_calls() {
-    copy=$work/repository
-    crate=$copy/crates/book_calls
-    mkdir -p "$crate/src" "$crate/proofs/calls/put_log"
-    cp "$top/HANDLES" "$copy"
-    stands_on='scan_model text_parts desk_outside fault_universe diag_report diagnosis book hex'
-    # The names have no blanks.
-    # shellcheck disable=SC2086
-    for name in $(crates_below $stands_on); do
-        cp -a "$top/crates/$name" "$copy/crates"
-        rm -rf "$copy/crates/$name/must-fail"
-        grep "^$name:" "$top/crates.txt" >>"$copy/crates.txt"
-    done
-    echo "book_calls: $stands_on" >>"$copy/crates.txt"
-    for source in "$top"/examples/book/*.rt.in; do
-        cp "$source" "$crate/src/$(basename "$source" .in)"
-    done
-    cp "$top/crates/scandesk/src/file_shelf.rt" "$top/crates/scandesk/src/stdout_sink.rt" "$crate/src"
-    cp "$top/examples/book/put_log.antt.in" "$crate/proofs/calls/put_log/Answers.antt"
-    mv "$work/calls" "$crate/data"
-    mv "$work/args" "$work/stdout" "$crate"
-    (cd "$copy" && rt ci) >"$work/calls.log" 2>&1 || {
-        wrong=$((wrong + 1))
-        echo 'the calls of the libraries; written (<) and due (>):'
-        diff "$crate/out/stdout" "$crate/stdout" || tail -n 10 "$work/calls.log"
-    }
+# The requests, with their replies.
+the_requests() {
+    mkdir "$work/bodies"
+    cd "$work/bodies" || exit 1
+    the_files none
+    the_bodies
+    runs=$((runs + 1))
+    "$top/examples/requests.py" "$program" . || wrong=$((wrong + 1))
 }
 
 # What can't be written ends with status 6.
@@ -266,8 +207,7 @@ the_day
 the_day_over_http
 the_rules
 the_answers
-the_library_answers
-make_calls
+the_requests
 the_little_memory
 the_full_device
 echo "$runs examples, $wrong wrong"
