@@ -102,7 +102,7 @@ fn no_words(alloc: Global, parts: &Parts) -> Result<ShownWords, NoMemory>
     ensures { IfOk result (λ words. shows.AreShown parts.now 0 words) }
 {
     let words = parts.patterns().len().div_ceil(WORD_PATTERNS);
-    let room = words * parts.points().len();
+    let room = words.saturating_mul(parts.points().len());
     Ok(ShownWords {
         known: Rows::from_vec(Vec::with_capacity(alloc, room)?),
         ones: Rows::from_vec(Vec::with_capacity(alloc, room)?),
