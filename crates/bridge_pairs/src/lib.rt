@@ -7,4 +7,4 @@ mod reading;
 mod records;
 mod sweep;
 
-pub use reading::read_pairs;
+pub use reading::{read_pairs, read_pairs_named};

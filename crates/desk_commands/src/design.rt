@@ -5,7 +5,7 @@ ghost use Rattle.desk_outside.specs.Faults.{Rose};
 ghost use Rattle.scan_model.specs.Circuits.{IsCircuit};
 ghost use Rattle.scan_model.specs.ScanTest.{AreChains, ArePatterns, ArePairs};
 ghost use Rattle.scan_model.specs.NetlistText.{netlist_reading};
-ghost use Rattle.scan_model.specs.ScanText.{scan_reading};
+ghost use Rattle.scan_model.specs.ScanText.{net_names, scan_reading};
 ghost use Rattle.scan_model.specs.PatternText.{pattern_frame, pattern_reading};
 ghost use Rattle.bridge_pairs.specs.PairText.{pairs_reading};
 ghost use Rattle.diagnosis.specs.Bundle.{texts_reading};
@@ -18,8 +18,9 @@ ghost use Rattle.desk_commands.specs.Stops.{Follows, shown, ends_by_fault};
 use crate::command::DesignFiles;
 use crate::files::{Stop, named, read_text};
 use desk_outside::Shelf;
-use scan_model::{Chain, Circuit, Name, Pairs, Parts, Pattern, Rows};
+use scan_model::{Chain, Circuit, Name, NoMemory, Pairs, Parts, Pattern, Rows};
 use std::alloc::Global;
+use text_parts::Names;
 
 // A file that was read: its text, and what the text stands for.
 #[derive(Drop)]
@@ -66,12 +67,21 @@ fn read_circuit<'a, F: Shelf>(
     Ok(FileText { text, value })
 }
 
+// The names of a circuit's nets.
+fn names_of(alloc: Global, circuit: &Circuit) -> Result<Names<'_>, NoMemory>
+    ensures { IfOk result (λ names. names ≡ net_names circuit.now.nets) }
+{
+    Ok(Names::of_nets(alloc, circuit.nets().as_slice())?)
+}
+
 fn read_chains<'a, F: Shelf>(
     alloc: Global,
     shelf: &mut F,
     files: &DesignFiles<'a>,
     circuit: &Circuit,
+    names: &Names<'_>,
 ) -> Result<FileText<Rows<Chain>>, Stop<'a>>
+    requires { names.now ≡ net_names circuit.now.nets }
     ensures told { (held : List File) → F.files shelf.old ≡ Some held → Follows (shown shown_file result) (scan_file held (named_files files.now) circuit.now) }
     ensures stands { IfOk result (λ file. scan_reading circuit.now.nets file.text ≡ Ok file.value) }
     ensures fits { IfOk result (λ file. AreChains circuit.now file.value) }
@@ -80,7 +90,7 @@ fn read_chains<'a, F: Shelf>(
     ensures later { F.faults shelf.old ≤ F.faults shelf.new }
 {
     let text = read_text(alloc, shelf, files.scan)?;
-    let answer = scan_text::read_scan(alloc, circuit, text.as_slice());
+    let answer = scan_text::read_scan_named(alloc, circuit, names, text.as_slice());
     let value = named(files.scan, answer)?;
     Ok(FileText { text, value })
 }
@@ -110,7 +120,9 @@ fn read_neighbours<'a, F: Shelf>(
     shelf: &mut F,
     files: &DesignFiles<'a>,
     circuit: &Circuit,
+    names: &Names<'_>,
 ) -> Result<FileText<Pairs>, Stop<'a>>
+    requires { names.now ≡ net_names circuit.now.nets }
     ensures told { (held : List File) → F.files shelf.old ≡ Some held → Follows (shown shown_file result) (neighbour_file held (named_files files.now) circuit.now) }
     ensures stands { IfOk result (λ file. pairs_reading circuit.now file.text ≡ Ok file.value) }
     ensures fits { IfOk result (λ file. ArePairs circuit.now file.value) }
@@ -119,7 +131,7 @@ fn read_neighbours<'a, F: Shelf>(
     ensures later { F.faults shelf.old ≤ F.faults shelf.new }
 {
     let text = read_text(alloc, shelf, files.neighbours)?;
-    let answer = bridge_pairs::read_pairs(alloc, circuit, text.as_slice());
+    let answer = bridge_pairs::read_pairs_named(alloc, circuit, names, text.as_slice());
     let value = named(files.neighbours, answer)?;
     Ok(FileText { text, value })
 }
@@ -137,9 +149,11 @@ pub fn read_design<'a, F: Shelf>(
     ensures later { F.faults shelf.old ≤ F.faults shelf.new }
 {
     let circuit = read_circuit(alloc, shelf, files)?;
-    let chains = read_chains(alloc, shelf, files, &circuit.value)?;
+    let names = names_of(alloc, &circuit.value)?;
+    let chains = read_chains(alloc, shelf, files, &circuit.value, &names)?;
     let patterns = read_patterns(alloc, shelf, files, &circuit.value, &chains.value)?;
-    let pairs = read_neighbours(alloc, shelf, files, &circuit.value)?;
+    let pairs = read_neighbours(alloc, shelf, files, &circuit.value, &names)?;
+    drop(names);
     let parts = Parts::make(
         alloc,
         circuit.value,

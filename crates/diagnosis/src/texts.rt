@@ -3,7 +3,7 @@ ghost use Rattle.std.specs.Prelude.{◌≡◌, Ok, IfOk, IfErr};
 ghost use Rattle.scan_model.specs.Circuits.{IsCircuit};
 ghost use Rattle.scan_model.specs.ScanTest.{AreChains, ArePatterns, ArePairs};
 ghost use Rattle.scan_model.specs.NetlistText.{netlist_reading};
-ghost use Rattle.scan_model.specs.ScanText.{scan_reading};
+ghost use Rattle.scan_model.specs.ScanText.{net_names, scan_reading};
 ghost use Rattle.scan_model.specs.PatternText.{pattern_frame, pattern_reading};
 ghost use Rattle.bridge_pairs.specs.PairText.{pairs_reading};
 ghost use Rattle.diagnosis.specs.declared.section.Section.TheVariants as section;
@@ -14,9 +14,9 @@ ghost use Rattle.diag_report.specs.PredictedLog.{HasWordNames};
 
 use crate::bundle::Sections;
 use crate::section::{BundleFault, Section};
-use scan_model::{Chain, Circuit, Pairs, Parts, Pattern, Rows};
+use scan_model::{Chain, Circuit, NoMemory, Pairs, Parts, Pattern, Rows};
 use std::alloc::Global;
-use text_parts::ReadFault;
+use text_parts::{Names, ReadFault};
 
 // What the reader of a section answered.
 fn in_section<X: Drop>(section: Section, answer: Result<X, ReadFault>) -> Result<X, BundleFault>
@@ -36,11 +36,27 @@ fn read_circuit(alloc: Global, text: &[u8]) -> Result<Circuit, BundleFault>
     in_section(Section::Netlist, bench_reader::read_netlist(alloc, text))
 }
 
-fn read_chains(alloc: Global, circuit: &Circuit, text: &[u8]) -> Result<Rows<Chain>, BundleFault>
+// The names of a circuit's nets.
+fn names_of(alloc: Global, circuit: &Circuit) -> Result<Names<'_>, NoMemory>
+    ensures { IfOk result (λ names. names ≡ net_names circuit.now.nets) }
+{
+    Ok(Names::of_nets(alloc, circuit.nets().as_slice())?)
+}
+
+fn read_chains(
+    alloc: Global,
+    circuit: &Circuit,
+    names: &Names<'_>,
+    text: &[u8],
+) -> Result<Rows<Chain>, BundleFault>
+    requires { names.now ≡ net_names circuit.now.nets }
     ensures reading { ReadAs (in_section section.Scan (scan_reading circuit.now.nets text.now)) result }
     ensures fits { IfOk result (AreChains circuit.now) }
 {
-    in_section(Section::Scan, scan_text::read_scan(alloc, circuit, text))
+    in_section(
+        Section::Scan,
+        scan_text::read_scan_named(alloc, circuit, names, text),
+    )
 }
 
 fn read_patterns(
@@ -58,13 +74,19 @@ fn read_patterns(
     )
 }
 
-fn read_pairs(alloc: Global, circuit: &Circuit, text: &[u8]) -> Result<Pairs, BundleFault>
+fn read_pairs(
+    alloc: Global,
+    circuit: &Circuit,
+    names: &Names<'_>,
+    text: &[u8],
+) -> Result<Pairs, BundleFault>
+    requires { names.now ≡ net_names circuit.now.nets }
     ensures reading { ReadAs (in_section section.Neighbours (pairs_reading circuit.now text.now)) result }
     ensures fits { IfOk result (ArePairs circuit.now) }
 {
     in_section(
         Section::Neighbours,
-        bridge_pairs::read_pairs(alloc, circuit, text),
+        bridge_pairs::read_pairs_named(alloc, circuit, names, text),
     )
 }
 
@@ -74,9 +96,11 @@ pub fn read_texts(alloc: Global, texts: &Sections<'_>) -> Result<Parts, BundleFa
     ensures fault { IfErr result (RefusedBy (texts_reading (four_texts texts.now))) }
 {
     let circuit = read_circuit(alloc, texts.netlist)?;
-    let chains = read_chains(alloc, &circuit, texts.scan)?;
+    let names = names_of(alloc, &circuit)?;
+    let chains = read_chains(alloc, &circuit, &names, texts.scan)?;
     let patterns = read_patterns(alloc, &circuit, &chains, texts.patterns)?;
-    let pairs = read_pairs(alloc, &circuit, texts.neighbours)?;
+    let pairs = read_pairs(alloc, &circuit, &names, texts.neighbours)?;
+    drop(names);
     Ok(Parts::make(alloc, circuit, chains, patterns, pairs)?)
 }
 

@@ -8,4 +8,4 @@ mod patterns;
 mod scan;
 
 pub use patterns::read_patterns;
-pub use scan::read_scan;
+pub use scan::{read_scan, read_scan_named};

@@ -12,21 +12,44 @@ use std::alloc::Global;
 use text_parts::{Names, ReadFault, TextFault, lines_of};
 
 // The chains of a text over these nets.
-fn read_chains(alloc: Global, nets: &[Net], bytes: &[u8]) -> Result<Vec<Chain>, ReadFault>
-    requires { length nets.now ≤ 65536 }
+fn read_chains(
+    alloc: Global,
+    nets: &[Net],
+    names: &Names<'_>,
+    bytes: &[u8],
+) -> Result<Vec<Chain>, ReadFault>
+    requires limit { length nets.now ≤ 65536 }
+    requires names { names.now ≡ net_names nets.now }
     ensures reading { Gives (λ v. v.items) result (scan_reading nets.now bytes.now) }
     ensures fits { (c : Netlist) → c.nets ≡ nets.now → IfOk result (λ v. AreChains c v.items) }
 {
-    let names = Names::of_nets(alloc, nets)?;
     let lines = lines_of(alloc, bytes)?;
     let mut chains = Chains::new(alloc);
     for (i, line) in lines.iter().enumerate() {
-        if let Some(rule) = chains.take_line(alloc, nets, &names, line)? {
+        if let Some(rule) = chains.take_line(alloc, nets, names, line)? {
             let line = i as u64 + 1;
             return Err(ReadFault::Text(TextFault { line, rule }));
         }
     }
     Ok(chains.chains)
+}
+
+/// The same as `read_scan`, by the names of the circuit's nets.
+pub fn read_scan_named(
+    alloc: Global,
+    circuit: &Circuit,
+    names: &Names<'_>,
+    bytes: &[u8],
+) -> Result<Rows<Chain>, ReadFault>
+    requires { names.now ≡ net_names circuit.now.nets }
+    ensures reading { Gives (λ chains. chains) result (scan_reading circuit.now.nets bytes.now) }
+    ensures first { IfFault result (IsFirstFault (scan_breaks circuit.now.nets (text_lines bytes.now)) (length (text_lines bytes.now))) }
+    ensures none { IfOk result (λ chains. HasNoFault (scan_breaks circuit.now.nets (text_lines bytes.now)) (length (text_lines bytes.now))) }
+    ensures fits { IfOk result (AreChains circuit.now) }
+{
+    let nets = circuit.nets().as_slice();
+    let chains = read_chains(alloc, nets, names, bytes)?;
+    Ok(Rows::from_vec(chains))
 }
 
 /// The chains that a scan text stands for, or its first fault by rules 11 to 15.
@@ -36,7 +59,6 @@ pub fn read_scan(alloc: Global, circuit: &Circuit, bytes: &[u8]) -> Result<Rows<
     ensures none { IfOk result (λ chains. HasNoFault (scan_breaks circuit.now.nets (text_lines bytes.now)) (length (text_lines bytes.now))) }
     ensures fits { IfOk result (AreChains circuit.now) }
 {
-    let nets = circuit.nets().as_slice();
-    let chains = read_chains(alloc, nets, bytes)?;
-    Ok(Rows::from_vec(chains))
+    let names = Names::of_nets(alloc, circuit.nets().as_slice())?;
+    read_scan_named(alloc, circuit, &names, bytes)
 }

@@ -1,13 +1,12 @@
 use Rattle.std.proofs.Common.{◌≡◌, ◌-◌, length}
 use Rattle.scan_model.specs.TextFaults.{fault_from}
-use Rattle.scan_model.specs.ScanText.{net_names}
 use Rattle.bridge_pairs.specs.PairText.{records_in, pair_rule, pairs_fault, pairs_before}
 use Rattle.bridge_pairs.specs.NamedNets.{AreNamed}
 use Rattle.bridge_pairs.proofs.reading.named_pairs.Given as goal
 
 abbrev pub invariant-loop-i : goal.invariant-loop-i
 invariant-loop-i l =
-    let names = net_names l.nets in
+    let names = l.names in
     let rows = records_in l.bytes in
     record {
       no_fault_yet : fault_from (pair_rule names rows) l.i (length rows - l.i) ≡ pairs_fault names rows;
