@@ -1,6 +1,7 @@
 //! A die under diagnosis, without the bundle of its design.
 ghost use Rattle.std.specs.Prelude.{◌≡◌, ◌<◌, ℕ, List, [], length, true, Ok, IfOk, IfErr, OnErr};
 ghost use Rattle.scan_model.specs.Words.{is_tag};
+ghost use Rattle.scan_model.specs.Response.{expected_rows};
 ghost use Rattle.scan_model.specs.Universe.{universe};
 ghost use Rattle.scan_model.specs.LogText.{log_frame, log_reading};
 ghost use Rattle.scan_model.specs.DieReport.{die_report};
@@ -8,6 +9,7 @@ ghost use Rattle.scan_model.specs.MatchCounts.{candidates};
 ghost use Rattle.scan_model.specs.Ranking.{ranked};
 ghost use Rattle.scan_model.specs.ReportText as text_of;
 ghost use Rattle.diag_report.specs.PredictedLog.{HasWordNames, fault_of, predicted_facts, predicted_log};
+ghost use Rattle.packed_sim.specs.Belongs.{BelongsTo};
 ghost use Rattle.text_parts.specs.Gives.{Fails, Gives};
 ghost use Rattle.diagnosis.specs.Designs.{HaveSameTexts, facts_of, texts_of};
 ghost use Rattle.diagnosis.specs.Cases.{IsLogOver, AddedAmong, IsTextAdded, with_logs, case_lines, case_report};
@@ -51,6 +53,38 @@ impl Model for Case {
     ghost invariant = { λ c. IsWholeCase (record { design = c.design; die = c.die; test = c.parts; logs = map (λ log. arc_value log) c.logs }) c.good c.expected };
 }
 
+// The names of a design and a die.
+#[derive(Drop)]
+struct CaseNames {
+    design: Name,
+    die: Name,
+}
+
+fn case_names(alloc: Global, design: &[u8], die: &[u8]) -> Result<CaseNames, NoMemory>
+    ensures design { IfOk result (λ names. names.design ≡ design.now) }
+    ensures die { IfOk result (λ names. names.die ≡ die.now) }
+{
+    let design = Name::copy_of(alloc, design)?;
+    let die = Name::copy_of(alloc, die)?;
+    Ok(CaseNames { design, die })
+}
+
+// The fault-free rows and responses of a test.
+#[derive(Drop)]
+struct Simulation {
+    good: PackedGood,
+    expected: Expected,
+}
+
+fn simulated(alloc: Global, parts: &Parts) -> Result<Simulation, NoMemory>
+    ensures good { IfOk result (λ made. BelongsTo parts.now made.good) }
+    ensures expected { IfOk result (λ made. made.expected ≡ expected_rows parts.now) }
+{
+    let good = PackedGood::make(alloc, parts)?;
+    let expected = responses_over(alloc, parts, good.rows())?;
+    Ok(Simulation { good, expected })
+}
+
 impl Case {
     /// A die of a design of these parts, without logs.
     pub fn make(alloc: Global, design: &[u8], die: &[u8], parts: Parts) -> Result<Case, NoMemory>
@@ -58,17 +92,15 @@ impl Case {
         requires die { is_tag die.now ≡ true }
         ensures { IfOk result (λ case. case ≡ record { design = design.now; die = die.now; test = parts; logs = [] }) }
     {
-        let good = PackedGood::make(alloc, &parts)?;
-        let expected = responses_over(alloc, &parts, good.rows())?;
-        let design = Name::copy_of(alloc, design)?;
-        let die = Name::copy_of(alloc, die)?;
+        let names = case_names(alloc, design, die)?;
+        let made = simulated(alloc, &parts)?;
         let logs = Rows::new(alloc);
         Ok(Case {
-            design,
-            die,
+            design: names.design,
+            die: names.die,
             parts,
-            good,
-            expected,
+            good: made.good,
+            expected: made.expected,
             logs,
         })
     }

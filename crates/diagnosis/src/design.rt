@@ -6,6 +6,7 @@ ghost use Rattle.scan_model.specs.Response.{expected_rows};
 ghost use Rattle.diagnosis.specs.declared.section.BundleFault.{BundleFault};
 ghost use Rattle.diagnosis.specs.Bundle.{bundle_text, bundle_reading, texts_reading};
 ghost use Rattle.diagnosis.specs.Designs.{IsDesign};
+ghost use Rattle.diagnosis.specs.Sections.{four_texts};
 ghost use Rattle.diagnosis.specs.Reading.{four, RefusedBy};
 ghost use Rattle.diag_report.specs.PredictedLog.{HasWordNames};
 
@@ -39,25 +40,38 @@ impl Model for Design {
     ghost invariant = { λ d. IsWholeDesign (record { name = d.name; text = d.text; test = d.parts }) d.digest d.expected };
 }
 
+/// What a bundle stands for, with its fault-free responses.
+#[derive(Drop)]
+struct Simulated {
+    parts: Parts,
+    expected: Expected,
+}
+
+/// The parts with their fault-free responses.
+fn with_responses(alloc: Global, parts: Parts) -> Result<Simulated, NoMemory>
+    ensures parts { IfOk result (λ made. made.parts ≡ parts) }
+    ensures expected { IfOk result (λ made. made.expected ≡ expected_rows parts) }
+{
+    let expected = fault_free_responses(alloc, &parts)?;
+    Ok(Simulated { parts, expected })
+}
+
 impl Design {
     // The design of a bundle that stands for the parts.
-    fn whole(alloc: Global, name: &[u8], text: Name, parts: Parts) -> Result<Self, NoMemory>
-        requires name { is_tag name.now ≡ true }
-        requires stands { bundle_reading text ≡ Ok parts }
-        ensures name { IfOk result (λ design. design.name ≡ name.now) }
-        ensures text { IfOk result (λ design. design.text ≡ text) }
-        ensures test { IfOk result (λ design. design.test ≡ parts) }
+    fn whole(name: Name, text: Name, made: Simulated) -> Self
+        requires name { is_tag name ≡ true }
+        requires stands { bundle_reading text ≡ Ok made.parts }
+        requires expected { made.expected ≡ expected_rows made.parts }
+        ensures { result ≡ record { name = name; text = text; test = made.parts } }
     {
-        let name = Name::copy_of(alloc, name)?;
-        let expected = fault_free_responses(alloc, &parts)?;
         let digest = Digest::from_bytes(<Sha256 as sha2::Digest>::digest(text.as_slice()));
-        Ok(Design {
+        Design {
             name,
             text,
             digest,
-            parts,
-            expected,
-        })
+            parts: made.parts,
+            expected: made.expected,
+        }
     }
 
     /// The name, a tag.
@@ -98,6 +112,22 @@ impl Design {
     {
         &self.expected
     }
+}
+
+// A name, and the bundle of four texts.
+#[derive(Drop)]
+struct NamedBundle {
+    name: Name,
+    text: Name,
+}
+
+fn named_bundle(alloc: Global, name: &[u8], texts: &Sections<'_>) -> Result<NamedBundle, NoMemory>
+    ensures name { IfOk result (λ named. named.name ≡ name.now) }
+    ensures text { IfOk result (λ named. named.text ≡ bundle_text (four_texts texts.now)) }
+{
+    let text = bundle_text(alloc, texts)?;
+    let name = Name::copy_of(alloc, name)?;
+    Ok(NamedBundle { name, text })
 }
 
 /// The design of four texts. Its text is their bundle.
@@ -148,8 +178,9 @@ pub fn design_with(
         patterns,
         neighbours,
     };
-    let text = bundle_text(alloc, &texts)?;
-    Design::whole(alloc, name, text, parts)
+    let named = named_bundle(alloc, name, &texts)?;
+    let made = with_responses(alloc, parts)?;
+    Ok(Design::whole(named.name, named.text, made))
 }
 
 /// The design of a bundle. Rule 81 comes before the rules of its sections.
@@ -169,7 +200,8 @@ pub fn read_bundle(alloc: Global, name: &[u8], bytes: &[u8]) -> Result<Design, B
             });
         }
     };
+    let (name, text) = (Name::copy_of(alloc, name)?, Name::copy_of(alloc, bytes)?);
     let parts = read_texts(alloc, &texts)?;
-    let text = Name::copy_of(alloc, bytes)?;
-    Ok(Design::whole(alloc, name, text, parts)?)
+    let made = with_responses(alloc, parts)?;
+    Ok(Design::whole(name, text, made))
 }

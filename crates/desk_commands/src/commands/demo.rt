@@ -3,12 +3,16 @@ mod diagnosed;
 mod injected;
 mod lines;
 
-ghost use Rattle.std.specs.Prelude.{◌≡◌, ◌≤◌, ◌++◌, Some, Ok, IfOk, IfErr, OnOk, IfSome};
+ghost use Rattle.std.specs.Prelude.{◌≡◌, ◌≤◌, ◌<◌, ◌++◌, ◌∷◌, [], Some, Ok, IfOk, IfErr, OnOk, IfSome, length, codes, decimal};
+ghost use Rattle.hex.specs.Hex.{encode_lower};
+ghost use Rattle.sha2.specs.Sha256.{sha256};
+ghost use Rattle.scan_model.specs.Universe.{universe};
 ghost use Rattle.scan_model.specs.ReportText as text_of;
-ghost use Rattle.diag_report.specs.PredictedLog.{HasWordNames};
+ghost use Rattle.diag_report.specs.PredictedLog.{HasWordNames, fault_of};
+ghost use Rattle.diag_report.specs.Summary.{count_line};
 ghost use Rattle.diagnosis.specs.Bundle.{texts_reading};
 ghost use Rattle.diagnosis.specs.Reading.{RefusedBy};
-ghost use Rattle.desk_commands.specs.Demo.{demo_output, injected_lines, section_word};
+ghost use Rattle.desk_commands.specs.Demo.{demo_output, injected_lines, rank_lines, section_word};
 ghost use Rattle.desk_commands.specs.Injected.{IsFound, IsAfterTexts, IsText, IsRefusal, place_of, texts_of};
 
 use crate::command::Demo;
@@ -18,7 +22,7 @@ use crate::commands::demo::lines::{add_count, add_digest, add_head, add_injected
 use crate::generator::draws::Draws;
 use crate::generator::{Made, made_design};
 use crate::page::{Page, line_page, rule_line};
-use diagnosis::{BundleFault, Section, parts_of};
+use diagnosis::{BundleFault, Diagnosis, Section, parts_of};
 use scan_model::{Name, NoMemory, Parts, Rows};
 use std::alloc::Global;
 use std::thread::Threads;
@@ -49,6 +53,43 @@ fn refused_page(alloc: Global, fault: BundleFault) -> Result<Page, NoMemory>
     }
 }
 
+// Adds the lines of the fault that is put in.
+fn add_fault(
+    alloc: Global,
+    text: &mut Name,
+    parts: &Parts,
+    injected: &Injected,
+) -> Result<(), NoMemory>
+    requires { injected.now.place < length (universe parts.now) }
+    ensures { OnOk result (text.new ≡ (text.old ++ text_of.line (codes "injected" ∷ decimal injected.now.place ∷ text_of.fault_words parts.now (fault_of parts.now injected.now.place)))
+        ++ count_line (codes "fails") (length injected.now.log.facts.fails)) }
+{
+    add_injected(alloc, text, parts, injected.place)?;
+    add_count(
+        alloc,
+        text,
+        "fails",
+        injected.log.facts().fails.len() as u64,
+    )
+}
+
+// Adds the lines of a diagnosis: where the fault at the place stands among the candidates, and the digest of the report.
+fn add_ranking(
+    alloc: Global,
+    text: &mut Name,
+    diagnosis: &Diagnosis,
+    place: u32,
+) -> Result<(), NoMemory>
+    ensures { OnOk result (text.new ≡ ((text.old ++ count_line (codes "candidates") (length diagnosis.now.candidates))
+        ++ text_of.joined (rank_lines diagnosis.now.candidates place))
+        ++ text_of.line (codes "digest" ∷ encode_lower (sha256 (text_of.joined diagnosis.now.report)) ∷ [])) }
+{
+    let candidates = &diagnosis.candidates;
+    add_count(alloc, text, "candidates", candidates.len() as u64)?;
+    add_rank(alloc, text, candidates.as_slice(), place)?;
+    add_digest(text, diagnosis.report.bytes())
+}
+
 // Adds the lines of the fault that is put in and of its diagnosis.
 fn add_diagnosis<R: Threads + Sync>(
     rt: &R,
@@ -61,17 +102,9 @@ fn add_diagnosis<R: Threads + Sync>(
     ensures { OnOk result (text.new ≡ text.old ++ text_of.joined (injected_lines parts (Some injected.place))) }
 {
     let place = injected.place;
-    add_injected(alloc, text, &parts, place)?;
-    add_count(
-        alloc,
-        text,
-        "fails",
-        injected.log.facts().fails.len() as u64,
-    )?;
+    add_fault(alloc, text, &parts, &injected)?;
     let diagnosis = diagnosis_of(rt, alloc, parts, injected)?;
-    add_count(alloc, text, "candidates", diagnosis.candidates.len() as u64)?;
-    add_rank(alloc, text, diagnosis.candidates.as_slice(), place)?;
-    add_digest(text, diagnosis.report.bytes())
+    add_ranking(alloc, text, &diagnosis, place)
 }
 
 // Adds the lines of what was found.

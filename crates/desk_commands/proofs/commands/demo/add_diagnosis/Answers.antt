@@ -1,10 +1,11 @@
-use Rattle.std.proofs.Common.{◌≡◌, length, sym, ap, ◌∙◌}
+use Rattle.std.proofs.Common.{◌≡◌, ℕ, List, ◌++◌, length, codes, decimal, ◌∷◌, refl, ap, ◌∙◌}
 use Rattle.std.proofs.lemmas.Result.{on_ok_weaker}
-use Rattle.scan_model.specs.declared.logs.LogFacts.{LogFacts}
 use Rattle.scan_model.specs.declared.logs.Scored.{Scored}
+use Rattle.scan_model.specs.ReportText.{joined, line, fault_words}
 use Rattle.diag_report.specs.PredictedLog.{fault_of, predicted_bits}
+use Rattle.diag_report.specs.Summary.{count_line}
 use Rattle.diagnosis.specs.Designs.{ReadLogFacts}
-use Rattle.desk_commands.specs.Demo.{own_candidates, own_report}
+use Rattle.desk_commands.specs.Demo.{rank_lines}
 use Rattle.desk_commands.proofs.DemoLines.{diagnosis_added}
 use Rattle.desk_commands.proofs.commands.demo.add_diagnosis.Goals as goal
 
@@ -13,16 +14,17 @@ returns g c =
     let t = c.args.parts in
     let place = c.args.injected.place in
     let f = fault_of t place in
-    let rows = c.as_slice.result.now in
-    let fails : c.len.result ≡ length (predicted_bits t f) =
-    c.len.ensures ∙ ap (λ (facts : LogFacts). length facts.fails) c.facts.ensures ∙ ap (λ (log : ReadLogFacts). length log.facts.fails) c.requires.found.own.is in
-    let report : c.bytes.result.now ≡ own_report t f = c.bytes.ensures ∙ c.in_ok-diagnosis.ensures.report in
-    let are_rows : rows ≡ own_candidates t f = c.as_slice.ensures ∙ c.in_ok-diagnosis.ensures.candidates in
-    let count : c.len-2.result ≡ length rows = c.len-2.ensures ∙ ap (length {A = Scored}) (sym c.as_slice.ensures) in
-    on_ok_weaker c.add_digest.result
+    let log = c.args.injected.log in
+    let made = c.in_ok-diagnosis.diagnosis in
+    let fails : length log.facts.fails ≡ length (predicted_bits t f) = ap (λ (log : ReadLogFacts). length log.facts.fails) c.requires.found.own.is in
+    let t1 = c.args.text.now ++ line (codes "injected" ∷ decimal place ∷ fault_words t f) in
+    let t2 = c.add_fault.new.text in
+    let t3 = t2 ++ count_line (codes "candidates") (length {A = Scored} made.candidates) in
+    let t4 = t3 ++ joined (rank_lines made.candidates place) in
+    on_ok_weaker c.add_ranking.result
     (
-    diagnosis_added t place c.len.result c.len-2.result rows c.bytes.result.now
-    c.args.text.now c.add_injected.new.text c.add_count.new.text c.add_count-2.new.text c.add_rank.new.text c.add_digest.new.text
-    fails are_rows report count c.in_ok-add_injected.ensures c.in_ok-add_count.ensures c.in_ok-add_count-2.ensures c.in_ok-add_rank.ensures
+    diagnosis_added t place (length log.facts.fails) (length made.candidates) made.candidates (joined made.report)
+    c.args.text.now t1 t2 t3 t4 c.add_ranking.new.text
+    fails c.in_ok-diagnosis.ensures.candidates c.in_ok-diagnosis.ensures.report refl refl c.in_ok-add_fault.ensures refl refl
     )
-    c.add_digest.ensures
+    c.add_ranking.ensures
