@@ -2,7 +2,7 @@
 
 ghost use Rattle.std.specs.Prelude.{◌<◌};
 
-use super::designs::repeated;
+use super::designs::push_times;
 use scan_model::NoMemory;
 use std::alloc::Global;
 
@@ -46,11 +46,11 @@ pub(crate) fn long_chain(alloc: Global) -> Result<String, NoMemory> {
 pub(crate) fn long_patterns(alloc: Global) -> Result<String, NoMemory> {
     let mut text = String::new(alloc);
     text.push_str("CAPTURE 1 ")?;
-    text.push_str(&repeated(alloc, "0110100", 10)?)?;
+    push_times(&mut text, "0110100", 10)?;
     text.push_str("\nCAPTURE 0 ")?;
-    text.push_str(&repeated(alloc, "11X0001", 10)?)?;
+    push_times(&mut text, "11X0001", 10)?;
     text.push_str("\nSHIFT ")?;
-    text.push_str(&repeated(alloc, "1001110", 10)?)?;
+    push_times(&mut text, "1001110", 10)?;
     text.push_str("\n")?;
     Ok(text)
 }

@@ -5,18 +5,40 @@ ghost use Rattle.scan_model.specs.Response.{expected_rows};
 ghost use Rattle.log_join.specs.Joining.{IsJoinedOf};
 
 use super::chains::{long_chain, long_netlist, long_patterns};
-use super::designs::{c17, design, joined, odd, repeated, s27};
+use super::designs::{c17, design, odd, push_times, s27};
 use super::logs::joined_of;
-use diagnosis::BundleFault;
+use diagnosis::{BundleFault, Design};
 use good_sim::expected_all;
 use log_join::Joined;
 use match_counts::{counts, plain_counts};
 use packed_sim::PackedGood;
-use scan_model::{Expected, NoMemory, Parts};
+use scan_model::{Expected, NoMemory, Parts, Rows, Scored};
 use std::alloc::Global;
 use std::thread::Threads;
 
-/// Whether both counts list the same rows, and some. The plain one goes by plain simulation of the fault-free design too.
+fn packed<R: Threads + Sync>(
+    rt: &R,
+    alloc: Global,
+    parts: &Parts,
+    expected: &Expected,
+    joined: &Joined,
+) -> Result<Rows<Scored>, NoMemory>
+    requires expected { expected.now ≡ expected_rows parts.now }
+    requires joined { IsJoinedOf (length parts.now.patterns) (length (points_of parts.now)) joined.now }
+{
+    let good = PackedGood::make(alloc, parts)?;
+    counts(rt, alloc, parts, &good, expected, joined)
+}
+
+/// By plain simulation of the fault-free design too.
+fn plain(alloc: Global, parts: &Parts, joined: &Joined) -> Result<Rows<Scored>, NoMemory>
+    requires joined { IsJoinedOf (length parts.now.patterns) (length (points_of parts.now)) joined.now }
+{
+    let simulated = expected_all(alloc, parts)?;
+    plain_counts(alloc, parts, &simulated, joined)
+}
+
+/// Whether both counts list the same rows, and some.
 fn are_equal<R: Threads + Sync>(
     rt: &R,
     alloc: Global,
@@ -27,11 +49,19 @@ fn are_equal<R: Threads + Sync>(
     requires expected { expected.now ≡ expected_rows parts.now }
     requires joined { IsJoinedOf (length parts.now.patterns) (length (points_of parts.now)) joined.now }
 {
-    let good = PackedGood::make(alloc, parts)?;
-    let rows = counts(rt, alloc, parts, &good, expected, joined)?;
-    let simulated = expected_all(alloc, parts)?;
-    let plain = plain_counts(alloc, parts, &simulated, joined)?;
+    let rows = packed(rt, alloc, parts, expected, joined)?;
+    let plain = plain(alloc, parts, joined)?;
     Ok(rows.as_slice() == plain.as_slice() && rows.len() > 0)
+}
+
+fn are_equal_over<R: Threads + Sync>(
+    rt: &R,
+    alloc: Global,
+    design: &Design,
+    log: &[u8],
+) -> Result<bool, BundleFault> {
+    let joined = joined_of(alloc, design, log)?;
+    Ok(are_equal(rt, alloc, design.parts(), design.expected(), &joined)?)
 }
 
 /// The texts of a design, and a log of it.
@@ -44,14 +74,9 @@ struct Row<'a> {
     log: &'a [u8],
 }
 
-fn are_equal_over<R: Threads + Sync>(
-    rt: &R,
-    alloc: Global,
-    row: &Row<'_>,
-) -> Result<bool, BundleFault> {
+fn is_equal<R: Threads + Sync>(rt: &R, alloc: Global, row: &Row<'_>) -> Result<bool, BundleFault> {
     let design = design(alloc, row.netlist, row.scan, row.patterns, row.pairs)?;
-    let joined = joined_of(alloc, &design, row.log)?;
-    Ok(are_equal(rt, alloc, design.parts(), design.expected(), &joined)?)
+    are_equal_over(rt, alloc, &design, row.log)
 }
 
 #[test]
@@ -63,7 +88,7 @@ fn bridges_of_c17(rt: HostRuntime) {
         pairs: "net_a,net_b\n10,19\n3,10\n19,10\n16,19\n",
         log: b"FAILLOG 1\ndie D1\ndesign d\ntested 0 2\nfail 0 out 22\nfail 1 out 23\nend\n",
     };
-    assert!(rt; matches!(are_equal_over(&rt, rt.alloc(), &row), Ok(true)));
+    assert!(rt; matches!(is_equal(&rt, rt.alloc(), &row), Ok(true)));
 }
 
 #[test]
@@ -75,7 +100,7 @@ fn s27_that_captures_and_shifts(rt: HostRuntime) {
         pairs: "net_a,net_b\nG14,G12\n",
         log: b"FAILLOG 1\ndie D1\ndesign d\ntested 0 2\nfail 0 out G17\nfail 1 cell c0 0\nfail 2 cell c0 1\nend\n",
     };
-    assert!(rt; matches!(are_equal_over(&rt, rt.alloc(), &row), Ok(true)));
+    assert!(rt; matches!(is_equal(&rt, rt.alloc(), &row), Ok(true)));
 }
 
 #[test]
@@ -87,16 +112,20 @@ fn a_flop_in_no_chain_and_a_gate_that_reads_a_net_twice(rt: HostRuntime) {
         pairs: "",
         log: b"FAILLOG 1\ndie D1\ndesign d\ntested 0 3\nfail 1 cell c 1\nfail 2 cell c 0\nfail 3 cell c 1\nend\n",
     };
-    assert!(rt; matches!(are_equal_over(&rt, rt.alloc(), &row), Ok(true)));
+    assert!(rt; matches!(is_equal(&rt, rt.alloc(), &row), Ok(true)));
 }
 
-/// 600 patterns of c17 that fail in the second block of 512 alone.
+/// 600 patterns of c17.
+fn two_blocks(alloc: Global) -> Result<String, NoMemory> {
+    let mut text = String::new(alloc);
+    push_times(&mut text, "CAPTURE 11111\nCAPTURE 10110\n", 256)?;
+    push_times(&mut text, "CAPTURE 00000\nCAPTURE 01101\n", 44)?;
+    Ok(text)
+}
+
+/// Fails in the second block of 512 alone.
 fn second_block_is_equal<R: Threads + Sync>(rt: &R, alloc: Global) -> Result<bool, BundleFault> {
-    let patterns = joined(
-        alloc,
-        &repeated(alloc, "CAPTURE 11111\nCAPTURE 10110\n", 256)?,
-        &repeated(alloc, "CAPTURE 00000\nCAPTURE 01101\n", 44)?,
-    )?;
+    let patterns = two_blocks(alloc)?;
     let row = Row {
         netlist: c17(),
         scan: "",
@@ -104,7 +133,7 @@ fn second_block_is_equal<R: Threads + Sync>(rt: &R, alloc: Global) -> Result<boo
         pairs: "net_a,net_b\n10,19\n",
         log: b"FAILLOG 1\ndie D1\ndesign d\ntested 0 599\nfail 512 out 22\nfail 575 out 23\nfail 576 out 22\nfail 599 out 22\nend\n",
     };
-    are_equal_over(rt, alloc, &row)
+    is_equal(rt, alloc, &row)
 }
 
 #[test]
@@ -112,27 +141,29 @@ fn fails_in_the_second_block_alone(rt: HostRuntime) {
     assert!(rt; matches!(second_block_is_equal(&rt, rt.alloc()), Ok(true)));
 }
 
-fn long_chain_is_equal<R: Threads + Sync>(
-    rt: &R,
-    alloc: Global,
-    log: &[u8],
-) -> Result<bool, BundleFault> {
-    let netlist = long_netlist(alloc)?;
-    let scan = long_chain(alloc)?;
+fn long_design_of(alloc: Global, netlist: &str, scan: &str) -> Result<Design, BundleFault> {
     let patterns = long_patterns(alloc)?;
-    let row = Row {
-        netlist: &netlist,
-        scan: &scan,
-        patterns: &patterns,
-        pairs: "",
-        log,
-    };
-    are_equal_over(rt, alloc, &row)
+    design(alloc, netlist, scan, &patterns, "")
+}
+
+fn long_design_over(alloc: Global, netlist: &str) -> Result<Design, BundleFault> {
+    let scan = long_chain(alloc)?;
+    long_design_of(alloc, netlist, &scan)
+}
+
+fn long_design(alloc: Global) -> Result<Design, BundleFault> {
+    let netlist = long_netlist(alloc)?;
+    long_design_over(alloc, &netlist)
+}
+
+fn long_chain_is_equal<R: Threads + Sync>(rt: &R, alloc: Global) -> Result<bool, BundleFault> {
+    let design = long_design(alloc)?;
+    let log =
+        b"FAILLOG 1\ndie D1\ndesign d\ntested 0 2\nfail 0 cell c 65\nfail 0 cell c 3\nfail 1 cell c 40\nfail 2 cell c 64\nend\n";
+    are_equal_over(rt, alloc, &design, log)
 }
 
 #[test]
 fn a_chain_of_70_cells(rt: HostRuntime) {
-    let log =
-        b"FAILLOG 1\ndie D1\ndesign d\ntested 0 2\nfail 0 cell c 65\nfail 0 cell c 3\nfail 1 cell c 40\nfail 2 cell c 64\nend\n";
-    assert!(rt; matches!(long_chain_is_equal(&rt, rt.alloc(), log), Ok(true)));
+    assert!(rt; matches!(long_chain_is_equal(&rt, rt.alloc()), Ok(true)));
 }

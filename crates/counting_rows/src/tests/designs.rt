@@ -15,18 +15,16 @@ pub(crate) fn odd() -> &'static str {
     "INPUT(a)\nOUTPUT(y)\nf = DFF(y)\ng = DFF(n)\nh = DFF(f)\nn = XOR(a, a)\nm = AND(f, h)\ny = OR(m, n)\n"
 }
 
-pub(crate) fn repeated(alloc: Global, text: &str, times: u32) -> Result<String, NoMemory> {
-    let mut all = String::new(alloc);
+pub(crate) fn push_times(text: &mut String, part: &str, times: u32) -> Result<(), NoMemory> {
     for _ in 0..times {
-        all.push_str(text)?;
+        text.push_str(part)?;
     }
-    Ok(all)
+    Ok(())
 }
 
-pub(crate) fn joined(alloc: Global, first: &str, second: &str) -> Result<String, NoMemory> {
+pub(crate) fn repeated(alloc: Global, part: &str, times: u32) -> Result<String, NoMemory> {
     let mut all = String::new(alloc);
-    all.push_str(first)?;
-    all.push_str(second)?;
+    push_times(&mut all, part, times)?;
     Ok(all)
 }
 
@@ -46,4 +44,10 @@ pub(crate) fn design(
         patterns.as_bytes(),
         pairs.as_bytes(),
     )
+}
+
+/// The same of c17 with 65 patterns of ones.
+pub(crate) fn ones_of_c17(alloc: Global) -> Result<Design, BundleFault> {
+    let patterns = repeated(alloc, "CAPTURE 11111\n", 65)?;
+    design(alloc, c17(), "", &patterns, "")
 }

@@ -1,14 +1,37 @@
 //! The fails that a fault predicts in the patterns of a word.
-ghost use Rattle.std.specs.Prelude.{◌≡◌, ◌*◌, ◌<◌, true, length};
+ghost use Rattle.std.specs.Prelude.{◌≡◌, ◌+◌, ◌*◌, ◌<◌, ◌≤◌, true, length, Contains, OnOk};
+ghost use Rattle.scan_model.specs.ScanTest.{points_of};
+ghost use Rattle.scan_model.specs.Universe.{universe};
+ghost use Rattle.packed_sim.specs.Belongs.{cone_gates};
 
-use super::designs::{c17, design, repeated};
+use super::designs::ones_of_c17;
 use diagnosis::BundleFault;
 use fault_universe::fault_at;
 use packed_sim::{PackedGood, Scratch};
-use scan_model::{NoMemory, Parts, Steps};
+use scan_model::{Fault, NoMemory, Parts, Steps};
 use std::alloc::Global;
 use std::marker::Brand;
 use std::sync::ledger::{Blank, Ledger};
+
+/// Writes the words of all points under a fault.
+pub(crate) fn write_fails<L: Ledger>(
+    alloc: Global,
+    parts: &Parts,
+    fault: &Fault,
+    word: u32,
+    out: &mut [u64],
+    steps: &mut Steps<L>,
+) -> Result<(), NoMemory>
+    requires fault { Contains (universe parts.now) fault.now }
+    requires word { 64 * word < length parts.now.patterns }
+    requires out { length out.old ≡ length (points_of parts.now) }
+    ensures { OnOk result (steps.new ≤ steps.old + length (cone_gates parts.now fault.now)) }
+{
+    let good = PackedGood::make(alloc, parts)?;
+    let mut scratch = Scratch::make(alloc, &good)?;
+    good.fails_of(parts, &mut scratch, fault, word, out, steps);
+    Ok(())
+}
 
 /// The words of all points under the fault at a place, zeros where there is none.
 fn words_of<L: Ledger>(
@@ -25,10 +48,8 @@ fn words_of<L: Ledger>(
 {
     let mut steps = Steps::<L>::open(blank);
     let mut out = vec![in alloc; 0u64; parts.points().len()]?;
-    let good = PackedGood::make(alloc, parts)?;
-    let mut scratch = Scratch::make(alloc, &good)?;
     if let Some(fault) = fault_at(parts, place) {
-        good.fails_of(parts, &mut scratch, &fault, word, &mut out, &mut steps);
+        write_fails(alloc, parts, &fault, word, &mut out, &mut steps)?;
     }
     Ok(out)
 }
@@ -54,8 +75,7 @@ pub(crate) fn fails(
 }
 
 fn of_ones(alloc: Global, place: u32, word: u32) -> Result<Vec<u64>, BundleFault> {
-    let patterns = repeated(alloc, "CAPTURE 11111\n", 65)?;
-    let design = design(alloc, c17(), "", &patterns, "")?;
+    let design = ones_of_c17(alloc)?;
     Ok(fails(alloc, design.parts(), place, word)?)
 }
 

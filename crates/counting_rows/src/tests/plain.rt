@@ -1,12 +1,12 @@
 //! The same fails as by plain simulation, for each fault of small designs, in each pattern of two words.
-ghost use Rattle.std.specs.Prelude.{◌<◌};
+ghost use Rattle.std.specs.Prelude.{◌<◌, length};
 
 use super::designs::{c17, design, odd, repeated, s27};
 use super::fails::fails;
-use diagnosis::BundleFault;
+use diagnosis::{BundleFault, Design};
 use fault_universe::{fault_at, universe_len};
 use good_sim::plain_response;
-use scan_model::{NoMemory, Parts, Tri};
+use scan_model::{NoMemory, Parts, Rows, Tri};
 use std::alloc::Global;
 
 fn are_opposite(a: Tri, b: Tri) -> bool {
@@ -40,6 +40,31 @@ fn none_set(words: &[u64], bit: u32) -> bool
     true
 }
 
+fn response_under(
+    alloc: Global,
+    parts: &Parts,
+    place: u32,
+    pattern: u32,
+) -> Result<Rows<Tri>, NoMemory>
+    requires { pattern < length parts.now.patterns }
+{
+    plain_response(alloc, parts, pattern, fault_at(parts, place))
+}
+
+/// The responses in one pattern, without a fault and under the fault at a place.
+fn responses(
+    alloc: Global,
+    parts: &Parts,
+    place: u32,
+    pattern: u32,
+) -> Result<(Rows<Tri>, Rows<Tri>), NoMemory>
+    requires { pattern < length parts.now.patterns }
+{
+    let good = plain_response(alloc, parts, pattern, None)?;
+    let bad = response_under(alloc, parts, place, pattern)?;
+    Ok((good, bad))
+}
+
 /// Whether the words have the fails of one pattern, and none where there is no such pattern.
 fn agree_in(
     alloc: Global,
@@ -54,21 +79,33 @@ fn agree_in(
     if pattern as usize >= parts.patterns().len() {
         return Ok(none_set(words, bit));
     }
-    let good = plain_response(alloc, parts, pattern, None)?;
-    let bad = plain_response(alloc, parts, pattern, fault_at(parts, place))?;
+    let (good, bad) = responses(alloc, parts, place, pattern)?;
     Ok(agree(good.as_slice(), bad.as_slice(), words, bit))
+}
+
+/// Whether the words have the fails of all patterns of a word.
+fn agree_in_word(
+    alloc: Global,
+    parts: &Parts,
+    place: u32,
+    word: u32,
+    words: &[u64],
+) -> Result<bool, NoMemory>
+    requires { word < 2 }
+{
+    for bit in 0..64 {
+        if !agree_in(alloc, parts, place, 64 * word + bit, words, bit)? {
+            return Ok(false);
+        }
+    }
+    Ok(words.len() == parts.points().len())
 }
 
 fn agree_at(alloc: Global, parts: &Parts, place: u32, word: u32) -> Result<bool, NoMemory>
     requires { word < 2 }
 {
     let words = fails(alloc, parts, place, word)?;
-    for bit in 0..64 {
-        if !agree_in(alloc, parts, place, 64 * word + bit, &words, bit)? {
-            return Ok(false);
-        }
-    }
-    Ok(words.len() == parts.points().len())
+    agree_in_word(alloc, parts, place, word, &words)
 }
 
 fn all_agree(alloc: Global, parts: &Parts) -> Result<bool, NoMemory> {
@@ -80,6 +117,18 @@ fn all_agree(alloc: Global, parts: &Parts) -> Result<bool, NoMemory> {
     Ok(universe_len(parts) > 0)
 }
 
+/// A design of 13 times its patterns.
+fn repeating(
+    alloc: Global,
+    netlist: &str,
+    scan: &str,
+    patterns: &str,
+    pairs: &str,
+) -> Result<Design, BundleFault> {
+    let all = repeated(alloc, patterns, 13)?;
+    design(alloc, netlist, scan, &all, pairs)
+}
+
 /// The same over 13 times five patterns.
 fn agree_over(
     alloc: Global,
@@ -88,8 +137,7 @@ fn agree_over(
     patterns: &str,
     pairs: &str,
 ) -> Result<bool, BundleFault> {
-    let all = repeated(alloc, patterns, 13)?;
-    let design = design(alloc, netlist, scan, &all, pairs)?;
+    let design = repeating(alloc, netlist, scan, patterns, pairs)?;
     Ok(all_agree(alloc, design.parts())?)
 }
 

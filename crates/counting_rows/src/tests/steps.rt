@@ -3,11 +3,10 @@ ghost use Rattle.std.specs.Prelude.{◌≡◌, ◌+◌, ◌*◌, ◌<◌, ◌≤
 ghost use Rattle.scan_model.specs.ScanTest.{points_of};
 ghost use Rattle.scan_model.specs.Masks.{touched_nets};
 
-use super::designs::{c17, design, repeated};
-use super::fails::has_word;
+use super::designs::ones_of_c17;
+use super::fails::{has_word, write_fails};
 use diagnosis::BundleFault;
 use fault_universe::fault_at;
-use packed_sim::{PackedGood, Scratch};
 use scan_model::{Fault, NoMemory, Parts, Steps};
 use std::alloc::Global;
 use std::marker::Brand;
@@ -37,15 +36,13 @@ fn stem_fails<L: Ledger>(
     requires out { length out.old ≡ length (points_of parts.now) }
     ensures { IfOk result (λ nets. IfSome nets (λ n. steps.new ≤ steps.old + n)) }
 {
-    let good = PackedGood::make(alloc, parts)?;
-    let mut scratch = Scratch::make(alloc, &good)?;
     let Some(fault) = fault_at(parts, place) else {
         return Ok(None);
     };
     let Some(net) = stem_net(parts, &fault) else {
         return Ok(None);
     };
-    good.fails_of(parts, &mut scratch, &fault, word, out, steps);
+    write_fails(alloc, parts, &fault, word, out, steps)?;
     let behind = parts.circuit().cone_out(net)?;
     Ok(Some(behind.len()))
 }
@@ -69,14 +66,17 @@ fn counted<L: Ledger>(
 }
 
 /// Whether the fails of 10 stuck at 1 in the last of 65 patterns are at c17's output 22 alone, within two steps.
-fn takes_two_steps(alloc: Global) -> Result<bool, BundleFault> {
-    let patterns = repeated(alloc, "CAPTURE 11111\n", 65)?;
-    let design = design(alloc, c17(), "", &patterns, "")?;
-    if !has_word(design.parts(), 1) {
+fn take_two_steps(alloc: Global, parts: &Parts) -> Result<bool, NoMemory> {
+    if !has_word(parts, 1) {
         return Ok(false);
     }
-    let (nets, words) = counted::<Brand>(alloc, design.parts(), 11, 1, Blank::new(1))?;
+    let (nets, words) = counted::<Brand>(alloc, parts, 11, 1, Blank::new(1))?;
     Ok(nets == Some(2) && words.as_slice() == [1, 0].as_slice())
+}
+
+fn takes_two_steps(alloc: Global) -> Result<bool, BundleFault> {
+    let design = ones_of_c17(alloc)?;
+    Ok(take_two_steps(alloc, design.parts())?)
 }
 
 #[test]

@@ -1,9 +1,10 @@
 //! Which faults can explain the failing bits of one log.
 
-use super::designs::{c17, design, joined, repeated, s27};
+use super::designs::{c17, design, push_times, s27};
 use super::logs::joined_of;
 use back_trace::suspects;
-use diagnosis::BundleFault;
+use diagnosis::{BundleFault, Design};
+use scan_model::{NoMemory, Rows};
 use std::alloc::Global;
 
 /// The texts of a design, a log of it, and the places of the suspects.
@@ -17,12 +18,22 @@ struct Row<'a> {
     places: &'a [u32],
 }
 
+fn suspects_of(alloc: Global, design: &Design, log: &[u8]) -> Result<Rows<u32>, BundleFault> {
+    let joined = joined_of(alloc, design, log)?;
+    Ok(suspects(alloc, design.parts(), design.expected(), &joined)?)
+}
+
+fn are(answer: Result<Rows<u32>, BundleFault>, places: &[u32]) -> bool {
+    match answer {
+        Ok(found) => found.as_slice() == places,
+        Err(_) => false,
+    }
+}
+
 /// Whether the suspects of the log are those of the row.
 fn has_suspects(alloc: Global, row: &Row<'_>) -> Result<bool, BundleFault> {
     let design = design(alloc, row.netlist, row.scan, row.patterns, row.pairs)?;
-    let joined = joined_of(alloc, &design, row.log)?;
-    let places = suspects(alloc, design.parts(), design.expected(), &joined)?;
-    Ok(places.as_slice() == row.places)
+    Ok(are(suspects_of(alloc, &design, row.log), row.places))
 }
 
 #[test]
@@ -80,13 +91,17 @@ fn a_pattern_of_s27_that_only_shifts(rt: HostRuntime) {
     assert!(rt; matches!(has_suspects(rt.alloc(), &row), Ok(true)));
 }
 
-/// Whether a failing bit of the second block of 512 patterns alone gives its suspects.
+/// 513 patterns, of which the last alone is in the second block of 512.
+fn two_blocks(alloc: Global) -> Result<String, NoMemory> {
+    let mut text = String::new(alloc);
+    push_times(&mut text, "CAPTURE 11111\n", 512)?;
+    text.push_str("CAPTURE 00000\n")?;
+    Ok(text)
+}
+
+/// Whether a failing bit of the second block alone gives its suspects.
 fn has_suspects_of_second_block(alloc: Global) -> Result<bool, BundleFault> {
-    let patterns = joined(
-        alloc,
-        &repeated(alloc, "CAPTURE 11111\n", 512)?,
-        "CAPTURE 00000\n",
-    )?;
+    let patterns = two_blocks(alloc)?;
     let row = Row {
         netlist: c17(),
         scan: "",

@@ -2,13 +2,21 @@
 use super::circuits::design_of_s27;
 use diagnosis::BundleFault;
 use fault_universe::{fault_at, fault_text, place_of, universe, universe_len};
+use scan_model::{Name, NoMemory, Parts, Rows};
 use std::alloc::Global;
+
+fn has_len<T: Drop>(rows: Result<Rows<T>, NoMemory>, len: usize) -> bool {
+    match rows {
+        Ok(found) => found.len() == len,
+        Err(_) => false,
+    }
+}
 
 // Whether the list of s27 has 64 faults.
 fn lists_all(alloc: Global) -> Result<bool, BundleFault> {
     let design = design_of_s27(alloc, "CAPTURE 0000 000\n")?;
-    let faults = universe(alloc, design.parts())?;
-    Ok(faults.len() == 64 && universe_len(design.parts()) == 64)
+    let parts = design.parts();
+    Ok(has_len(universe(alloc, parts), 64) && universe_len(parts) == 64)
 }
 
 #[test]
@@ -16,18 +24,36 @@ fn all_faults_of_s27(rt: HostRuntime) {
     assert!(rt; matches!(lists_all(rt.alloc()), Ok(true)));
 }
 
-// Whether the fault of place 45 of s27 has this text.
-fn has_text(alloc: Global, expected: &[u8]) -> Result<bool, BundleFault> {
+fn is_text(text: Result<Name, NoMemory>, expected: &[u8]) -> bool {
+    match text {
+        Ok(found) => found.as_slice() == expected,
+        Err(_) => false,
+    }
+}
+
+// Whether the fault at a place has this text, and this place.
+fn has_text(alloc: Global, parts: &Parts, place: u32, expected: &[u8]) -> bool {
+    match fault_at(parts, place) {
+        Some(fault) => {
+            place_of(parts, &fault) == Some(place)
+                && is_text(fault_text(alloc, parts, &fault), expected)
+        }
+        None => false,
+    }
+}
+
+// The same of the place 45 of s27.
+fn s27_has_text(alloc: Global, expected: &[u8]) -> Result<bool, BundleFault> {
     let design = design_of_s27(alloc, "CAPTURE 0000 000\n")?;
-    let parts = design.parts();
-    let Some(fault) = fault_at(parts, 45) else {
-        return Ok(false);
-    };
-    let text = fault_text(alloc, parts, &fault)?;
-    Ok(text.as_slice() == expected && place_of(parts, &fault) == Some(45))
+    Ok(has_text(alloc, design.parts(), 45, expected))
 }
 
 #[test]
 fn a_branch_as_text(rt: HostRuntime) {
-    assert!(rt; matches!(has_text(rt.alloc(), b"branch G8 to G16 2 sa1"), Ok(true)));
+    assert!(rt;
+        matches!(
+            s27_has_text(rt.alloc(), b"branch G8 to G16 2 sa1"),
+            Ok(true)
+        )
+    );
 }

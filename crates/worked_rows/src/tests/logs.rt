@@ -1,12 +1,15 @@
 use super::circuits::{design_of_c17, design_of_s27};
 use super::refusal::stops_at;
-use diagnosis::{BundleFault, log_of};
+use diagnosis::{BundleFault, Design, log_of};
 use std::alloc::Global;
+
+fn refuses(alloc: Global, design: &Design, text: &str, line: u64, rule: u32) -> bool {
+    stops_at(log_of(alloc, design, b"D1", text.as_bytes()), line, rule)
+}
 
 fn is_refused(alloc: Global, text: &str, line: u64, rule: u32) -> Result<bool, BundleFault> {
     let design = design_of_c17(alloc, "CAPTURE 11111\n")?;
-    let answer = log_of(alloc, &design, b"D1", text.as_bytes());
-    Ok(stops_at(answer, line, rule))
+    Ok(refuses(alloc, &design, text, line, rule))
 }
 
 /// A text, and the line and the rule of its first fault.
@@ -64,8 +67,7 @@ fn refused_logs(rt: HostRuntime) {
 
 fn is_refused_at_a_shift(alloc: Global, text: &str) -> Result<bool, BundleFault> {
     let design = design_of_s27(alloc, "SHIFT 101\n")?;
-    let answer = log_of(alloc, &design, b"D1", text.as_bytes());
-    Ok(stops_at(answer, 5, 60))
+    Ok(refuses(alloc, &design, text, 5, 60))
 }
 
 #[test]

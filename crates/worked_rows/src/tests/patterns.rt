@@ -2,12 +2,19 @@ use super::circuits::design_of_s27;
 use diagnosis::{BundleFault, Section};
 use std::alloc::Global;
 
+fn stands_at(fault: &BundleFault, line: u64, rule: u32) -> bool {
+    match fault {
+        BundleFault::Text { section, fault } => {
+            *section == Section::Patterns && fault.line == line && fault.rule == rule
+        }
+        BundleFault::NoMemory => false,
+    }
+}
+
 fn is_refused(alloc: Global, text: &str, line: u64, rule: u32) -> bool {
     match design_of_s27(alloc, text) {
-        Err(BundleFault::Text { section, fault }) => {
-            section == Section::Patterns && fault.line == line && fault.rule == rule
-        }
-        _ => false,
+        Ok(_) => false,
+        Err(fault) => stands_at(&fault, line, rule),
     }
 }
 

@@ -17,10 +17,16 @@ fn predicted(alloc: Global, design: &Design, place: u32) -> Result<Option<Name>,
     Ok(Some(log))
 }
 
+fn predicts(alloc: Global, design: &Design, place: u32, text: &str) -> Result<bool, NoMemory> {
+    match predicted(alloc, design, place)? {
+        Some(log) => Ok(log.as_slice() == text.as_bytes()),
+        None => Ok(false),
+    }
+}
+
 fn is_log(alloc: Global, place: u32, text: &str) -> Result<bool, BundleFault> {
     let design = design_of_c17(alloc, "CAPTURE 11111\n")?;
-    let log = predicted(alloc, &design, place)?;
-    Ok(matches!(log, Some(log) if log.as_slice() == text.as_bytes()))
+    Ok(predicts(alloc, &design, place, text)?)
 }
 
 #[test]
@@ -45,25 +51,69 @@ fn own_words(alloc: Global, place: u32, fails: usize) -> Result<String, AllocErr
     format!(in alloc; " fault {place} tfsf {fails} tfsp 0 tpsf 0 ")
 }
 
-/// Whether the fault at a place explains the log that it predicts, and no pass speaks against it.
+/// How many fails a log of the die D1 lists; none where it is refused.
+fn fails_in(alloc: Global, design: &Design, log: &[u8]) -> Option<usize> {
+    match log_of(alloc, design, b"D1", log) {
+        Ok(read) => Some(read.facts().fails.len()),
+        Err(_) => None,
+    }
+}
+
+/// Whether the report over a log has these words.
+fn reports<R: Threads + Sync>(
+    rt: &R,
+    alloc: Global,
+    design: &Arc<Design>,
+    log: &[u8],
+    words: &str,
+) -> Result<bool, NoMemory> {
+    let report = report_over(rt, alloc, design, b"D1", log)?;
+    Ok(has(&report, words))
+}
+
+/// Whether the fault at a place explains this log, and no pass speaks against it.
+fn explains<R: Threads + Sync>(
+    rt: &R,
+    alloc: Global,
+    design: &Arc<Design>,
+    place: u32,
+    log: &[u8],
+) -> Result<bool, NoMemory> {
+    let Some(fails) = fails_in(alloc, design, log) else {
+        return Ok(false);
+    };
+    let words = own_words(alloc, place, fails)?;
+    reports(rt, alloc, design, log, &words)
+}
+
+/// The same of the log that it predicts.
 fn explains_itself<R: Threads + Sync>(
     rt: &R,
     alloc: Global,
     design: &Arc<Design>,
     place: u32,
 ) -> Result<bool, NoMemory> {
-    let Some(text) = predicted(alloc, design, place)? else {
-        return Ok(false);
-    };
-    let Ok(log) = log_of(alloc, design, b"D1", text.as_slice()) else {
-        return Ok(false);
-    };
-    let words = own_words(alloc, place, log.facts().fails.len())?;
-    let report = report_over(rt, alloc, design, b"D1", text.as_slice())?;
-    Ok(has(&report, &words))
+    match predicted(alloc, design, place)? {
+        Some(log) => explains(rt, alloc, design, place, log.as_slice()),
+        None => Ok(false),
+    }
 }
 
 /// Whether a design has so many faults, and each explains its own log.
+fn each_explains_itself<R: Threads + Sync>(
+    rt: &R,
+    alloc: Global,
+    design: &Arc<Design>,
+    faults: u32,
+) -> Result<bool, NoMemory> {
+    for place in 0..faults {
+        if !explains_itself(rt, alloc, design, place)? {
+            return Ok(false);
+        }
+    }
+    Ok(universe_len(design.parts()) == faults)
+}
+
 fn all_explain_themselves<R: Threads + Sync>(
     rt: &R,
     alloc: Global,
@@ -71,26 +121,25 @@ fn all_explain_themselves<R: Threads + Sync>(
     faults: u32,
 ) -> Result<bool, NoMemory> {
     let design = Arc::new(alloc, design)?;
-    for place in 0..faults {
-        if !explains_itself(rt, alloc, &design, place)? {
-            return Ok(false);
-        }
-    }
-    Ok(universe_len(design.parts()) == faults)
+    each_explains_itself(rt, alloc, &design, faults)
 }
 
-#[test]
-fn each_fault_of_c17(rt: HostRuntime) -> Result<(), BundleFault> {
-    let alloc = rt.alloc();
+fn all_of_c17<R: Threads + Sync>(rt: &R, alloc: Global) -> Result<bool, BundleFault> {
     let design = design_of_c17(alloc, "CAPTURE 11111\nCAPTURE 10X01\nCAPTURE 01010\n")?;
-    assert!(rt; all_explain_themselves(&rt, alloc, design, 34)?);
-    Ok(())
+    Ok(all_explain_themselves(rt, alloc, design, 34)?)
 }
 
 #[test]
-fn each_fault_of_s27(rt: HostRuntime) -> Result<(), BundleFault> {
-    let alloc = rt.alloc();
+fn each_fault_of_c17(rt: HostRuntime) {
+    assert!(rt; matches!(all_of_c17(&rt, rt.alloc()), Ok(true)));
+}
+
+fn all_of_s27<R: Threads + Sync>(rt: &R, alloc: Global) -> Result<bool, BundleFault> {
     let design = design_of_s27(alloc, "CAPTURE 0000 000\nSHIFT 101\nCAPTURE 1101 1X0\n")?;
-    assert!(rt; all_explain_themselves(&rt, alloc, design, 64)?);
-    Ok(())
+    Ok(all_explain_themselves(rt, alloc, design, 64)?)
+}
+
+#[test]
+fn each_fault_of_s27(rt: HostRuntime) {
+    assert!(rt; matches!(all_of_s27(&rt, rt.alloc()), Ok(true)));
 }

@@ -1,20 +1,38 @@
 use diag_report::rank;
 use scan_model::{Counts, NoMemory, Rows, Scored};
+use std::alloc::Global;
+
+fn scored(place: u32, tfsf: u64, tpsf: u64) -> Scored {
+    let counts = Counts {
+        tfsf,
+        tfsp: 0,
+        tpsf,
+    };
+    Scored { place, counts }
+}
+
+fn four_rows(alloc: Global) -> Result<Rows<Scored>, NoMemory> {
+    Ok(Rows::from_vec(vec![in alloc;
+        scored(0, 1, 0),
+        scored(1, 2, 1),
+        scored(2, 2, 0),
+        scored(3, 1, 0),
+    ]?))
+}
+
+fn are_ranked(alloc: Global) -> Result<bool, NoMemory> {
+    let mut rows = four_rows(alloc)?;
+    rank(&mut rows);
+    let best_first = [
+        scored(2, 2, 0),
+        scored(1, 2, 1),
+        scored(0, 1, 0),
+        scored(3, 1, 0),
+    ];
+    Ok(rows.as_slice() == best_first.as_slice())
+}
 
 #[test]
-fn ranks_four_rows(rt: HostRuntime) -> Result<(), NoMemory> {
-    let mut rows = Rows::new(rt.alloc());
-    for (place, tfsf, tpsf) in [(0, 1, 0), (1, 2, 1), (2, 2, 0), (3, 1, 0)] {
-        let counts = Counts {
-            tfsf,
-            tfsp: 0,
-            tpsf,
-        };
-        rows.push(Scored { place, counts })?;
-    }
-    rank(&mut rows);
-    for (row, place) in rows.as_slice().iter().zip([2, 1, 0, 3]) {
-        assert_eq!(rt; row.place, place);
-    }
-    Ok(())
+fn ranks_four_rows(rt: HostRuntime) {
+    assert!(rt; matches!(are_ranked(rt.alloc()), Ok(true)));
 }

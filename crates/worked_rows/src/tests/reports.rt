@@ -1,7 +1,7 @@
 use super::circuits::{design, design_of_c17, design_of_s27};
 use super::dies::report;
 use diag_report::{PastEnd, Report};
-use diagnosis::BundleFault;
+use diagnosis::{BundleFault, Design};
 use scan_model::NoMemory;
 use std::alloc::Global;
 use std::thread::Threads;
@@ -43,9 +43,13 @@ fn repeated(alloc: Global, text: &str, times: u32) -> Result<String, NoMemory> {
     Ok(all)
 }
 
-fn with_65_patterns<R: Threads + Sync>(rt: &R, alloc: Global) -> Result<Report, BundleFault> {
+fn design_of_65_patterns(alloc: Global) -> Result<Design, BundleFault> {
     let patterns = repeated(alloc, "CAPTURE 11111\n", 65)?;
-    let design = design_of_c17(alloc, &patterns)?;
+    design_of_c17(alloc, &patterns)
+}
+
+fn with_65_patterns<R: Threads + Sync>(rt: &R, alloc: Global) -> Result<Report, BundleFault> {
+    let design = design_of_65_patterns(alloc)?;
     let log = b"FAILLOG 1\ndie D1\ndesign d\ntested 0 64\nfail 64 out 22\nend\n";
     Ok(report(rt, alloc, design, log)?)
 }
@@ -72,9 +76,13 @@ fn buffers(alloc: Global) -> Result<String, NoMemory> {
     Ok(text)
 }
 
-fn of_buffers<R: Threads + Sync>(rt: &R, alloc: Global) -> Result<Report, BundleFault> {
+fn design_of_buffers(alloc: Global) -> Result<Design, BundleFault> {
     let netlist = buffers(alloc)?;
-    let design = design(alloc, &netlist, "", "CAPTURE 1\n")?;
+    design(alloc, &netlist, "", "CAPTURE 1\n")
+}
+
+fn of_buffers<R: Threads + Sync>(rt: &R, alloc: Global) -> Result<Report, BundleFault> {
+    let design = design_of_buffers(alloc)?;
     let log = b"FAILLOG 1\ndie D1\ndesign d\ntested 0 0\nfail 0 out b240\nend\n";
     Ok(report(rt, alloc, design, log)?)
 }
@@ -95,14 +103,22 @@ fn line_ends(bytes: &[u8]) -> usize {
     bytes.iter().filter(|byte| **byte == b'\n').count()
 }
 
+fn ends_at_250(report: &Report) -> bool {
+    report.pages() == 3 && matches!(report.page(251), Err(PastEnd { lines: 250 }))
+}
+
+/// Whether the page from this line on has so many lines.
+fn has_lines(report: &Report, line: u64, count: usize) -> bool {
+    match report.page(line) {
+        Ok(page) => line_ends(page) == count,
+        Err(_) => false,
+    }
+}
+
 /// Whether the page from line 201 on is the last, of 50 lines.
 fn ends_with_50(answer: Result<Report, BundleFault>) -> bool {
-    let Ok(report) = answer else {
-        return false;
-    };
-    let past = report.pages() == 3 && matches!(report.page(251), Err(PastEnd { lines: 250 }));
-    match report.page(201) {
-        Ok(page) => past && line_ends(page) == 50,
+    match answer {
+        Ok(report) => ends_at_250(&report) && has_lines(&report, 201, 50),
         Err(_) => false,
     }
 }

@@ -61,8 +61,7 @@ fn has_sizes(parts: &Parts) -> bool {
 
 fn inverts(alloc: Global) -> Result<bool, BundleFault> {
     let design = inverter(alloc)?;
-    let answer = first_response(alloc, design.parts(), 4);
-    Ok(has_sizes(design.parts()) && shows(answer, &[Tri::Zero]))
+    Ok(has_sizes(design.parts()) && shows(first_response(alloc, design.parts(), 4), &[Tri::Zero]))
 }
 
 #[test]

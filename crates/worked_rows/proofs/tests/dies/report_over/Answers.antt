@@ -1,4 +1,4 @@
 use Rattle.worked_rows.proofs.tests.dies.report_over.Goals as goal
 
-pub add-requires : goal.add-requires
-add-requires g c = rw (c.in_ok-view.ensures, c.in_ok-name.ensures, c.in_ok-try_clone.ensures, c.in_ok-new.ensures.ok, ← c.deref.ensures) c.in-Ok.ensures.log
+pub report_of-requires-after_bounds : goal.report_of-requires-after_bounds
+report_of-requires-after_bounds g c κs within = rw (c.in_ok-view.ensures.design, c.in_ok-view.ensures.die, ← c.deref.ensures) c.in-Ok.ensures.log
