@@ -1,8 +1,8 @@
 //! What a book over a keeper in memory answers.
 use super::texts::{NETLIST, joined};
 use book::{Book, Design, Put, PutFault, log_of, read_bundle};
-use desk_outside::MemKeeper;
-use scan_model::{NoMemory, Rows};
+use desk_outside::{Deed, MemKeeper};
+use scan_model::{Name, NoMemory, Rows};
 use std::alloc::Global;
 use std::sync::Arc;
 use std::thread::Threads;
@@ -11,35 +11,60 @@ pub const FAILS: &[u8] = b"FAILLOG 1\ndie D1\ndesign c17\ntested 0 0\nfail 0 out
 
 pub const PASSES: &[u8] = b"FAILLOG 1\ndie D1\ndesign c17\ntested 0 0\nend\n";
 
-// c17 with one pattern.
-pub fn c17(alloc: Global, pattern: &[u8]) -> Result<Arc<Design>, NoMemory> {
+// The bundle of c17 with one pattern.
+fn bundle_of(alloc: Global, pattern: &[u8]) -> Result<Name, NoMemory> {
     let parts: &[&[u8]] = &[
         NETLIST,
         b"%scan\n%patterns\nCAPTURE ",
         pattern,
         b"\n%neighbours\n",
     ];
-    let bundle = joined(alloc, parts)?;
-    match read_bundle(alloc, b"c17", bundle.as_slice()) {
+    joined(alloc, parts)
+}
+
+fn design_of(alloc: Global, bundle: &[u8]) -> Result<Arc<Design>, NoMemory> {
+    match read_bundle(alloc, b"c17", bundle) {
         Ok(design) => Ok(Arc::new(alloc, design)?),
         Err(_) => Err(NoMemory),
     }
 }
 
-// A book over a keeper without deeds, whose calls with this number fail.
+// c17 with one pattern.
+fn c17(alloc: Global, pattern: &[u8]) -> Result<Arc<Design>, NoMemory> {
+    let bundle = bundle_of(alloc, pattern)?;
+    design_of(alloc, bundle.as_slice())
+}
+
+// A keeper of these rows, whose call with this number fails, none where it is 0.
+pub fn keeper_failing(alloc: Global, rows: Rows<Deed>, call: u64) -> Result<MemKeeper, NoMemory> {
+    let mut calls = Rows::new(alloc);
+    calls.push(call)?;
+    MemKeeper::make_failing(alloc, rows, calls)
+}
+
+// A book over a keeper without deeds, whose call with this number fails.
 pub fn opened<R: Threads + Sync>(
     rt: &R,
     alloc: Global,
     failing: u64,
     limit: u32,
 ) -> Result<Book<MemKeeper>, NoMemory> {
-    let mut calls = Rows::new(alloc);
-    calls.push(failing)?;
-    let keeper = MemKeeper::make_failing(alloc, Rows::new(alloc), calls)?;
+    let keeper = keeper_failing(alloc, Rows::new(alloc), failing)?;
     match Book::open_from(rt, alloc, keeper, limit) {
         Ok(book) => Ok(book),
         Err(_) => Err(NoMemory),
     }
+}
+
+// Puts c17 with this pattern.
+fn put_c17(
+    alloc: Global,
+    book: &mut Book<MemKeeper>,
+    by: u32,
+    pattern: &[u8],
+) -> Result<Put, PutFault> {
+    let design = c17(alloc, pattern)?;
+    book.put_design(by, &design)
 }
 
 // Puts a log of die D1, as a caller does that looks for the design first.
@@ -65,62 +90,90 @@ pub fn is_same(put: &Result<Put, PutFault>, at: u64) -> bool {
     matches!(put, Ok(Put::Same { number }) if *number == at)
 }
 
+pub fn creates_c17(alloc: Global, book: &mut Book<MemKeeper>) -> bool {
+    is_created(&put_c17(alloc, book, 0, b"11111"), 1)
+}
+
+fn knows_c17(alloc: Global, book: &mut Book<MemKeeper>, by: u32) -> bool {
+    is_same(&put_c17(alloc, book, by, b"11111"), 1)
+}
+
+// Another design of its name is refused.
+fn refuses_other(alloc: Global, book: &mut Book<MemKeeper>) -> bool {
+    matches!(
+        &put_c17(alloc, book, 0, b"00000"),
+        Err(PutFault::NameTaken { .. })
+    )
+}
+
+pub fn creates_log(alloc: Global, book: &mut Book<MemKeeper>, text: &[u8], at: u64) -> bool {
+    is_created(&put_log(alloc, book, text), at)
+}
+
+fn knows_log(alloc: Global, book: &mut Book<MemKeeper>) -> bool {
+    is_same(&put_log(alloc, book, FAILS), 1)
+}
+
 // The same design comes twice, and then another of its name.
-fn is_put_once(alloc: Global, book: &mut Book<MemKeeper>) -> Result<bool, NoMemory> {
-    let first = c17(alloc, b"11111")?;
-    let other = c17(alloc, b"00000")?;
+fn puts_once(alloc: Global, book: &mut Book<MemKeeper>) -> bool {
+    creates_c17(alloc, book)
+        && knows_c17(alloc, book, 1)
+        && refuses_other(alloc, book)
+        && book.deeds() == 1
+}
+
+fn is_put_once<R: Threads + Sync>(rt: &R, alloc: Global) -> Result<bool, NoMemory> {
+    let mut book = opened(rt, alloc, 0, 10)?;
+    Ok(puts_once(alloc, &mut book))
+}
+
+#[test]
+fn a_design_is_put_once(rt: HostRuntime) {
+    assert!(rt; matches!(is_put_once(&rt, rt.alloc()), Ok(true)));
+}
+
+fn has_no_room(alloc: Global, book: &mut Book<MemKeeper>) -> bool {
+    matches!(
+        &put_log(alloc, book, FAILS),
+        Err(PutFault::Full { limit: 1 })
+    )
+}
+
+// Past its limit of one deed the book takes no log, and finds the design that it has.
+fn is_full<R: Threads + Sync>(rt: &R, alloc: Global) -> Result<bool, NoMemory> {
+    let mut book = opened(rt, alloc, 0, 1)?;
     Ok(
-        is_created(&book.put_design(0, &first), 1)
-            && is_same(&book.put_design(1, &first), 1)
-            && matches!(&book.put_design(0, &other), Err(PutFault::NameTaken { .. }))
-            && book.deeds() == 1,
+        creates_c17(alloc, &mut book)
+            && has_no_room(alloc, &mut book)
+            && knows_c17(alloc, &mut book, 0),
     )
 }
 
 #[test]
-fn a_design_is_put_once(rt: HostRuntime) -> Result<(), NoMemory> {
-    let mut book = opened(&rt, rt.alloc(), 0, 10)?;
-    assert!(rt; is_put_once(rt.alloc(), &mut book)?);
-    Ok(())
+fn a_full_book_knows_what_it_has(rt: HostRuntime) {
+    assert!(rt; matches!(is_full(&rt, rt.alloc()), Ok(true)));
 }
 
-// Past its limit the book takes no log, and finds the design that it has.
-fn is_full(alloc: Global, book: &mut Book<MemKeeper>) -> Result<bool, NoMemory> {
-    let design = c17(alloc, b"11111")?;
+// The keeper fails at a log, which adds no deed.
+fn fails_at_log(alloc: Global, book: &mut Book<MemKeeper>) -> bool {
+    matches!(&put_log(alloc, book, FAILS), Err(PutFault::Failed))
+        && book.deeds() == 1
+        && book.faults() == 1
+}
+
+// A log that is not kept at first is as new when it comes again. (The opening asks for row 0, and the design's deed is the
+// second call.)
+fn fails_once<R: Threads + Sync>(rt: &R, alloc: Global) -> Result<bool, NoMemory> {
+    let mut book = opened(rt, alloc, 3, 10)?;
     Ok(
-        is_created(&book.put_design(0, &design), 1)
-            && matches!(
-                &put_log(alloc, book, FAILS),
-                Err(PutFault::Full { limit: 1 })
-            )
-            && is_same(&book.put_design(0, &design), 1),
+        creates_c17(alloc, &mut book)
+            && fails_at_log(alloc, &mut book)
+            && creates_log(alloc, &mut book, FAILS, 1)
+            && knows_log(alloc, &mut book),
     )
 }
 
 #[test]
-fn a_full_book_knows_what_it_has(rt: HostRuntime) -> Result<(), NoMemory> {
-    let mut book = opened(&rt, rt.alloc(), 0, 1)?;
-    assert!(rt; is_full(rt.alloc(), &mut book)?);
-    Ok(())
-}
-
-// A log that is not kept at first is as new when it comes again.
-fn fails_once(alloc: Global, book: &mut Book<MemKeeper>) -> Result<bool, NoMemory> {
-    let design = c17(alloc, b"11111")?;
-    Ok(
-        is_created(&book.put_design(0, &design), 1)
-            && matches!(&put_log(alloc, book, FAILS), Err(PutFault::Failed))
-            && book.deeds() == 1
-            && book.faults() == 1
-            && is_created(&put_log(alloc, book, FAILS), 1)
-            && is_same(&put_log(alloc, book, FAILS), 1),
-    )
-}
-
-#[test]
-fn a_failed_append_changes_nothing(rt: HostRuntime) -> Result<(), NoMemory> {
-    // The opening asks for row 0, and the design's deed is the second call.
-    let mut book = opened(&rt, rt.alloc(), 3, 10)?;
-    assert!(rt; fails_once(rt.alloc(), &mut book)?);
-    Ok(())
+fn a_failed_append_changes_nothing(rt: HostRuntime) {
+    assert!(rt; matches!(fails_once(&rt, rt.alloc()), Ok(true)));
 }

@@ -3,7 +3,7 @@ ghost use Rattle.std.specs.Prelude.{◌≡◌, true};
 ghost use Rattle.scan_model.specs.Words.{is_tag};
 
 use super::*;
-use book::{Put, PutFault, StartFault};
+use book::{NotStarted, Put, PutFault, StartFault};
 use desk_outside::{Keeper, MemKeeper};
 use scan_model::{NoMemory, Rows};
 use shared_desk::{Desk, DeskSeat, Marked, start};
@@ -35,7 +35,7 @@ fn put_named<R: Wait>(
     ensures desk { seat.new.desk ≡ seat.old.desk }
     ensures number { seat.new.number ≡ seat.old.number }
 {
-    let design = design_of_name(alloc, name, C17)?;
+    let design = design_of_name(alloc, name, c17())?;
     Ok(desk.put_design(rt, seat, &design))
 }
 
@@ -80,6 +80,34 @@ fn is_failed(put: &Marked<Result<Put, PutFault>>, at: u64) -> bool {
     matches!(&put.answer, Err(PutFault::Failed)) && put.mark == at
 }
 
+fn steps<R: Wait>(
+    rt: &R,
+    alloc: Global,
+    desk: &Desk<MemKeeper>,
+    seat: &mut DeskSeat,
+    at: u64,
+) -> bool
+    requires { seat.old.desk ≡ desk.now }
+    ensures desk { seat.new.desk ≡ seat.old.desk }
+    ensures number { seat.new.number ≡ seat.old.number }
+{
+    matches!(&step(rt, alloc, desk, seat, at), Ok(put) if is_step(put, at))
+}
+
+fn fails<R: Wait>(
+    rt: &R,
+    alloc: Global,
+    desk: &Desk<MemKeeper>,
+    seat: &mut DeskSeat,
+    at: u64,
+) -> bool
+    requires { seat.old.desk ≡ desk.now }
+    ensures desk { seat.new.desk ≡ seat.old.desk }
+    ensures number { seat.new.number ≡ seat.old.number }
+{
+    matches!(&step(rt, alloc, desk, seat, at), Ok(put) if is_failed(put, at))
+}
+
 // Whether the step is answered `Failed` once where the keeper fails there, and then as it would have been.
 fn steps_once<R: Wait>(
     rt: &R,
@@ -87,57 +115,68 @@ fn steps_once<R: Wait>(
     desk: &Desk<MemKeeper>,
     seat: &mut DeskSeat,
     at: u64,
-    fails: bool,
-) -> Result<bool, NoMemory>
+    failing: bool,
+) -> bool
     requires { seat.old.desk ≡ desk.now }
     ensures desk { seat.new.desk ≡ seat.old.desk }
     ensures number { seat.new.number ≡ seat.old.number }
 {
-    if fails && !is_failed(&step(rt, alloc, desk, seat, at)?, at) {
-        return Ok(false);
+    if failing && !fails(rt, alloc, desk, seat, at) {
+        return false;
     }
-    Ok(is_step(&step(rt, alloc, desk, seat, at)?, at))
+    steps(rt, alloc, desk, seat, at)
 }
 
-// The numbers of deeds and faults at the end, where all steps went as they should.
-fn run_all<R: Threads + Wait + Sync>(
+// The opening asks for row 0, and the first step is the second call.
+fn steps_all<R: Wait>(
     rt: &R,
     alloc: Global,
+    desk: &Desk<MemKeeper>,
+    seat: &mut DeskSeat,
     call: u64,
-) -> Result<Option<(u64, u64)>, NoMemory> {
+) -> bool
+    requires { seat.old.desk ≡ desk.now }
+    ensures desk { seat.new.desk ≡ seat.old.desk }
+    ensures number { seat.new.number ≡ seat.old.number }
+{
+    steps_once(rt, alloc, desk, seat, 0, call == 2)
+        && steps_once(rt, alloc, desk, seat, 1, call == 3)
+        && steps_once(rt, alloc, desk, seat, 2, call == 4)
+        && steps_once(rt, alloc, desk, seat, 3, call == 5)
+        && steps_once(rt, alloc, desk, seat, 4, call == 6)
+}
+
+// Whether all steps go as they should, and leave as many deeds and one fault.
+fn goes_on<R: Threads + Wait + Sync>(rt: &R, alloc: Global, call: u64) -> Result<bool, NoMemory> {
     let keeper = keeper_failing(alloc, call)?;
     let (desk, first, mut second) = start_two(rt, alloc, keeper, 10)?;
-    // The opening asks for row 0.
-    let went = [
-        steps_once(rt, alloc, &desk, &mut second, 0, call == 2)?,
-        steps_once(rt, alloc, &desk, &mut second, 1, call == 3)?,
-        steps_once(rt, alloc, &desk, &mut second, 2, call == 4)?,
-        steps_once(rt, alloc, &desk, &mut second, 3, call == 5)?,
-        steps_once(rt, alloc, &desk, &mut second, 4, call == 6)?,
-    ];
-    if went != [true; 5] {
-        return Ok(None);
-    }
+    let went = steps_all(rt, alloc, &desk, &mut second, call);
     let book = finish_two(alloc, desk, first, second)?;
-    Ok(Some((book.deeds(), book.faults())))
+    Ok(went && (book.deeds(), book.faults()) == (STEPS, 1))
 }
 
 #[test]
-fn each_failed_append_is_told_once(rt: HostRuntime) -> Result<(), NoMemory> {
-    let alloc = rt.alloc();
+fn each_failed_append_is_told_once(rt: HostRuntime) {
     for at in 0..STEPS {
-        assert_eq!(rt; run_all(&rt, alloc, at + 2)?, Some((STEPS, 1)));
+        assert!(rt; matches!(goes_on(&rt, rt.alloc(), at + 2), Ok(true)));
     }
-    Ok(())
+}
+
+// The keeper failed once, and came home.
+fn is_home(refused: &NotStarted<MemKeeper>) -> bool {
+    matches!(&refused.fault, StartFault::Failed)
+        && matches!(&refused.keeper, Some(keeper) if keeper.count() == 1)
+}
+
+fn comes_home<R: Threads + Sync>(rt: &R, alloc: Global) -> Result<bool, NoMemory> {
+    let keeper = keeper_failing(alloc, 1)?;
+    match start(rt, alloc, keeper, 10, 2) {
+        Ok(_) => Ok(false),
+        Err(refused) => Ok(is_home(&refused)),
+    }
 }
 
 #[test]
-fn a_keeper_that_fails_at_the_start_comes_home(rt: HostRuntime) -> Result<(), NoMemory> {
-    let alloc = rt.alloc();
-    let Err(refused) = start(&rt, alloc, keeper_failing(alloc, 1)?, 10, 2) else {
-        return Err(NoMemory);
-    };
-    assert!(rt; matches!(refused.fault, StartFault::Failed));
-    assert!(rt; matches!(&refused.keeper, Some(keeper) if keeper.count() == 1));
-    Ok(())
+fn a_keeper_that_fails_at_the_start_comes_home(rt: HostRuntime) {
+    assert!(rt; matches!(comes_home(&rt, rt.alloc()), Ok(true)));
 }

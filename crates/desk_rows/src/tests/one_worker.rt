@@ -3,7 +3,7 @@ ghost use Rattle.std.specs.Prelude.{◌≡◌};
 
 use super::*;
 use book::{Book, LookFault, Put, PutFault};
-use desk_outside::MemKeeper;
+use desk_outside::{Deed, MemKeeper};
 use scan_model::{Digest, NoMemory, Rows};
 use shared_desk::{Desk, DeskSeat, Marked};
 use std::alloc::Global;
@@ -34,14 +34,15 @@ fn puts_design<R: Wait>(
     desk: &Desk<MemKeeper>,
     seat: &mut DeskSeat,
     answer: (u64, char, u64),
-) -> Result<bool, NoMemory>
+) -> bool
     requires { seat.old.desk ≡ desk.now }
     ensures desk { seat.new.desk ≡ seat.old.desk }
     ensures number { seat.new.number ≡ seat.old.number }
 {
-    let design = design_of_name(alloc, b"c17", C17)?;
-    let put = desk.put_design(rt, seat, &design);
-    Ok(told(&put) == answer)
+    let Ok(design) = design_of_name(alloc, b"c17", c17()) else {
+        return false;
+    };
+    told(&desk.put_design(rt, seat, &design)) == answer
 }
 
 // Whether a log of the die, put by a seat, is answered so.
@@ -52,30 +53,33 @@ fn puts_log<R: Wait>(
     seat: &mut DeskSeat,
     text: &[u8],
     answer: (u64, char, u64),
-) -> Result<bool, NoMemory>
+) -> bool
     requires { seat.old.desk ≡ desk.now }
     ensures desk { seat.new.desk ≡ seat.old.desk }
     ensures number { seat.new.number ≡ seat.old.number }
 {
-    let put = put_log(rt, alloc, desk, seat, b"c17", text)?;
-    Ok(told(&put) == answer)
+    matches!(&put_log(rt, alloc, desk, seat, b"c17", text), Ok(put) if told(put) == answer)
+}
+
+fn finds_design<R: Wait>(rt: &R, alloc: Global, desk: &Desk<MemKeeper>, seat: &mut DeskSeat) -> bool
+    requires { seat.old.desk ≡ desk.now }
+    ensures desk { seat.new.desk ≡ seat.old.desk }
+    ensures number { seat.new.number ≡ seat.old.number }
+{
+    puts_design(rt, alloc, desk, seat, (1, 'c', 1))
+        && puts_log(rt, alloc, desk, seat, FAILS, (1, 'f', 1))
+        && puts_design(rt, alloc, desk, seat, (1, 's', 1))
 }
 
 fn knows_what_it_has<R: Threads + Wait + Sync>(rt: &R, alloc: Global) -> Result<bool, NoMemory> {
     let keeper = MemKeeper::make(alloc, Rows::new(alloc))?;
     let (desk, mut first, _second) = start_two(rt, alloc, keeper, 1)?;
-    let went = [
-        puts_design(rt, alloc, &desk, &mut first, (1, 'c', 1))?,
-        puts_log(rt, alloc, &desk, &mut first, FAILS, (1, 'f', 1))?,
-        puts_design(rt, alloc, &desk, &mut first, (1, 's', 1))?,
-    ];
-    Ok(went == [true; 3])
+    Ok(finds_design(rt, alloc, &desk, &mut first))
 }
 
 #[test]
-fn a_full_book_knows_what_it_has(rt: HostRuntime) -> Result<(), NoMemory> {
-    assert!(rt; knows_what_it_has(&rt, rt.alloc())?);
-    Ok(())
+fn a_full_book_knows_what_it_has(rt: HostRuntime) {
+    assert!(rt; matches!(knows_what_it_has(&rt, rt.alloc()), Ok(true)));
 }
 
 // A keeper whose third call fails. The opening asks for row 0, and the design's deed is the second call.
@@ -85,13 +89,26 @@ fn keeper_of_two_calls(alloc: Global) -> Result<MemKeeper, NoMemory> {
     MemKeeper::make_failing(alloc, Rows::new(alloc), calls)
 }
 
-// The book has two deeds and one fault, and both deeds are of the second seat.
-fn has_two_of_the_second(book: Book<MemKeeper>) -> Result<bool, NoMemory> {
-    if book.deeds() != 2 || book.faults() != 1 {
-        return Ok(false);
-    }
-    let rows = book.close().copy_rows()?;
-    Ok(rows.as_slice().iter().all(|deed| deed.by == 1))
+fn are_of(deeds: &[Deed], seat: u32) -> bool {
+    deeds.iter().all(|deed| deed.by == seat)
+}
+
+/// The book has two deeds and so many faults, and both deeds are of this seat.
+pub(super) fn has_two_of(book: Book<MemKeeper>, seat: u32, faults: u64) -> bool {
+    let counts = (book.deeds(), book.faults());
+    let keeper = book.close();
+    counts == (2, faults)
+        && matches!(&keeper.copy_rows(), Ok(rows) if are_of(rows.as_slice(), seat))
+}
+
+fn puts_again<R: Wait>(rt: &R, alloc: Global, desk: &Desk<MemKeeper>, seat: &mut DeskSeat) -> bool
+    requires { seat.old.desk ≡ desk.now }
+    ensures desk { seat.new.desk ≡ seat.old.desk }
+    ensures number { seat.new.number ≡ seat.old.number }
+{
+    puts_design(rt, alloc, desk, seat, (1, 'c', 1))
+        && puts_log(rt, alloc, desk, seat, FAILS, (1, 'x', 0))
+        && puts_log(rt, alloc, desk, seat, FAILS, (2, 'c', 1))
 }
 
 fn goes_on_after_a_fault<R: Threads + Wait + Sync>(
@@ -100,44 +117,41 @@ fn goes_on_after_a_fault<R: Threads + Wait + Sync>(
 ) -> Result<bool, NoMemory> {
     let keeper = keeper_of_two_calls(alloc)?;
     let (desk, first, mut second) = start_two(rt, alloc, keeper, 10)?;
-    let went = [
-        puts_design(rt, alloc, &desk, &mut second, (1, 'c', 1))?,
-        puts_log(rt, alloc, &desk, &mut second, FAILS, (1, 'x', 0))?,
-        puts_log(rt, alloc, &desk, &mut second, FAILS, (2, 'c', 1))?,
-    ];
+    let went = puts_again(rt, alloc, &desk, &mut second);
     let book = finish_two(alloc, desk, first, second)?;
-    let kept = has_two_of_the_second(book)?;
-    Ok(went == [true; 3] && kept)
+    Ok(went && has_two_of(book, 1, 1))
 }
 
 #[test]
-fn a_failed_append_changes_nothing(rt: HostRuntime) -> Result<(), NoMemory> {
-    assert!(rt; goes_on_after_a_fault(&rt, rt.alloc())?);
-    Ok(())
+fn a_failed_append_changes_nothing(rt: HostRuntime) {
+    assert!(rt; matches!(goes_on_after_a_fault(&rt, rt.alloc()), Ok(true)));
 }
 
-// Whether a sign-off of the first revision is refused with the right digest.
+fn right() -> Digest {
+    Digest::from_bytes(RIGHT)
+}
+
+fn is_right(put: &Result<Put, PutFault>) -> bool {
+    match put {
+        Err(PutFault::DigestDiffers { right: told }) => told.as_bytes() == right().as_bytes(),
+        _ => false,
+    }
+}
+
+// Whether a sign-off of the first revision by another digest is refused with the right digest.
 fn refuses_digest<R: Threads + Wait + Sync>(
     rt: &R,
     alloc: Global,
     desk: &Desk<MemKeeper>,
     seat: &mut DeskSeat,
-    digest: [u8; 32],
-) -> Result<bool, NoMemory>
+) -> bool
     requires { seat.old.desk ≡ desk.now }
     ensures desk { seat.new.desk ≡ seat.old.desk }
     ensures number { seat.new.number ≡ seat.old.number }
 {
-    let digest = Digest::from_bytes(digest);
-    let signed = sign_die(rt, alloc, desk, seat, 1, &digest)?;
-    Ok(matches!(&signed, Some(put) if is_right(&put.answer)))
-}
-
-fn is_right(put: &Result<Put, PutFault>) -> bool {
-    match put {
-        Err(PutFault::DigestDiffers { right }) => right.as_bytes() == &RIGHT,
-        _ => false,
-    }
+    let wrong = Digest::from_bytes([0; 32]);
+    let signed = sign_die(rt, alloc, desk, seat, 1, &wrong);
+    matches!(&signed, Ok(Some(put)) if is_right(&put.answer))
 }
 
 // Whether the sign-off of the first revision by the right digest is answered so.
@@ -147,14 +161,13 @@ fn signs_right<R: Threads + Wait + Sync>(
     desk: &Desk<MemKeeper>,
     seat: &mut DeskSeat,
     answer: (u64, char, u64),
-) -> Result<bool, NoMemory>
+) -> bool
     requires { seat.old.desk ≡ desk.now }
     ensures desk { seat.new.desk ≡ seat.old.desk }
     ensures number { seat.new.number ≡ seat.old.number }
 {
-    let right = Digest::from_bytes(RIGHT);
-    let signed = sign_die(rt, alloc, desk, seat, 1, &right)?;
-    Ok(matches!(&signed, Some(put) if told(put) == answer))
+    let signed = sign_die(rt, alloc, desk, seat, 1, &right());
+    matches!(&signed, Ok(Some(put)) if told(put) == answer)
 }
 
 // Whether the die has one revision, and no second.
@@ -174,7 +187,47 @@ fn is_signed<R: Wait>(rt: &R, desk: &Desk<MemKeeper>, seat: &mut DeskSeat) -> bo
     ensures number { seat.new.number ≡ seat.old.number }
 {
     let looked = desk.look_sign(rt, seat, b"c17", b"D1", 1);
-    matches!(&looked.answer, Ok(sign) if sign.revision == 1 && sign.digest.as_bytes() == &RIGHT)
+    matches!(&looked.answer, Ok(sign) if sign.revision == 1 && sign.digest.as_bytes() == right().as_bytes())
+}
+
+fn puts_first<R: Wait>(rt: &R, alloc: Global, desk: &Desk<MemKeeper>, seat: &mut DeskSeat) -> bool
+    requires { seat.old.desk ≡ desk.now }
+    ensures desk { seat.new.desk ≡ seat.old.desk }
+    ensures number { seat.new.number ≡ seat.old.number }
+{
+    puts_design(rt, alloc, desk, seat, (1, 'c', 1))
+        && puts_log(rt, alloc, desk, seat, FAILS, (2, 'c', 1))
+}
+
+// A seat signs the one revision, once the wrong digest was refused.
+fn signs_first<R: Threads + Wait + Sync>(
+    rt: &R,
+    alloc: Global,
+    desk: &Desk<MemKeeper>,
+    seat: &mut DeskSeat,
+) -> bool
+    requires { seat.old.desk ≡ desk.now }
+    ensures desk { seat.new.desk ≡ seat.old.desk }
+    ensures number { seat.new.number ≡ seat.old.number }
+{
+    refuses_digest(rt, alloc, desk, seat) && signs_right(rt, alloc, desk, seat, (3, 'c', 1))
+}
+
+// A second revision comes, and the first stays signed.
+fn stays_signed<R: Threads + Wait + Sync>(
+    rt: &R,
+    alloc: Global,
+    desk: &Desk<MemKeeper>,
+    seat: &mut DeskSeat,
+) -> bool
+    requires { seat.old.desk ≡ desk.now }
+    ensures desk { seat.new.desk ≡ seat.old.desk }
+    ensures number { seat.new.number ≡ seat.old.number }
+{
+    has_no_second(rt, desk, seat)
+        && puts_log(rt, alloc, desk, seat, PASSES, (4, 'c', 2))
+        && signs_right(rt, alloc, desk, seat, (4, 's', 1))
+        && is_signed(rt, desk, seat)
 }
 
 fn stays_with_its_revision<R: Threads + Wait + Sync>(
@@ -183,21 +236,14 @@ fn stays_with_its_revision<R: Threads + Wait + Sync>(
 ) -> Result<bool, NoMemory> {
     let keeper = MemKeeper::make(alloc, Rows::new(alloc))?;
     let (desk, mut first, mut second) = start_two(rt, alloc, keeper, 10)?;
-    let went = [
-        puts_design(rt, alloc, &desk, &mut first, (1, 'c', 1))?,
-        puts_log(rt, alloc, &desk, &mut first, FAILS, (2, 'c', 1))?,
-        refuses_digest(rt, alloc, &desk, &mut second, [0; 32])?,
-        signs_right(rt, alloc, &desk, &mut second, (3, 'c', 1))?,
-        has_no_second(rt, &desk, &mut first),
-        puts_log(rt, alloc, &desk, &mut first, PASSES, (4, 'c', 2))?,
-        signs_right(rt, alloc, &desk, &mut first, (4, 's', 1))?,
-        is_signed(rt, &desk, &mut first),
-    ];
-    Ok(went == [true; 8])
+    Ok(
+        puts_first(rt, alloc, &desk, &mut first)
+            && signs_first(rt, alloc, &desk, &mut second)
+            && stays_signed(rt, alloc, &desk, &mut first),
+    )
 }
 
 #[test]
-fn a_sign_off_stays_with_its_revision(rt: HostRuntime) -> Result<(), NoMemory> {
-    assert!(rt; stays_with_its_revision(&rt, rt.alloc())?);
-    Ok(())
+fn a_sign_off_stays_with_its_revision(rt: HostRuntime) {
+    assert!(rt; matches!(stays_with_its_revision(&rt, rt.alloc()), Ok(true)));
 }

@@ -5,7 +5,6 @@ use desk_outside::{
 };
 use scan_model::{Name, NoMemory, Rows};
 use std::alloc::Global;
-use std::test::Fail;
 
 // A design without text.
 fn one_design(alloc: Global) -> Result<DeedKind, NoMemory> {
@@ -57,14 +56,15 @@ where
         && matches!(keep(cabinet, "desk", deed), Err(KeepFault::Failed))
 }
 
-#[test]
-fn a_keeper_comes_home(rt: HostRuntime) -> Result<(), Fail> {
-    let alloc = rt.alloc();
+fn comes_home(alloc: Global) -> Result<bool, NoMemory> {
     let deed = one_deed(alloc)?;
     let mut cabinet = one_keeper(alloc)?;
-    assert!(rt; keeps_once(&mut cabinet, &deed));
-    assert!(rt; is_home(&cabinet));
-    Ok(())
+    Ok(keeps_once(&mut cabinet, &deed) && is_home(&cabinet))
+}
+
+#[test]
+fn a_keeper_comes_home(rt: HostRuntime) {
+    assert!(rt; matches!(comes_home(rt.alloc()), Ok(true)));
 }
 
 // A cabinet of one keeper without deeds, which fails once.
@@ -97,13 +97,14 @@ fn are_home(cabinet: &MemCabinet) -> bool {
     }
 }
 
-// A keeper that has failed comes home with its count.
-#[test]
-fn a_failed_keeper_comes_home(rt: HostRuntime) -> Result<(), Fail> {
-    let alloc = rt.alloc();
+fn both_come_home(alloc: Global) -> Result<bool, NoMemory> {
     let deed = one_deed(alloc)?;
     let mut cabinet = one_failing(alloc)?;
-    assert!(rt; keeps_elsewhere(&mut cabinet, &deed));
-    assert!(rt; are_home(&cabinet));
-    Ok(())
+    Ok(keeps_elsewhere(&mut cabinet, &deed) && are_home(&cabinet))
+}
+
+// A keeper that has failed comes home with its count.
+#[test]
+fn a_failed_keeper_comes_home(rt: HostRuntime) {
+    assert!(rt; matches!(both_come_home(rt.alloc()), Ok(true)));
 }

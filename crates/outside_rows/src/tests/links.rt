@@ -4,11 +4,10 @@ ghost use Rattle.desk_outside.specs.DoorMemory.{IsUnusedDoor};
 
 use super::exchanges::{answer_at, answer_next, only};
 use desk_outside::{
-    DoorHome, Failed, Link, LinkRead, MemDoor, MemLink, MemStreet, SureLink, send_all,
+    DoorHome, Failed, Link, LinkRead, MemDoor, MemLink, MemStreet, Street, SureLink, send_all,
 };
 use scan_model::{Name, NoMemory, Rows};
 use std::alloc::Global;
-use std::test::Fail;
 
 // A door with one link. The calls with these numbers fail, of the link and of the door.
 fn one_door(
@@ -45,53 +44,91 @@ fn one_street(alloc: Global) -> Result<MemStreet, NoMemory> {
     MemStreet::make_failing(alloc, doors, failing)
 }
 
-#[test]
-fn a_street_is_served(rt: HostRuntime) -> Result<(), Fail> {
-    let alloc = rt.alloc();
+// A street answers at one port, and then fails.
+fn answers_once<S: Street>(street: &mut S) -> bool
+where
+    S::D: Send,
+{
+    answer_at(street, 80, b"yes") == Ok(()) && answer_at(street, 81, b"no") == Err(Failed)
+}
+
+// One door was handed out for port 80, and came home once it had served its link.
+fn has_served(street: &MemStreet) -> bool {
+    match street.home() {
+        [home] => street.ports() == [80].as_slice() && was_served(home, b"ask", b"yes"),
+        _ => false,
+    }
+}
+
+fn serves_once(alloc: Global) -> Result<bool, NoMemory> {
     let mut street = one_street(alloc)?;
-    answer_at(&mut street, 80, b"yes")?;
-    assert_eq!(rt; answer_at(&mut street, 81, b"no"), Err(Failed));
-    assert_eq!(rt; street.ports(), [80].as_slice());
-    let [home] = street.home() else {
-        return Err(Fail::new("one door comes home"));
-    };
-    assert!(rt; was_served(home, b"ask", b"yes"));
-    Ok(())
+    Ok(answers_once(&mut street) && has_served(&street))
+}
+
+#[test]
+fn a_street_is_served(rt: HostRuntime) {
+    assert!(rt; matches!(serves_once(rt.alloc()), Ok(true)));
+}
+
+// A street of one door, which has no link and fails at its first call.
+fn one_failing(alloc: Global) -> Result<MemStreet, NoMemory> {
+    let door = one_door(alloc, b"", 0, 1)?;
+    let doors = only(alloc, door)?;
+    MemStreet::make(alloc, doors)
+}
+
+// A street fails to answer once, and then answers.
+fn answers_later<S: Street>(street: &mut S) -> bool
+where
+    S::D: Send,
+{
+    answer_at(street, 80, b"no") == Err(Failed) && answer_at(street, 80, b"yes") == Ok(())
+}
+
+// Two doors came home, of which the first has failed and gave out no link.
+fn has_failed_first(street: &MemStreet) -> bool {
+    match street.home() {
+        [first, second] => first.failed && first.done.is_empty() && !second.failed,
+        _ => false,
+    }
+}
+
+fn fails_first(alloc: Global) -> Result<bool, NoMemory> {
+    let mut street = one_failing(alloc)?;
+    Ok(answers_later(&mut street) && has_failed_first(&street))
 }
 
 // A door that has failed comes home so, and its street hands out doors without links afterwards.
 #[test]
-fn a_failed_door_comes_home(rt: HostRuntime) -> Result<(), Fail> {
-    let alloc = rt.alloc();
-    let mut street = MemStreet::make(alloc, only(alloc, one_door(alloc, b"", 0, 1)?)?)?;
-    assert_eq!(rt; answer_at(&mut street, 80, b"no"), Err(Failed));
-    answer_at(&mut street, 80, b"yes")?;
-    let [first, second] = street.home() else {
-        return Err(Fail::new("two doors come home"));
-    };
-    assert!(rt; first.failed && first.done.is_empty() && !second.failed);
-    Ok(())
+fn a_failed_door_comes_home(rt: HostRuntime) {
+    assert!(rt; matches!(fails_first(rt.alloc()), Ok(true)));
+}
+
+fn empty_door_answers(alloc: Global) -> Result<bool, NoMemory> {
+    let mut door = MemDoor::make(alloc, Rows::new(alloc))?;
+    let answered = answer_next(&mut door, b"yes");
+    Ok(answered == Ok(()) && (door.given().len(), door.done().len()) == (1, 1))
 }
 
 // A door without links hands out those with nothing left.
 #[test]
-fn an_empty_door_is_asked(rt: HostRuntime) -> Result<(), Fail> {
-    let alloc = rt.alloc();
-    let mut door = MemDoor::make(alloc, Rows::new(alloc))?;
-    answer_next(&mut door, b"yes")?;
-    assert_eq!(rt; (door.given().len(), door.done().len()), (1, 1));
-    Ok(())
+fn an_empty_door_is_asked(rt: HostRuntime) {
+    assert!(rt; matches!(empty_door_answers(rt.alloc()), Ok(true)));
+}
+
+fn keeps_what_is_sent(alloc: Global) -> Result<bool, NoMemory> {
+    let mut link = MemLink::make(alloc, Name::new(alloc))?;
+    Ok(send_all(&mut link, b"yes") == Ok(()) && link.sent().len() == 3)
+}
+
+fn takes_what_is_sent(alloc: Global) -> Result<bool, NoMemory> {
+    let mut sure = SureLink::make(alloc, Name::new(alloc))?;
+    Ok(send_all(&mut sure, b"yes") == Ok(()) && sure.read(&mut [0; 2]) == LinkRead::End)
 }
 
 // A link that keeps nothing takes what another takes.
 #[test]
-fn links_are_sent_to(rt: HostRuntime) -> Result<(), Fail> {
-    let alloc = rt.alloc();
-    let mut link = MemLink::make(alloc, Name::new(alloc))?;
-    send_all(&mut link, b"yes")?;
-    assert_eq!(rt; link.sent().len(), 3);
-    let mut sure = SureLink::make(alloc, Name::new(alloc))?;
-    send_all(&mut sure, b"yes")?;
-    assert_eq!(rt; sure.read(&mut [0; 2]), LinkRead::End);
-    Ok(())
+fn links_are_sent_to(rt: HostRuntime) {
+    assert!(rt; matches!(keeps_what_is_sent(rt.alloc()), Ok(true)));
+    assert!(rt; matches!(takes_what_is_sent(rt.alloc()), Ok(true)));
 }

@@ -6,30 +6,30 @@ use super::deeds::{design_deed, log_deed, sign_deed};
 use super::kept::{gives_none, holds_three, opens};
 use desk_outside::{Cabinet, Deed, Keeper};
 use keeper_sqlite::SqliteCabinet;
+use scan_model::NoMemory;
 use std::alloc::Global;
 use std::fs;
-use std::test::Fail;
 use std::thread::Threads;
 
-fn add<K: Keeper>(keeper: &mut K, deed: &Deed) -> Result<(), Fail> {
-    match keeper.append(deed) {
-        Ok(()) => Ok(()),
-        Err(_) => Err(Fail::new("a deed is not kept")),
+fn add<K: Keeper>(keeper: &mut K, deed: &Result<Deed, NoMemory>) -> bool {
+    match deed {
+        Ok(deed) => keeper.append(deed).is_ok(),
+        Err(_) => false,
     }
 }
 
-fn add_three<K: Keeper>(alloc: Global, keeper: &mut K) -> Result<(), Fail> {
-    add(keeper, &design_deed(alloc)?)?;
-    add(keeper, &log_deed(alloc)?)?;
-    add(keeper, &sign_deed(alloc)?)
+fn add_three<K: Keeper>(alloc: Global, keeper: &mut K) -> bool {
+    add(keeper, &design_deed(alloc))
+        && add(keeper, &log_deed(alloc))
+        && add(keeper, &sign_deed(alloc))
 }
 
 // Adds the three deeds to the store of this name.
-fn fill<C: Cabinet>(alloc: Global, cabinet: &mut C, name: &str) -> Result<(), Fail>
+fn fills<C: Cabinet>(alloc: Global, cabinet: &mut C, name: &str) -> bool
     requires { C.told cabinet.old ≡ None }
 {
     let Ok(mut keeper) = cabinet.keeper(name) else {
-        return Err(Fail::new("the store does not open"));
+        return false;
     };
     let added = add_three(alloc, &mut keeper);
     cabinet.back(keeper);
@@ -61,17 +61,14 @@ fn shows<R: Threads + Sync, C: Cabinet>(
     cabinet: &mut C,
     name: &str,
     trial: Trial,
-) -> Result<bool, Fail>
+) -> bool
     requires { C.told cabinet.old ≡ None }
 {
     match trial {
-        Trial::Fills => {
-            fill(alloc, cabinet, name)?;
-            Ok(true)
-        }
+        Trial::Fills => fills(alloc, cabinet, name),
         Trial::HoldsThree => holds_three(cabinet, name),
         Trial::Opens => opens(threads, alloc, cabinet, name),
-        Trial::GivesNone => Ok(gives_none(cabinet, name)),
+        Trial::GivesNone => gives_none(cabinet, name),
         Trial::FailsAt { row } => fails_at(cabinet, name, row),
         Trial::Refuses => refuses_all(threads, alloc, cabinet, name),
         Trial::RefusesRow { row } => refuses_row(threads, alloc, cabinet, name, row),
@@ -86,17 +83,13 @@ pub(super) fn is_shown<R: Threads + Sync>(
     threads: &R,
     name: &str,
     trial: Trial,
-) -> Result<bool, Fail> {
+) -> bool {
     let mut cabinet = SqliteCabinet::make(rt, rt.alloc());
     shows(threads, rt.alloc(), &mut cabinet, name, trial)
 }
 
 /// Whether a new store of this name takes the three deeds.
-pub(super) fn is_made<R: Threads + Sync>(
-    rt: &HostRuntime,
-    threads: &R,
-    name: &str,
-) -> Result<bool, Fail> {
+pub(super) fn is_made<R: Threads + Sync>(rt: &HostRuntime, threads: &R, name: &str) -> bool {
     let _ = fs::remove_file(rt, name);
     is_shown(rt, threads, name, Trial::Fills)
 }
