@@ -1,12 +1,13 @@
 //! `diagnose`: the report of the logs of a die.
 mod logs;
 
-ghost use Rattle.std.specs.Prelude.{◌≡◌, ◌≤◌, List, Some, true};
+ghost use Rattle.std.specs.Prelude.{◌≡◌, ◌≤◌, List, [], Some, map, true};
 ghost use Rattle.desk_outside.specs.declared.shelf.File.{File};
 ghost use Rattle.desk_outside.specs.Faults.{Rose};
 ghost use Rattle.scan_model.specs.Words.{is_tag};
 ghost use Rattle.desk_commands.specs.Designs.{shown_design};
-ghost use Rattle.desk_commands.specs.Work.{with_design, report_reading};
+ghost use Rattle.desk_commands.specs.Words.{Request};
+ghost use Rattle.desk_commands.specs.Work.{ReadDesign as DesignOfFiles, with_design, report_reading};
 ghost use Rattle.desk_commands.specs.Requests.{said};
 ghost use Rattle.desk_commands.specs.Stops.{Follows, ends_by_fault};
 
@@ -19,6 +20,25 @@ use diagnosis::{Case, case_report};
 use scan_model::Name;
 use std::alloc::Global;
 use std::thread::Threads;
+
+// The report of a die without logs, once those in the files of these names are added.
+fn report_of_case<'a, R: Threads + Sync, F: Shelf>(
+    rt: &R,
+    alloc: Global,
+    shelf: &mut F,
+    case: &mut Case,
+    names: &[&'a str],
+) -> Result<Name, Stop<'a>>
+    requires { case.old.logs ≡ [] }
+    ensures told { (held : List File) (r : Request) (d : DesignOfFiles) → case.old.test ≡ d.test → case.old.design ≡ r.design → case.old.die ≡ r.die
+        → map (λ name. name.now) names.now ≡ r.logs → F.files shelf.old ≡ Some held → Follows result (with_design held r d) }
+    ensures fault { ends_by_fault result ≡ true → Rose (F.faults shelf.old) (F.faults shelf.new) }
+    ensures later { F.faults shelf.old ≤ F.faults shelf.new }
+{
+    add_logs(alloc, shelf, case, names)?;
+    let report = case_report(rt, alloc, case)?;
+    Ok(report.into_text())
+}
 
 // The report of the logs of a command, over its design.
 fn report_over<'a, R: Threads + Sync, F: Shelf>(
@@ -36,9 +56,7 @@ fn report_over<'a, R: Threads + Sync, F: Shelf>(
 {
     let (design, die) = (command.design.as_bytes(), command.die.as_bytes());
     let mut case = Case::make(alloc, design, die, read.into_parts())?;
-    add_logs(alloc, shelf, &mut case, command.logs.as_slice())?;
-    let report = case_report(rt, alloc, &case)?;
-    Ok(report.into_text())
+    report_of_case(rt, alloc, shelf, &mut case, command.logs.as_slice())
 }
 
 /// The report of the files of these names.
