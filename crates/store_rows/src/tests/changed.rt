@@ -5,18 +5,25 @@ ghost use Rattle.std.specs.Prelude.{◌≡◌, None};
 use super::stores::{Trial, is_made, is_shown};
 use book::{Book, NotStarted, StartFault};
 use desk_outside::{Cabinet, KeepFault, Keeper};
-use sqlite::Connection;
+use sqlite::{Connection, File, FileStore};
 use std::alloc::Global;
 use std::thread::Threads;
+
+fn executes(conn: &mut Connection<FileStore<File>>, statement: &str) -> bool {
+    conn.execute_batch(statement).is_ok()
+}
+
+fn closes(conn: Connection<FileStore<File>>) -> bool {
+    conn.close().is_ok()
+}
 
 // Changes the store of this name by a statement.
 fn change(rt: &HostRuntime, name: &str, statement: &str) -> bool {
     let Ok(mut conn) = Connection::open(rt, name) else {
         return false;
     };
-    let changed = conn.execute_batch(statement).is_ok();
-    let closed = conn.close().is_ok();
-    changed && closed
+    let changed = executes(&mut conn, statement);
+    closes(conn) && changed
 }
 
 fn is_fault<K: Keeper>(keeper: &mut K, row: u64) -> bool {

@@ -1,7 +1,7 @@
 //! Deeds that come back from their file.
 ghost use Rattle.std.specs.Prelude.{◌≡◌, None};
 
-use super::deeds::{C17, DIGEST, FAILS, is_design, is_log, is_sign};
+use super::deeds::{FAILS, c17, digest, is_design, is_log, is_sign};
 use super::stores::{Trial, is_made, is_shown};
 use book::Book;
 use desk_outside::{Cabinet, KeepFault, Keeper};
@@ -9,7 +9,7 @@ use std::alloc::Global;
 use std::thread::Threads;
 
 fn has_design<K: Keeper>(keeper: &mut K) -> bool {
-    matches!(&keeper.row(0), Ok(Some(deed)) if is_design(deed, 3, b"c17", C17))
+    matches!(&keeper.row(0), Ok(Some(deed)) if is_design(deed, 3, b"c17", c17()))
 }
 
 fn has_log<K: Keeper>(keeper: &mut K) -> bool {
@@ -17,7 +17,7 @@ fn has_log<K: Keeper>(keeper: &mut K) -> bool {
 }
 
 fn has_sign<K: Keeper>(keeper: &mut K) -> bool {
-    matches!(&keeper.row(2), Ok(Some(deed)) if is_sign(deed, 4294967295, 1, b"anna", &DIGEST))
+    matches!(&keeper.row(2), Ok(Some(deed)) if is_sign(deed, 4294967295, 1, b"anna", digest()))
 }
 
 // The row is past the end.
