@@ -1,7 +1,7 @@
 //! Bundles that are read.
 use super::texts::{NETLIST, joined};
 use diagnosis::{BundleFault, Design, Section, read_bundle};
-use scan_model::NoMemory;
+use scan_model::{Name, NoMemory};
 use std::alloc::Global;
 use text_parts::TextFault;
 
@@ -12,9 +12,17 @@ fn is_of(design: &Design, bundle: &[u8]) -> bool {
         && design.parts().patterns().len() == 1
 }
 
+fn bundle(alloc: Global) -> Result<Name, NoMemory> {
+    let parts: &[&[u8]] = &[
+        NETLIST,
+        b"%scan\n",
+        b"%patterns\r\nCAPTURE 11111\n%neighbours\n",
+    ];
+    joined(alloc, parts)
+}
+
 fn is_read(alloc: Global) -> Result<bool, NoMemory> {
-    let rest: &[u8] = b"%patterns\r\nCAPTURE 11111\n%neighbours\n";
-    let bundle = joined(alloc, &[NETLIST, b"%scan\n", rest])?;
+    let bundle = bundle(alloc)?;
     let read = read_bundle(alloc, b"c17", bundle.as_slice());
     Ok(matches!(&read, Ok(design) if is_of(design, bundle.as_slice())))
 }
@@ -34,9 +42,13 @@ fn is_missing(fault: &BundleFault) -> bool {
     }
 }
 
+fn bundle_without_scan(alloc: Global) -> Result<Name, NoMemory> {
+    let parts: &[&[u8]] = &[NETLIST, b"%patterns\nCAPTURE 11111\n%neighbours\n"];
+    joined(alloc, parts)
+}
+
 fn misses_a_section(alloc: Global) -> Result<bool, NoMemory> {
-    let rest: &[u8] = b"%patterns\nCAPTURE 11111\n%neighbours\n";
-    let bundle = joined(alloc, &[NETLIST, rest])?;
+    let bundle = bundle_without_scan(alloc)?;
     let read = read_bundle(alloc, b"c17", bundle.as_slice());
     Ok(matches!(&read, Err(fault) if is_missing(fault)))
 }

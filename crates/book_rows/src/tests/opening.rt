@@ -1,6 +1,6 @@
 //! Books that are opened from kept rows.
 use super::changes::{FAILS, PASSES, keeper_failing};
-use super::signing::RIGHT;
+use super::signing::right;
 use super::texts::{NETLIST, joined};
 use book::{Book, NotStarted, StartFault};
 use desk_outside::{Deed, DeedKind, Keeper, MemKeeper};
@@ -23,25 +23,24 @@ fn log(alloc: Global, design: &[u8], die: &[u8], text: &[u8]) -> Result<DeedKind
     })
 }
 
-fn sign(
-    alloc: Global,
-    revision: u64,
-    signer: &[u8],
-    digest: [u8; 32],
-) -> Result<DeedKind, NoMemory> {
+fn sign(alloc: Global, revision: u64, signer: &[u8], digest: Digest) -> Result<DeedKind, NoMemory> {
     Ok(DeedKind::Sign {
         design: Name::copy_of(alloc, b"c17")?,
         die: Name::copy_of(alloc, b"D1")?,
         revision,
         signer: Name::copy_of(alloc, signer)?,
-        digest: Digest::from_bytes(digest),
+        digest,
     })
+}
+
+fn bundle(alloc: Global) -> Result<Name, NoMemory> {
+    let parts: &[&[u8]] = &[NETLIST, b"%scan\n%patterns\nCAPTURE 11111\n%neighbours\n"];
+    joined(alloc, parts)
 }
 
 // The design of c17 under this name.
 fn c17(alloc: Global, name: &[u8]) -> Result<DeedKind, NoMemory> {
-    let rest: &[u8] = b"%scan\n%patterns\nCAPTURE 11111\n%neighbours\n";
-    let bundle = joined(alloc, &[NETLIST, rest])?;
+    let bundle = bundle(alloc)?;
     design(alloc, name, bundle.as_slice())
 }
 
@@ -55,11 +54,11 @@ fn kind(alloc: Global, letter: u8) -> Result<DeedKind, NoMemory> {
         b'P' => log(alloc, b"c17", b"D1", PASSES),
         b'U' => log(alloc, b"c18", b"D1", FAILS),
         b'X' => log(alloc, b"c17", b"other", FAILS),
-        b'S' => sign(alloc, 1, b"ann", RIGHT),
-        b'W' => sign(alloc, 1, b"ann", [0; 32]),
-        b'0' => sign(alloc, 0, b"ann", RIGHT),
-        b'2' => sign(alloc, 2, b"ann", RIGHT),
-        _ => sign(alloc, 1, b"", RIGHT),
+        b'S' => sign(alloc, 1, b"ann", right()),
+        b'W' => sign(alloc, 1, b"ann", Digest::from_bytes([0; 32])),
+        b'0' => sign(alloc, 0, b"ann", right()),
+        b'2' => sign(alloc, 2, b"ann", right()),
+        _ => sign(alloc, 1, b"", right()),
     }
 }
 

@@ -1,16 +1,49 @@
 //! Sign-offs.
+ghost use Rattle.std.specs.Prelude.{◌<◌, length};
+ghost use Rattle.book.specs.Changes.{IsViewIn};
+
 use super::changes::{FAILS, PASSES, creates_c17, creates_log, is_created, is_same, opened};
-use book::{Book, LookFault, Put, PutFault, check_report};
+use book::{Book, Checked, DieView, LookFault, Put, PutFault, check_report};
 use desk_outside::MemKeeper;
 use scan_model::{Digest, Name, NoMemory};
 use std::alloc::Global;
 use std::thread::Threads;
 
 /// SHA-256 of the report of c17's die of which 22 fails.
-pub const RIGHT: [u8; 32] = [
+const RIGHT: [u8; 32] = [
     0xf8, 0xb6, 0x58, 0xff, 0x1c, 0x75, 0x35, 0xfc, 0xdb, 0x3e, 0x94, 0xbb, 0xc5, 0x99, 0x98, 0xac,
     0xa3, 0xc6, 0x39, 0xea, 0x60, 0xab, 0xb6, 0x00, 0xf8, 0x5c, 0x4b, 0x97, 0x4f, 0xf6, 0xae, 0x23,
 ];
+
+pub fn right() -> Digest {
+    Digest::from_bytes(RIGHT)
+}
+
+fn sign_checked(
+    alloc: Global,
+    book: &mut Book<MemKeeper>,
+    checked: &Checked,
+    digest: &Digest,
+) -> Result<Put, PutFault>
+    requires { IsViewIn book.old.deeds checked.now }
+{
+    let signer = Name::copy_of(alloc, b"ann")?;
+    book.sign(0, checked, &signer, digest)
+}
+
+fn sign_view<R: Threads + Sync>(
+    rt: &R,
+    alloc: Global,
+    book: &mut Book<MemKeeper>,
+    view: &DieView,
+    digest: &Digest,
+) -> Result<Put, PutFault>
+    requires logs { 0 < length view.now.logs }
+    requires view { IsViewIn book.old.deeds view.now }
+{
+    let checked = check_report(rt, alloc, view)?;
+    sign_checked(alloc, book, &checked, digest)
+}
 
 // Signs revision 1 of die D1.
 fn sign<R: Threads + Sync>(
@@ -25,18 +58,12 @@ fn sign<R: Threads + Sync>(
     if view.revision() == 0 {
         return Err(PutFault::UnknownDesign);
     }
-    let Ok(checked) = check_report(rt, alloc, &view) else {
-        return Err(PutFault::NoMemory);
-    };
-    let Ok(signer) = Name::copy_of(alloc, b"ann") else {
-        return Err(PutFault::NoMemory);
-    };
-    book.sign(0, &checked, &signer, digest)
+    sign_view(rt, alloc, book, &view, digest)
 }
 
 fn is_right(put: &Result<Put, PutFault>) -> bool {
     match put {
-        Err(PutFault::DigestDiffers { right }) => right.as_bytes() == &RIGHT,
+        Err(PutFault::DigestDiffers { right: told }) => told.as_bytes() == right().as_bytes(),
         _ => false,
     }
 }
@@ -44,7 +71,7 @@ fn is_right(put: &Result<Put, PutFault>) -> bool {
 // Whether sign-off 1 of die D1 is of revision 1 with the right digest.
 fn is_signed(book: &Book<MemKeeper>) -> bool {
     match book.look_sign(b"c17", b"D1", 1) {
-        Ok(sign) => sign.revision == 1 && sign.digest.as_bytes() == &RIGHT,
+        Ok(sign) => sign.revision == 1 && sign.digest.as_bytes() == right().as_bytes(),
         Err(_) => false,
     }
 }
@@ -54,11 +81,11 @@ fn refuses_wrong<R: Threads + Sync>(rt: &R, alloc: Global, book: &mut Book<MemKe
 }
 
 fn signs<R: Threads + Sync>(rt: &R, alloc: Global, book: &mut Book<MemKeeper>) -> bool {
-    is_created(&sign(rt, alloc, book, &Digest::from_bytes(RIGHT)), 1)
+    is_created(&sign(rt, alloc, book, &right()), 1)
 }
 
 fn knows_sign<R: Threads + Sync>(rt: &R, alloc: Global, book: &mut Book<MemKeeper>) -> bool {
-    is_same(&sign(rt, alloc, book, &Digest::from_bytes(RIGHT)), 1)
+    is_same(&sign(rt, alloc, book, &right()), 1)
 }
 
 // The wrong digest is refused with the right one, which is then taken, once for its revision whatever comes after it.
