@@ -13,8 +13,8 @@ ghost use Rattle.diag_report.specs.PredictedLog as log;
 ghost use Rattle.diag_report.specs.WordFails.{points_with_fails, word_bits};
 
 use crate::draft::{Draft, end_line, new_draft};
-use crate::lines::{bit_line, name_line, push_number};
-use fault_universe::fault_at;
+use crate::lines::{bit_line, name_line};
+use fault_universe::{fault_at, push_number};
 use packed_sim::{PackedGood, Scratch};
 use scan_model::{Bit, Fault, Name, NoMemory, Parts, Rows, Steps};
 use std::alloc::Global;

@@ -7,10 +7,8 @@ ghost use Rattle.diag_report.specs.LineEnds.{AddsLines};
 ghost use Rattle.diag_report.specs.Layout.{score_words};
 
 use crate::draft::{Draft, end_line};
-use fault_universe::{chain_name, fault_at, net_name, push_fault, push_word};
-use itoa::Buffer;
+use fault_universe::{chain_name, fault_at, net_name, push_fault, push_number, push_word};
 use scan_model::{Bit, Name, NoMemory, Parts, Point, Scored};
-use std::alloc::Global;
 
 /// Adds a line of a word and a name.
 pub(crate) fn name_line(draft: &mut Draft, word: &[u8], name: &[u8]) -> Result<(), NoMemory>
@@ -19,15 +17,6 @@ pub(crate) fn name_line(draft: &mut Draft, word: &[u8], name: &[u8]) -> Result<(
     draft.text.append(word)?;
     push_word(&mut draft.text, name)?;
     end_line(draft)
-}
-
-/// Adds a space and a number in decimal digits, which are made without memory of their own.
-pub(crate) fn push_number(line: &mut Name, number: u64) -> Result<(), NoMemory>
-    ensures { OnOk result (line.new ≡ line.old ++ 32 ∷ decimal number) }
-{
-    let mut buffer = Buffer::new();
-    let digits = buffer.format(number);
-    push_word(line, digits.as_bytes())
 }
 
 /// Adds a line of a word and a number.
@@ -97,7 +86,6 @@ fn push_scores(line: &mut Name, rank: u64, row: &Scored) -> Result<(), NoMemory>
 
 /// Adds the line of a candidate of a rank.
 pub(crate) fn candidate_line(
-    alloc: Global,
     draft: &mut Draft,
     parts: &Parts,
     rank: u64,
@@ -111,6 +99,6 @@ pub(crate) fn candidate_line(
     };
     push_scores(&mut draft.text, rank, row)?;
     draft.text.push(b' ')?;
-    push_fault(alloc, &mut draft.text, parts, &fault)?;
+    push_fault(&mut draft.text, parts, &fault)?;
     end_line(draft)
 }

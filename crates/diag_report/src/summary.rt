@@ -5,8 +5,8 @@ ghost use Rattle.diag_report.specs.LineEnds.{AddsLines};
 ghost use Rattle.diag_report.specs.Summary as summary;
 
 use crate::draft::{Draft, end_line, new_draft};
-use crate::lines::{number_line, push_number};
-use fault_universe::{net_name, push_word, universe_len};
+use crate::lines::number_line;
+use fault_universe::{net_name, push_number, push_word, universe_len};
 use scan_model::{Name, NoMemory, Pair, Parts};
 use std::alloc::Global;
 

@@ -59,17 +59,12 @@ fn bit_lines(draft: &mut Draft, parts: &Parts, word: &[u8], bits: &[Bit]) -> Res
     Ok(())
 }
 
-fn candidate_lines(
-    alloc: Global,
-    draft: &mut Draft,
-    parts: &Parts,
-    rows: &[Scored],
-) -> Result<(), NoMemory>
+fn candidate_lines(draft: &mut Draft, parts: &Parts, rows: &[Scored]) -> Result<(), NoMemory>
     requires { All (λ row. row.place < length (universe parts.now)) rows.now }
     ensures { OnOk result (AddsLines (map (text_of.candidate_line (universe parts.now) parts.now) (enumerate_from 1 rows.now)) draft.old draft.new) }
 {
     for i in 0..rows.len() {
-        candidate_line(alloc, draft, parts, i as u64 + 1, &rows[i])?;
+        candidate_line(draft, parts, i as u64 + 1, &rows[i])?;
     }
     Ok(())
 }
@@ -103,7 +98,7 @@ fn write_lines(
     totals(&mut draft, tally, rows.len() as u64)?;
     bit_lines(&mut draft, parts, b"conflict", tally.conflict.as_slice())?;
     bit_lines(&mut draft, parts, b"masked", tally.masked.as_slice())?;
-    candidate_lines(alloc, &mut draft, parts, rows)?;
+    candidate_lines(&mut draft, parts, rows)?;
     Ok(finished(draft))
 }
 

@@ -48,12 +48,7 @@ fn push_stem(line: &mut Name, parts: &Parts, net: u32, value: Stuck) -> Result<(
 }
 
 /// Adds where the branch at a pin leads.
-fn push_branch_end(
-    alloc: Global,
-    line: &mut Name,
-    parts: &Parts,
-    place: PinPlace,
-) -> Result<(), NoMemory>
+fn push_branch_end(line: &mut Name, parts: &Parts, place: PinPlace) -> Result<(), NoMemory>
     requires { IsPlaceOf (length parts.now.netlist.nets) place }
     ensures { OnOk result (line.new ≡ line.old ++ after_spaces (text_of.branch_words parts.now place)) }
 {
@@ -61,26 +56,20 @@ fn push_branch_end(
         PinPlace::Operand { net, index } => {
             push_word(line, b"to")?;
             push_word(line, net_name(parts, net))?;
-            push_number(alloc, line, u64::from(index) + 1)
+            push_number(line, u64::from(index) + 1)
         }
         PinPlace::Output { .. } => push_word(line, b"to-output"),
     }
 }
 
-fn push_branch(
-    alloc: Global,
-    line: &mut Name,
-    parts: &Parts,
-    pin: u32,
-    value: Stuck,
-) -> Result<(), NoMemory>
+fn push_branch(line: &mut Name, parts: &Parts, pin: u32, value: Stuck) -> Result<(), NoMemory>
     requires { pin < length parts.now.netlist.pins }
     ensures { OnOk result (line.new ≡ line.old ++ text_of.fault_text parts.now (fault.Branch pin value)) }
 {
     let branch = parts.circuit().pins().as_slice()[pin as usize];
     line.append(b"branch")?;
     push_word(line, net_name(parts, branch.net))?;
-    push_branch_end(alloc, line, parts, branch.place)?;
+    push_branch_end(line, parts, branch.place)?;
     push_word(line, stuck_word(value).as_bytes())
 }
 
@@ -102,7 +91,6 @@ fn push_bridge(
 }
 
 fn push_cell(
-    alloc: Global,
     line: &mut Name,
     parts: &Parts,
     chain: u32,
@@ -114,25 +102,20 @@ fn push_cell(
 {
     line.append(b"cell")?;
     push_word(line, chain_name(parts, chain))?;
-    push_number(alloc, line, u64::from(pos))?;
+    push_number(line, u64::from(pos))?;
     push_word(line, cell_word(kind).as_bytes())
 }
 
 /// Adds the text of a fault at the end of a line.
-pub fn push_fault(
-    alloc: Global,
-    line: &mut Name,
-    parts: &Parts,
-    fault: &Fault,
-) -> Result<(), NoMemory>
+pub fn push_fault(line: &mut Name, parts: &Parts, fault: &Fault) -> Result<(), NoMemory>
     requires { HasSite parts.now fault.now }
     ensures { OnOk result (line.new ≡ line.old ++ text_of.fault_text parts.now fault.now) }
 {
     match *fault {
         Fault::Stem { net, value } => push_stem(line, parts, net, value),
-        Fault::Branch { pin, value } => push_branch(alloc, line, parts, pin, value),
+        Fault::Branch { pin, value } => push_branch(line, parts, pin, value),
         Fault::Bridge { a, b, kind } => push_bridge(line, parts, a, b, kind),
-        Fault::Cell { chain, pos, kind } => push_cell(alloc, line, parts, chain, pos, kind),
+        Fault::Cell { chain, pos, kind } => push_cell(line, parts, chain, pos, kind),
     }
 }
 
@@ -142,6 +125,6 @@ pub fn fault_text(alloc: Global, parts: &Parts, fault: &Fault) -> Result<Name, N
     ensures { IfOk result (λ text. text ≡ text_of.fault_text parts.now fault.now) }
 {
     let mut text = Rows::new(alloc);
-    push_fault(alloc, &mut text, parts, fault)?;
+    push_fault(&mut text, parts, fault)?;
     Ok(text)
 }

@@ -1,8 +1,8 @@
 ghost use Rattle.std.specs.Prelude.{◌≡◌, ◌++◌, ◌∷◌, ◌<◌, length, decimal, OnOk};
 ghost use Rattle.scan_model.specs.ScanTest.{name_of, chain_at};
 
+use itoa::Buffer;
 use scan_model::{Name, NoMemory, Parts};
-use std::alloc::Global;
 
 /// The name of a net.
 pub fn net_name(parts: &Parts, net: u32) -> &[u8]
@@ -30,10 +30,11 @@ pub fn push_word(line: &mut Name, word: &[u8]) -> Result<(), NoMemory>
     line.append(word)
 }
 
-/// Adds a space and a number in decimal digits.
-pub fn push_number(alloc: Global, line: &mut Name, number: u64) -> Result<(), NoMemory>
+/// Adds a space and a number in decimal digits, which are made without memory of their own.
+pub fn push_number(line: &mut Name, number: u64) -> Result<(), NoMemory>
     ensures { OnOk result (line.new ≡ line.old ++ 32 ∷ decimal number) }
 {
-    let digits = format!(in alloc; "{number}")?;
+    let mut buffer = Buffer::new();
+    let digits = buffer.format(number);
     push_word(line, digits.as_bytes())
 }

@@ -56,7 +56,7 @@ pub fn add_injected(
     };
     let words = format!(in alloc; "injected {place} ")?;
     text.append(words.as_bytes())?;
-    push_fault(alloc, text, parts, &fault)?;
+    push_fault(text, parts, &fault)?;
     text.push(b'\n')
 }
 
