@@ -35,6 +35,23 @@ pub enum DeedKind {
     },
 }
 
+// Copies of two names.
+fn copy_both(alloc: Global, first: &Name, second: &Name) -> Result<(Name, Name), NoMemory>
+    ensures { IfOk result (λ both. (both.0 ≡ first.now) × (both.1 ≡ second.now)) }
+{
+    let first = Name::copy_of(alloc, first.as_slice())?;
+    let second = Name::copy_of(alloc, second.as_slice())?;
+    Ok((first, second))
+}
+
+fn copy_of_log(alloc: Global, design: &Name, die: &Name, text: &Name) -> Result<DeedKind, NoMemory>
+    ensures { IfOk result (λ what. what ≡ DeedKind.Log design.now die.now text.now) }
+{
+    let (design, die) = copy_both(alloc, design, die)?;
+    let text = Name::copy_of(alloc, text.as_slice())?;
+    Ok(DeedKind::Log { design, die, text })
+}
+
 fn copy_of_sign(
     alloc: Global,
     design: &Name,
@@ -45,11 +62,13 @@ fn copy_of_sign(
 ) -> Result<DeedKind, NoMemory>
     ensures { IfOk result (λ what. what ≡ DeedKind.Sign design.now die.now revision signer.now digest) }
 {
+    let (design, die) = copy_both(alloc, design, die)?;
+    let signer = Name::copy_of(alloc, signer.as_slice())?;
     Ok(DeedKind::Sign {
-        design: Name::copy_of(alloc, design.as_slice())?,
-        die: Name::copy_of(alloc, die.as_slice())?,
+        design,
+        die,
         revision,
-        signer: Name::copy_of(alloc, signer.as_slice())?,
+        signer,
         digest,
     })
 }
@@ -62,15 +81,11 @@ impl DeedKind {
         ensures { IfOk result (λ what. what ≡ self.now) }
     {
         match self {
-            DeedKind::Design { name, text } => Ok(DeedKind::Design {
-                name: Name::copy_of(alloc, name.as_slice())?,
-                text: Name::copy_of(alloc, text.as_slice())?,
-            }),
-            DeedKind::Log { design, die, text } => Ok(DeedKind::Log {
-                design: Name::copy_of(alloc, design.as_slice())?,
-                die: Name::copy_of(alloc, die.as_slice())?,
-                text: Name::copy_of(alloc, text.as_slice())?,
-            }),
+            DeedKind::Design { name, text } => {
+                let (name, text) = copy_both(alloc, name, text)?;
+                Ok(DeedKind::Design { name, text })
+            }
+            DeedKind::Log { design, die, text } => copy_of_log(alloc, design, die, text),
             DeedKind::Sign {
                 design,
                 die,

@@ -9,6 +9,7 @@ ghost use Rattle.desk_outside.specs.declared.keeper.KeepFault.{KeepFault};
 
 use crate::cabinet::{Cabinet, KeeperGiven, KeeperHome};
 use crate::calls::Calls;
+use crate::deed::Deed;
 use crate::keeper::{KeepFault, MemKeeper};
 use scan_model::{Name, NoMemory, Rows};
 use std::alloc::Global;
@@ -25,6 +26,46 @@ pub struct MemCabinet {
     calls: Calls,
     ghost room: { vec_len home + out ≤ vec_capacity home },
     ghost unfailed: { All HasNotFailed keepers.items },
+}
+
+// Notes a keeper that is handed out by this name with these deeds.
+fn note(
+    alloc: Global,
+    name: &str,
+    rows: Rows<Deed>,
+    given: &mut Vec<KeeperGiven>,
+) -> Result<(), NoMemory>
+    ensures ok { OnOk result (given.new.items ≡ given.old.items ++ record { name = name.now; rows = rows } ∷ []) }
+    ensures err { OnErr result (given.new.items ≡ given.old.items) }
+{
+    let name = Name::copy_of(alloc, name.as_bytes())?;
+    given.push(KeeperGiven { name, rows })?;
+    Ok(())
+}
+
+// Takes out the next keeper, or makes one without deeds after the last, and notes its name and its deeds.
+fn next_keeper(
+    alloc: Global,
+    name: &str,
+    keepers: &mut Vec<MemKeeper>,
+    given: &mut Vec<KeeperGiven>,
+) -> Result<MemKeeper, NoMemory>
+    requires unfailed { All HasNotFailed keepers.old.items }
+    ensures unfailed { IfOk result HasNotFailed }
+    ensures in_order { IfOk result (λ keeper. 0 < length keepers.old.items → keepers.old.items ≡ keeper ∷ keepers.new.items) }
+    ensures after_last { IfOk result (λ keeper. keepers.old.items ≡ [] → IsEmptyKeeper keeper × (keepers.new.items ≡ [])) }
+    ensures kept { OnErr result (keepers.new.items ≡ keepers.old.items) }
+    ensures others { All HasNotFailed keepers.new.items }
+    ensures given { IfOk result (λ keeper. given.new.items ≡ given.old.items ++ record { name = name.now; rows = keeper_rows keeper } ∷ []) }
+    ensures same { OnErr result (given.new.items ≡ given.old.items) }
+{
+    if keepers.is_empty() {
+        note(alloc, name, Rows::new(alloc), given)?;
+        return MemKeeper::make(alloc, Rows::new(alloc));
+    }
+    let rows = keepers[0].copy_rows()?;
+    note(alloc, name, rows, given)?;
+    Ok(keepers.remove(0))
 }
 
 // Hands out the next keeper, notes its name and its deeds, and takes the room for its coming home.
@@ -50,15 +91,7 @@ fn hand_out(
     ensures more_room { OnOk result (vec_len home.new + out + 1 ≤ vec_capacity home.new) }
 {
     home.reserve(out + 1)?;
-    let name = Name::copy_of(alloc, name.as_bytes())?;
-    if keepers.is_empty() {
-        let rows = Rows::new(alloc);
-        given.push(KeeperGiven { name, rows })?;
-        return MemKeeper::make(alloc, Rows::new(alloc));
-    }
-    let rows = keepers[0].copy_rows()?;
-    given.push(KeeperGiven { name, rows })?;
-    Ok(keepers.remove(0))
+    next_keeper(alloc, name, keepers, given)
 }
 
 impl MemCabinet {

@@ -26,6 +26,30 @@ pub struct MemDoor {
     ghost unused: { All IsUnusedLink links.items },
 }
 
+// Takes out the next connection, or makes one with nothing left after the last, and notes what it has left.
+fn next_link(
+    alloc: Global,
+    links: &mut Vec<MemLink>,
+    given: &mut Vec<Name>,
+) -> Result<MemLink, NoMemory>
+    requires unused { All IsUnusedLink links.old.items }
+    ensures unused { IfOk result IsUnusedLink }
+    ensures in_order { IfOk result (λ link. 0 < length links.old.items → links.old.items ≡ link ∷ links.new.items) }
+    ensures after_last { IfOk result (λ link. links.old.items ≡ [] → IsEmptyLink link × (links.new.items ≡ [])) }
+    ensures kept { OnErr result (links.new.items ≡ links.old.items) }
+    ensures others { All IsUnusedLink links.new.items }
+    ensures given { IfOk result (λ link. given.new.items ≡ given.old.items ++ link_left link ∷ []) }
+    ensures same { OnErr result (given.new.items ≡ given.old.items) }
+{
+    if links.is_empty() {
+        given.push(Rows::new(alloc))?;
+        return Ok(MemLink::empty(alloc));
+    }
+    let left = links[0].copy_left(alloc)?;
+    given.push(left)?;
+    Ok(links.remove(0))
+}
+
 // Hands out the next connection, notes what it has left, and takes the room for its coming home.
 fn hand_out(
     alloc: Global,
@@ -48,13 +72,7 @@ fn hand_out(
     ensures more_room { OnOk result (vec_len done.new + out + 1 ≤ vec_capacity done.new) }
 {
     done.reserve(out + 1)?;
-    if links.is_empty() {
-        given.push(Rows::new(alloc))?;
-        return Ok(MemLink::empty(alloc));
-    }
-    let left = links[0].copy_left(alloc)?;
-    given.push(left)?;
-    Ok(links.remove(0))
+    next_link(alloc, links, given)
 }
 
 impl MemDoor {

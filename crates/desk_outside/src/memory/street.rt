@@ -26,6 +26,20 @@ pub struct MemStreet {
     ghost unused: { All IsUnusedDoor doors.items },
 }
 
+// Takes out the next door, or makes one without links after the last.
+fn next_door(alloc: Global, doors: &mut Vec<MemDoor>) -> MemDoor
+    requires unused { All IsUnusedDoor doors.old.items }
+    ensures unused { IsUnusedDoor result }
+    ensures in_order { 0 < length doors.old.items → doors.old.items ≡ result ∷ doors.new.items }
+    ensures after_last { doors.old.items ≡ [] → IsEmptyDoor result × (doors.new.items ≡ []) }
+    ensures others { All IsUnusedDoor doors.new.items }
+{
+    if doors.is_empty() {
+        return MemDoor::empty(alloc);
+    }
+    doors.remove(0)
+}
+
 // Hands out the next door, notes its port, and takes the room for its coming home.
 fn hand_out(
     alloc: Global,
@@ -50,10 +64,7 @@ fn hand_out(
 {
     home.reserve(out + 1)?;
     ports.push(port)?;
-    if doors.is_empty() {
-        return Ok(MemDoor::empty(alloc));
-    }
-    Ok(doors.remove(0))
+    Ok(next_door(alloc, doors))
 }
 
 impl MemStreet {
