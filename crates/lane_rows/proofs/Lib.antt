@@ -13,3 +13,4 @@ pub mod SortedGroups
 pub mod RenamedGroups
 pub mod Once
 pub mod Sinks
+pub mod Written
