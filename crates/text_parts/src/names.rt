@@ -1,8 +1,8 @@
-ghost use Rattle.std.specs.Prelude.{◌≡◌, ◌≢◌, ◌≤◌, ℕ, [], ◌∷◌, ◌++◌, length, take, position, OnOk, OnErr, IfOk, Ok, true, false, not};
+ghost use Rattle.std.specs.Prelude.{◌≡◌, ◌≢◌, ◌≤◌, ℕ, List, [], ◌∷◌, ◌++◌, length, take, position, unwrap_or, OnOk, OnErr, IfOk, Ok, true, false, not};
 ghost use Rattle.std.specs.List.{list_any, position_or_len};
 ghost use Rattle.std.specs.Str.{bytes_eq};
 ghost use Rattle.scan_model.specs.ScanText.{net_names, stands_again};
-ghost use Rattle.text_parts.specs.Views.{nows, before_repeat};
+ghost use Rattle.text_parts.specs.Views.{nows, before_repeat, Places};
 
 use crate::key::Key;
 use scan_model::Net;
@@ -27,6 +27,21 @@ impl<'a> Model for Names<'a> {
     ghost view = { λ a. nows a.list.items };
 
     ghost invariant = { λ a. Places (nows a.list.items) a.places };
+}
+
+// The place of the first of the names that equals this one; where none does, it gets the next place.
+fn place_in<'a>(
+    places: &mut HashMap<Key<'a>, usize>,
+    name: &'a [u8],
+    next: usize,
+) -> Result<usize, AllocError>
+    ensures place { (names : List (List ℕ)) → Places names places.old → length names ≡ next → IfOk result (λ place. place ≡ unwrap_or (position (bytes_eq name.now) names) (length names)) }
+    ensures kept { (names : List (List ℕ)) → Places names places.old → length names ≡ next → IfOk result (λ place. place ≢ next → Places names places.new) }
+    ensures added { (names : List (List ℕ)) → Places names places.old → length names ≡ next → OnOk result (Places (names ++ name.now ∷ []) places.new) }
+    ensures same { (names : List (List ℕ)) → Places names places.old → OnErr result (Places names places.new) }
+{
+    let place = *places.entry(Key { bytes: name })?.or_insert(next);
+    Ok(place)
 }
 
 impl<'a> Names<'a> {
@@ -119,7 +134,7 @@ impl<'a> Names<'a> {
     {
         self.list.reserve(1)?;
         let next = self.list.len();
-        let place = *self.places.entry(Key { bytes: name })?.or_insert(next);
+        let place = place_in(&mut self.places, name, next)?;
         if place != next {
             return Ok(false);
         }
@@ -134,7 +149,7 @@ impl<'a> Names<'a> {
     {
         self.list.reserve(1)?;
         let next = self.list.len();
-        self.places.entry(Key { bytes: name })?.or_insert(next);
+        place_in(&mut self.places, name, next)?;
         self.list.push_reserved(name);
         Ok(())
     }
