@@ -1,5 +1,6 @@
-ghost use Rattle.std.specs.Prelude.{◌≡◌, ◌≤◌, length, IfOk};
-ghost use Rattle.scan_model.specs.ScanTest.{scan_test, points_of, IsScanTest};
+ghost use Rattle.std.specs.Prelude.{◌≡◌, ◌≤◌, ◌<◌, ◌^◌, ◌++◌, map, flat_map, length, IfOk};
+ghost use Rattle.std.specs.List.{range_with_len};
+ghost use Rattle.scan_model.specs.ScanTest.{scan_test, points_of, cycle, longest, IsScanTest};
 ghost use Rattle.scan_model.specs.PairIndex.{IsPairIndex};
 
 use crate::circuit::Circuit;
@@ -73,6 +74,25 @@ impl Model for Parts {
     ghost invariant = { λ p. IsSoundTest (scan_test p.circuit p.chains p.patterns p.pairs) p.points × IsPairIndex p.pairs.kept p.pair_index };
 }
 
+/// The points in test order, and the places of the kept pairs.
+fn points_and_index(
+    alloc: Global,
+    outputs: usize,
+    chains: &[Chain],
+    kept: &[Pair],
+) -> Result<(Rows<Point>, Rows<PairPlace>), NoMemory>
+    requires outputs { outputs < 2 ^ 32 }
+    requires chains { length chains.now ≤ 256 }
+    requires cells { longest chains.now ≤ 65536 }
+    requires kept { length kept.now ≤ 65536 }
+    ensures points { IfOk result (λ both. both.0 ≡ map Point.Output (range_with_len 0 outputs) ++ flat_map (λ number. cycle number 0 chains.now) (range_with_len 0 (longest chains.now))) }
+    ensures index { IfOk result (λ both. IsPairIndex kept.now both.1) }
+{
+    let points = points_in_order(alloc, outputs, chains)?;
+    let index = pair_index(alloc, kept)?;
+    Ok((points, index))
+}
+
 impl Parts {
     /// The parts of four lists that fit each other, with their points in test order.
     pub fn make(
@@ -85,8 +105,13 @@ impl Parts {
         requires { IsScanTest (scan_test circuit chains patterns pairs) }
         ensures { IfOk result (λ p. p ≡ scan_test circuit chains patterns pairs) }
     {
-        let points = points_in_order(alloc, circuit.outputs().len(), chains.as_slice())?;
-        let pair_index = pair_index(alloc, pairs.kept.as_slice())?;
+        let outputs = circuit.outputs().len();
+        let (points, pair_index) = points_and_index(
+            alloc,
+            outputs,
+            chains.as_slice(),
+            pairs.kept.as_slice(),
+        )?;
         Ok(Parts {
             circuit,
             chains,
