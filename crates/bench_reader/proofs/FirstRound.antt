@@ -10,7 +10,7 @@ use Rattle.std.proofs.lemmas.List.{map_more, length-map, get_or-map, take_all, l
 use Rattle.std.proofs.lemmas.List.Concat.{flat_map-append}
 use Rattle.std.proofs.lemmas.List.Elements.{filter-append, All-append, All-cons, All-nil}
 use Rattle.std.proofs.lemmas.Grind.{fold-append}
-use Rattle.scan_model.specs.Lines.{line_at, text_lines, has_refused_byte}
+use Rattle.scan_model.specs.Lines.{line_at, has_refused_byte}
 use Rattle.scan_model.specs.Words.{is_short, has_word}
 use Rattle.scan_model.specs.TextFaults.{lowest, fault_from, first_fault}
 use Rattle.scan_model.specs.NetlistLines.{Form, nothing, input, output, definition, no_form, form_of}
@@ -123,45 +123,45 @@ pub clean_none : AreClean []
 unfolding IsDistinct
 clean_none = record { counts = tt; differ = tt; short = All-nil (λ n. length n ≤ 64) }
 
-module _ (bytes : List ℕ) (items : List (Bor (List ℕ))) (i : ℕ) (d : Bor (List ℕ)) (kept : Lines)
-    (same : nows items ≡ text_lines bytes)
-    (so_far : fault_from (first_rule (text_lines bytes)) i (length (text_lines bytes) - i) ≡ first_fault (first_rule (text_lines bytes)) (length (text_lines bytes)))
-    (after : IsAfter kept (forms_of (take i (text_lines bytes)))) where
-  lines_length : length items ≡ length (text_lines bytes)
+module _ (ls : List (List ℕ)) (items : List (Bor (List ℕ))) (i : ℕ) (d : Bor (List ℕ)) (kept : Lines)
+    (same : nows items ≡ ls)
+    (so_far : fault_from (first_rule ls) i (length ls - i) ≡ first_fault (first_rule ls) (length ls))
+    (after : IsAfter kept (forms_of (take i ls))) where
+  lines_length : length items ≡ length ls
   lines_length = sym (length-map items (λ x. x.now)) ∙ ap length same
 
-  line_is : i < length items → (get_or items i d).now ≡ line_at (text_lines bytes) i
-  line_is lt = sym (get_or-map (λ x. x.now) items i d [] lt) ∙ ap (λ ls. line_at ls i) same
+  line_is : i < length items → (get_or items i d).now ≡ line_at ls i
+  line_is lt = sym (get_or-map (λ x. x.now) items i d [] lt) ∙ ap (λ ts. line_at ts i) same
 
-  rule_is : i < length items → lowest (first_rules kept.defined kept.outputs kept.pins (get_or items i d).now) ≡ first_rule (text_lines bytes) i
+  rule_is : i < length items → lowest (first_rules kept.defined kept.outputs kept.pins (get_or items i d).now) ≡ first_rule ls i
   rule_is lt = rw (after.defined, after.outputs, after.pins, line_is lt) refl
 
   pub line_is_faulty : (r : ℕ) → i < length items → Some r ≡ lowest (first_rules kept.defined kept.outputs kept.pins (get_or items i d).now)
-      → first_fault (first_rule (text_lines bytes)) (length (text_lines bytes)) ≡ Some (i + 1, r)
+      → first_fault (first_rule ls) (length ls) ≡ Some (i + 1, r)
   line_is_faulty r lt some =
-      let lt' : i < length (text_lines bytes) = omega (arith, lines_length) in
-      fault_is_here (first_rule (text_lines bytes)) (length (text_lines bytes)) i _ r lt' (sym (some ∙ rule_is lt)) so_far
+      let lt' : i < length ls = omega (arith, lines_length) in
+      fault_is_here (first_rule ls) (length ls) i _ r lt' (sym (some ∙ rule_is lt)) so_far
 
   pub no_fault_more : i < length items → None ≡ lowest (first_rules kept.defined kept.outputs kept.pins (get_or items i d).now)
-      → fault_from (first_rule (text_lines bytes)) (i + 1) (length (text_lines bytes) - (i + 1)) ≡ first_fault (first_rule (text_lines bytes)) (length (text_lines bytes))
+      → fault_from (first_rule ls) (i + 1) (length ls - (i + 1)) ≡ first_fault (first_rule ls) (length ls)
   no_fault_more lt none =
-      let lt' : i < length (text_lines bytes) = omega (arith, lines_length) in
-      fault_goes_on (first_rule (text_lines bytes)) (length (text_lines bytes)) i _ lt' (sym (none ∙ rule_is lt)) so_far
+      let lt' : i < length ls = omega (arith, lines_length) in
+      fault_goes_on (first_rule ls) (length ls) i _ lt' (sym (none ∙ rule_is lt)) so_far
 
-  pub after_more : (new : Lines) → i < length items → Takes kept new (i + 1) (form_of (get_or items i d).now) → IsAfter new (forms_of (take (i + 1) (text_lines bytes)))
+  pub after_more : (new : Lines) → i < length items → Takes kept new (i + 1) (form_of (get_or items i d).now) → IsAfter new (forms_of (take (i + 1) ls))
   after_more new lt takes =
-      let lt' : i < length (text_lines bytes) = omega (arith, lines_length) in
-      let number : i + 1 ≡ 1 + length (forms_of (take i (text_lines bytes))) = omega (arith, length-map (take i (text_lines bytes)) form_of, length-take i (text_lines bytes)) in
-      rw (map_more form_of (text_lines bytes) i [] lt', ← line_is lt) (after_takes kept new (forms_of (take i (text_lines bytes))) _ (i + 1) number after takes)
+      let lt' : i < length ls = omega (arith, lines_length) in
+      let number : i + 1 ≡ 1 + length (forms_of (take i ls)) = omega (arith, length-map (take i ls) form_of, length-take i ls) in
+      rw (map_more form_of ls i [] lt', ← line_is lt) (after_takes kept new (forms_of (take i ls)) _ (i + 1) number after takes)
 
-  pub clean_after : i < length items → None ≡ lowest (first_rules kept.defined kept.outputs kept.pins (get_or items i d).now) → AreClean (forms_of (take i (text_lines bytes))) → AreClean (forms_of (take (i + 1) (text_lines bytes)))
+  pub clean_after : i < length items → None ≡ lowest (first_rules kept.defined kept.outputs kept.pins (get_or items i d).now) → AreClean (forms_of (take i ls)) → AreClean (forms_of (take (i + 1) ls))
   clean_after lt none clean =
-      let lt' : i < length (text_lines bytes) = omega (arith, lines_length) in
+      let lt' : i < length ls = omega (arith, lines_length) in
       let none' : lowest (first_rules kept.defined kept.outputs kept.pins (get_or items i d).now) ≡ None = sym none in
-      rw (map_more form_of (text_lines bytes) i [] lt', ← line_is lt) (clean_more (forms_of (take i (text_lines bytes))) kept.outputs kept.pins (get_or items i d).now clean (rw after.defined at none'))
+      rw (map_more form_of ls i [] lt', ← line_is lt) (clean_more (forms_of (take i ls)) kept.outputs kept.pins (get_or items i d).now clean (rw after.defined at none'))
 
   pub round_is_over : length items ≤ i
-      → (first_fault (first_rule (text_lines bytes)) (length (text_lines bytes)) ≡ None) × (take i (text_lines bytes) ≡ text_lines bytes)
+      → (first_fault (first_rule ls) (length ls) ≡ None) × (take i ls ≡ ls)
   round_is_over le =
-      let le' : length (text_lines bytes) ≤ i = omega (arith, lines_length) in
-      (fault_is_none (first_rule (text_lines bytes)) (length (text_lines bytes)) i _ le' so_far, take_all i (text_lines bytes) le')
+      let le' : length ls ≤ i = omega (arith, lines_length) in
+      (fault_is_none (first_rule ls) (length ls) i _ le' so_far, take_all i ls le')

@@ -10,7 +10,7 @@ ghost use Rattle.scan_model.specs.NetlistText.{net_number};
 ghost use Rattle.text_parts.specs.Views.{nows};
 ghost use Rattle.bench_reader.specs.Lines.{line_view};
 ghost use Rattle.bench_reader.specs.Kept.{forms_in, kept_views, lacks, uses_undefined, undefined_line, IsUndefined, IsWhole};
-ghost use Rattle.bench_reader.specs.Built.{operand_pin, IsNext, AddsInput, Adds, AreBuilt};
+ghost use Rattle.bench_reader.specs.Built.{operand_pin, IsNext, AddsInput, Adds, Remain, AreBuilt};
 
 use crate::driver::driver_named;
 use crate::first::Lines;
@@ -178,6 +178,24 @@ impl<'a> Built<'a> {
             _ => Ok(true),
         }
     }
+
+    // Adds all lines, up to the first that uses a net that no line defines.
+    fn add_lines(&mut self, alloc: Global, kept: &Lines<'a>) -> Result<(), ReadFault>
+        requires whole { IsWhole kept.now }
+        requires remain { Remain kept.now.defined self.old (forms_in (kept_views kept.now.lines.items)) (forms_in (kept_views kept.now.lines.items)) }
+        ensures fault { IfErr result (λ e. IsUndefined e (undefined_line kept.now)) }
+        ensures known { OnOk result (undefined_line kept.now ≡ None) }
+        ensures built { OnOk result (AreBuilt (forms_in (kept_views kept.now.lines.items)) self.new) }
+    {
+        for line in &kept.lines {
+            let is_known = self.add(alloc, &kept.defined, &line.line)?;
+            if !is_known {
+                let line = line.number;
+                return Err(ReadFault::Text(TextFault { line, rule: 7 }));
+            }
+        }
+        Ok(())
+    }
 }
 
 /// The lists of all lines, or the first line that uses a net that no line defines.
@@ -193,12 +211,6 @@ pub fn built_of<'a>(alloc: Global, kept: &Lines<'a>) -> Result<Built<'a>, ReadFa
         inputs: Rows::new(alloc),
         outputs: Names::new(alloc),
     };
-    for line in &kept.lines {
-        let is_known = built.add(alloc, &kept.defined, &line.line)?;
-        if !is_known {
-            let line = line.number;
-            return Err(ReadFault::Text(TextFault { line, rule: 7 }));
-        }
-    }
+    built.add_lines(alloc, kept)?;
     Ok(built)
 }

@@ -1,6 +1,6 @@
 //! The first round: each line by itself and after those before it.
 
-ghost use Rattle.std.specs.Prelude.{◌≡◌, ◌≤◌, ◌<◌, ◌+◌, ◌^◌, [], ◌∷◌, length, IfOk, OnOk, Ok, None, not, true, false};
+ghost use Rattle.std.specs.Prelude.{◌≡◌, ◌≤◌, ◌<◌, ◌+◌, ◌^◌, [], ◌∷◌, ◌++◌, length, IfOk, OnOk, Ok, None, not, true, false};
 ghost use Rattle.std.specs.List.{list_any};
 ghost use Rattle.scan_model.specs.Words.{is_short, has_word};
 ghost use Rattle.scan_model.specs.TextFaults.{lowest};
@@ -107,6 +107,18 @@ fn pins_made(outputs: &Names<'_>, line: &Line<'_>) -> usize
     }
 }
 
+// Adds the output that the line names; answers how many pins the line makes.
+fn add_output<'a>(outputs: &mut Names<'a>, line: &Line<'a>) -> Result<usize, AllocError>
+    ensures pins { IfOk result (λ n. n ≡ length (pins_of outputs.old (line_view line.now))) }
+    ensures added { OnOk result (outputs.new ≡ outputs.old ++ new_output outputs.old (line_view line.now)) }
+{
+    let made = pins_made(outputs, line);
+    if let Line::Output(n) = line {
+        outputs.add_if_new(n)?;
+    }
+    Ok(made)
+}
+
 fn nets_made(line: &Line<'_>) -> usize
     ensures { result ≡ length (nets_of (line_view line.now)) }
 {
@@ -204,12 +216,37 @@ impl<'a> Lines<'a> {
         if line.is_nothing() {
             return Ok(());
         }
-        self.pins += pins_made(&self.outputs, &line);
-        if let Line::Output(n) = &line {
-            self.outputs.add_if_new(n)?;
-        }
+        self.pins += add_output(&mut self.outputs, &line)?;
         self.lines.push(KeptLine { number, line })?;
         Ok(())
+    }
+
+    // Adds the net that the line of this number defines, or answers the lowest rule that the line breaks.
+    fn add_sound_nets(
+        &mut self,
+        number: u64,
+        bytes: &[u8],
+        line: &Line<'a>,
+    ) -> Result<Option<u32>, AllocError>
+        requires form { line_view line.now ≡ form_of bytes.now }
+        requires within { IsWithin self.old }
+        ensures rule { IfOk result (λ r. r ≡ lowest (first_rules self.old.defined self.old.outputs self.old.pins bytes.now)) }
+        ensures added { result ≡ Ok None → AddsNets self.old self.new number (nets_of (line_view line.now)) }
+        ensures nets { result ≡ Ok None → length self.old.defined + length (nets_of (line_view line.now)) ≤ net_limit }
+        ensures pins { result ≡ Ok None → self.old.pins + length (pins_of self.old.outputs (line_view line.now)) ≤ pin_limit }
+    {
+        if let Some(rule) = own_rule(bytes, line) {
+            return Ok(Some(rule));
+        }
+        // Told after rule 6, and found before the net is added.
+        let is_past = self.is_passed_by(line);
+        if !self.add_nets(number, line)? {
+            return Ok(Some(6));
+        }
+        if is_past {
+            return Ok(Some(9));
+        }
+        Ok(None)
     }
 
     /// Takes the line of this number, or answers the lowest rule that it breaks. After a rule no more lines are to come.
@@ -226,18 +263,10 @@ impl<'a> Lines<'a> {
         ensures within { result ≡ Ok None → IsWithin self.new }
     {
         let line = Line::of_bytes(alloc, tokens, bytes)?;
-        if let Some(rule) = own_rule(bytes, &line) {
-            return Ok(Some(rule));
+        let rule = self.add_sound_nets(number, bytes, &line)?;
+        if rule.is_none() {
+            self.add(number, line)?;
         }
-        // Told after rule 6, and found before the net is added.
-        let is_past = self.is_passed_by(&line);
-        if !self.add_nets(number, &line)? {
-            return Ok(Some(6));
-        }
-        if is_past {
-            return Ok(Some(9));
-        }
-        self.add(number, line)?;
-        Ok(None)
+        Ok(rule)
     }
 }

@@ -1,13 +1,14 @@
 //! The rounds over a whole netlist.
 
-ghost use Rattle.std.specs.Prelude.{◌≡◌, IfOk, length};
+ghost use Rattle.std.specs.Prelude.{◌≡◌, [], IfOk, OnOk, length};
 ghost use Rattle.scan_model.specs.Lines.{text_lines};
 ghost use Rattle.scan_model.specs.Netlist.{netlist};
 ghost use Rattle.scan_model.specs.TextFaults.{HasNoFault, IsFirstInRounds, first_fault, refused_or};
 ghost use Rattle.scan_model.specs.NetlistRules.{forms_of, first_rule, early_fault};
 ghost use Rattle.scan_model.specs.NetlistText.{circuit_of, netlist_breaks, netlist_rounds, netlist_reading};
 ghost use Rattle.text_parts.specs.Gives.{Gives, IfFault};
-ghost use Rattle.bench_reader.specs.Kept.{kept_views, filled_from};
+ghost use Rattle.text_parts.specs.Views.{nows};
+ghost use Rattle.bench_reader.specs.Kept.{kept_views, filled_from, IsAfter, IsWithin};
 ghost use Rattle.bench_reader.specs.Clean.{IsRead};
 
 use crate::build::{built_of, numbers_of};
@@ -16,13 +17,13 @@ use scan_model::{Circuit, MakeFault, Net, Pin, Rows};
 use std::alloc::Global;
 use text_parts::{ReadFault, TextFault, lines_of};
 
-// The lines of a netlist that are not empty, or its first fault by the first round.
-fn first_round(alloc: Global, bytes: &[u8]) -> Result<Lines<'_>, ReadFault>
-    ensures fault { Gives (λ kept. kept_views kept.lines.items) result (refused_or (first_fault (first_rule (text_lines bytes.now)) (length (text_lines bytes.now))) (filled_from 1 (forms_of (text_lines bytes.now)))) }
-    ensures read { IfOk result (λ kept. IsRead kept (forms_of (text_lines bytes.now))) }
+// Takes the lines of a netlist, up to its first fault by the first round.
+fn take_lines<'a>(alloc: Global, kept: &mut Lines<'a>, texts: &[&'a [u8]]) -> Result<(), ReadFault>
+    requires within { IsWithin kept.old }
+    requires after { IsAfter kept.old [] }
+    ensures fault { Gives (λ done. kept_views kept.new.lines.items) result (refused_or (first_fault (first_rule (nows texts.now)) (length (nows texts.now))) (filled_from 1 (forms_of (nows texts.now)))) }
+    ensures read { OnOk result (IsRead kept.new (forms_of (nows texts.now))) }
 {
-    let texts = lines_of(alloc, bytes)?;
-    let mut kept = Lines::new(alloc, texts.len())?;
     let mut tokens = Vec::new(alloc);
     for (i, text) in texts.iter().enumerate() {
         let line = i as u64 + 1;
@@ -30,6 +31,17 @@ fn first_round(alloc: Global, bytes: &[u8]) -> Result<Lines<'_>, ReadFault>
             return Err(ReadFault::Text(TextFault { line, rule }));
         }
     }
+    Ok(())
+}
+
+// The lines of a netlist that are not empty, or its first fault by the first round.
+fn first_round(alloc: Global, bytes: &[u8]) -> Result<Lines<'_>, ReadFault>
+    ensures fault { Gives (λ kept. kept_views kept.lines.items) result (refused_or (first_fault (first_rule (text_lines bytes.now)) (length (text_lines bytes.now))) (filled_from 1 (forms_of (text_lines bytes.now)))) }
+    ensures read { IfOk result (λ kept. IsRead kept (forms_of (text_lines bytes.now))) }
+{
+    let texts = lines_of(alloc, bytes)?;
+    let mut kept = Lines::new(alloc, texts.len())?;
+    take_lines(alloc, &mut kept, &texts)?;
     Ok(kept)
 }
 

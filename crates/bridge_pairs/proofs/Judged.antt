@@ -1,5 +1,5 @@
 -- A list's fault is the first by the rules that its records break.
-use Rattle.std.proofs.Common.{◌≡◌, ℕ, List, length, Result, refl}
+use Rattle.std.proofs.Common.{ℕ, List, length, Result, refl}
 use Rattle.std.specs.Prelude.{IfOk}
 use Rattle.scan_model.specs.declared.parts.Pair.{Pair}
 use Rattle.scan_model.specs.TextFaults.{HasNoFault, IsFirstFault}

@@ -1,5 +1,5 @@
 -- A log's fault is the first by the rules that its lines break.
-use Rattle.std.proofs.Common.{◌≡◌, ℕ, ◌+◌, List, length, Result}
+use Rattle.std.proofs.Common.{ℕ, ◌+◌, List, length, Result}
 use Rattle.std.specs.Prelude.{IfOk}
 use Rattle.scan_model.specs.declared.logs.LogFacts.{LogFacts}
 use Rattle.scan_model.specs.Lines.{text_lines}

@@ -4,10 +4,10 @@ use Rattle.std.proofs.lemmas.Bool.Decides.{nat_tests}
 use Rattle.std.specs.List.{list_any}
 use Rattle.std.proofs.lemmas.List.Folds.{list_any-append}
 use Rattle.std.proofs.lemmas.List.{take_more, map_push, length-map, get_or-map, take_all}
-use Rattle.scan_model.specs.Lines.{line_at, text_lines}
+use Rattle.scan_model.specs.Lines.{line_at}
 use Rattle.scan_model.specs.Words.{words, word_lines, has_words}
-use Rattle.scan_model.specs.TextFaults.{lowest, fault_from, refused_or}
-use Rattle.scan_model.specs.LogText.{LogFrame, log_rule, log_rules, log_fault, later_lines, is_titled, is_closed, headers_in, is_truncated, log_end_rules}
+use Rattle.scan_model.specs.TextFaults.{lowest, fault_from, first_fault, refused_or}
+use Rattle.scan_model.specs.LogText.{LogFrame, log_rule, log_rules, later_lines, is_titled, is_closed, headers_in, is_truncated, log_end_rules}
 use Rattle.scan_model.proofs.FaultSteps.{fault_goes_on, fault_is_here, fault_is_none}
 use Rattle.text_parts.specs.Views.{nows}
 use Rattle.fail_logs.specs.Frames.{headers_view}
@@ -42,55 +42,55 @@ facts_after : (frame : LogFrame) (rows : List (List ℕ)) (kept : Kept) (before 
 facts_after frame rows kept before after =
     rw (after.truncated, after.fails) (ap (λ o. record { tested = o; truncated = list_any is_truncated (later_lines before); fails = numbers_named frame rows (later_lines before) }) (ap (λ h. h.tested) after.headers))
 
-module _ (frame : LogFrame) (rows : List (List ℕ)) (bytes : List ℕ) (items : List (Bor (List ℕ))) (i : ℕ) (d : Bor (List ℕ)) (kept : Kept)
-    (all : nows items ≡ text_lines bytes)
-    (so_far : fault_from (log_rule frame (text_lines bytes)) i ((length (text_lines bytes) + 1) - i) ≡ log_fault frame bytes)
-    (after : IsAfter frame rows kept (take i (text_lines bytes))) where
-  lines_length : length items ≡ length (text_lines bytes)
+module _ (frame : LogFrame) (rows : List (List ℕ)) (ls : List (List ℕ)) (items : List (Bor (List ℕ))) (i : ℕ) (d : Bor (List ℕ)) (kept : Kept)
+    (all : nows items ≡ ls)
+    (so_far : fault_from (log_rule frame ls) i ((length ls + 1) - i) ≡ first_fault (log_rule frame ls) (length ls + 1))
+    (after : IsAfter frame rows kept (take i ls)) where
+  lines_length : length items ≡ length ls
   lines_length = sym (length-map items (λ x. x.now)) ∙ ap length all
 
-  line_is : i < length items → (get_or items i d).now ≡ line_at (text_lines bytes) i
-  line_is lt = sym (get_or-map (λ x. x.now) items i d [] lt) ∙ ap (λ ls. line_at ls i) all
+  line_is : i < length items → (get_or items i d).now ≡ line_at ls i
+  line_is lt = sym (get_or-map (λ x. x.now) items i d [] lt) ∙ ap (λ ts. line_at ts i) all
 
-  rule_is : i < length items → lowest (log_rules frame kept.titled kept.closed (headers_view kept.headers) (get_or items i d).now) ≡ log_rule frame (text_lines bytes) i
+  rule_is : i < length items → lowest (log_rules frame kept.titled kept.closed (headers_view kept.headers) (get_or items i d).now) ≡ log_rule frame ls i
   rule_is lt =
-      let lt' : i < length (text_lines bytes) = omega (arith, lines_length) in
+      let lt' : i < length ls = omega (arith, lines_length) in
       ap (λ h. lowest (log_rules frame kept.titled kept.closed h (get_or items i d).now)) after.headers
-      ∙ rw (after.titled, after.closed, line_is lt, differs i (length (text_lines bytes)) lt') refl
+      ∙ rw (after.titled, after.closed, line_is lt, differs i (length ls) lt') refl
 
   pub line_is_faulty : (r : ℕ) → i < length items → Some r ≡ lowest (log_rules frame kept.titled kept.closed (headers_view kept.headers) (get_or items i d).now)
-      → refused_or (log_fault frame bytes) (facts_of frame rows (later_lines (text_lines bytes))) ≡ Err (i + 1, r)
+      → refused_or (first_fault (log_rule frame ls) (length ls + 1)) (facts_of frame rows (later_lines ls)) ≡ Err (i + 1, r)
   line_is_faulty r lt some =
-      let lt' : i < length (text_lines bytes) + 1 = omega (arith, lines_length) in
-      ap (λ f. refused_or f (facts_of frame rows (later_lines (text_lines bytes)))) (fault_is_here (log_rule frame (text_lines bytes)) (length (text_lines bytes) + 1) i _ r lt' (sym (some ∙ rule_is lt)) so_far)
+      let lt' : i < length ls + 1 = omega (arith, lines_length) in
+      ap (λ f. refused_or f (facts_of frame rows (later_lines ls))) (fault_is_here (log_rule frame ls) (length ls + 1) i _ r lt' (sym (some ∙ rule_is lt)) so_far)
 
   pub no_fault_more : i < length items → None ≡ lowest (log_rules frame kept.titled kept.closed (headers_view kept.headers) (get_or items i d).now)
-      → fault_from (log_rule frame (text_lines bytes)) (i + 1) ((length (text_lines bytes) + 1) - (i + 1)) ≡ log_fault frame bytes
+      → fault_from (log_rule frame ls) (i + 1) ((length ls + 1) - (i + 1)) ≡ first_fault (log_rule frame ls) (length ls + 1)
   no_fault_more lt none =
-      let lt' : i < length (text_lines bytes) + 1 = omega (arith, lines_length) in
-      fault_goes_on (log_rule frame (text_lines bytes)) (length (text_lines bytes) + 1) i _ lt' (sym (none ∙ rule_is lt)) so_far
+      let lt' : i < length ls + 1 = omega (arith, lines_length) in
+      fault_goes_on (log_rule frame ls) (length ls + 1) i _ lt' (sym (none ∙ rule_is lt)) so_far
 
-  pub after_more : (new : Kept) → i < length items → Takes frame rows kept new (words (get_or items i d).now) → IsAfter frame rows new (take (i + 1) (text_lines bytes))
+  pub after_more : (new : Kept) → i < length items → Takes frame rows kept new (words (get_or items i d).now) → IsAfter frame rows new (take (i + 1) ls)
   after_more new lt takes =
-      let lt' : i < length (text_lines bytes) = omega (arith, lines_length) in
-      rw (take_more (text_lines bytes) i [] lt') (after_takes frame rows kept new (take i (text_lines bytes)) (line_at (text_lines bytes) i) after (rw (line_is lt) at takes))
+      let lt' : i < length ls = omega (arith, lines_length) in
+      rw (take_more ls i [] lt') (after_takes frame rows kept new (take i ls) (line_at ls i) after (rw (line_is lt) at takes))
 
-  end_is : i ≡ length items → lowest (log_end_rules kept.titled kept.closed) ≡ log_rule frame (text_lines bytes) i
+  end_is : i ≡ length items → lowest (log_end_rules kept.titled kept.closed) ≡ log_rule frame ls i
   end_is done =
-      let n : i ≡ length (text_lines bytes) = omega (arith, lines_length) in
-      let whole : take i (text_lines bytes) ≡ text_lines bytes = take_all i (text_lines bytes) (omega arith) in
-      rw (after.titled, after.closed, whole, n, same (length (text_lines bytes))) refl
+      let n : i ≡ length ls = omega (arith, lines_length) in
+      let whole : take i ls ≡ ls = take_all i ls (omega arith) in
+      rw (after.titled, after.closed, whole, n, same (length ls)) refl
 
-  pub end_is_faulty : (r : ℕ) → i ≡ length items → lowest (log_end_rules kept.titled kept.closed) ≡ Some r → refused_or (log_fault frame bytes) (facts_of frame rows (later_lines (text_lines bytes))) ≡ Err (length items + 1, r)
+  pub end_is_faulty : (r : ℕ) → i ≡ length items → lowest (log_end_rules kept.titled kept.closed) ≡ Some r → refused_or (first_fault (log_rule frame ls) (length ls + 1)) (facts_of frame rows (later_lines ls)) ≡ Err (length items + 1, r)
   end_is_faulty r done some =
-      let lt' : i < length (text_lines bytes) + 1 = omega (arith, lines_length) in
-      ap (λ f. refused_or f (facts_of frame rows (later_lines (text_lines bytes)))) (fault_is_here (log_rule frame (text_lines bytes)) (length (text_lines bytes) + 1) i _ r lt' (sym (end_is done) ∙ some) so_far)
+      let lt' : i < length ls + 1 = omega (arith, lines_length) in
+      ap (λ f. refused_or f (facts_of frame rows (later_lines ls))) (fault_is_here (log_rule frame ls) (length ls + 1) i _ r lt' (sym (end_is done) ∙ some) so_far)
       ∙ ap (λ k. Err (k + 1, r)) done
 
-  pub log_is_whole : i ≡ length items → lowest (log_end_rules kept.titled kept.closed) ≡ None → refused_or (log_fault frame bytes) (facts_of frame rows (later_lines (text_lines bytes))) ≡ Ok (kept_facts kept)
+  pub log_is_whole : i ≡ length items → lowest (log_end_rules kept.titled kept.closed) ≡ None → refused_or (first_fault (log_rule frame ls) (length ls + 1)) (facts_of frame rows (later_lines ls)) ≡ Ok (kept_facts kept)
   log_is_whole done none =
-      let lt' : i < length (text_lines bytes) + 1 = omega (arith, lines_length) in
-      let whole : take i (text_lines bytes) ≡ text_lines bytes = take_all i (text_lines bytes) (omega (arith, lines_length)) in
-      let past = fault_goes_on (log_rule frame (text_lines bytes)) (length (text_lines bytes) + 1) i _ lt' (sym (end_is done) ∙ none) so_far in
-      ap (λ f. refused_or f (facts_of frame rows (later_lines (text_lines bytes)))) (fault_is_none (log_rule frame (text_lines bytes)) (length (text_lines bytes) + 1) (i + 1) _ (omega (arith, lines_length)) past)
-      ∙ ap Ok (ap (λ ls. facts_of frame rows (later_lines ls)) (sym whole) ∙ sym (facts_after frame rows kept (take i (text_lines bytes)) after))
+      let lt' : i < length ls + 1 = omega (arith, lines_length) in
+      let whole : take i ls ≡ ls = take_all i ls (omega (arith, lines_length)) in
+      let past = fault_goes_on (log_rule frame ls) (length ls + 1) i _ lt' (sym (end_is done) ∙ none) so_far in
+      ap (λ f. refused_or f (facts_of frame rows (later_lines ls))) (fault_is_none (log_rule frame ls) (length ls + 1) (i + 1) _ (omega (arith, lines_length)) past)
+      ∙ ap Ok (ap (λ ts. facts_of frame rows (later_lines ts)) (sym whole) ∙ sym (facts_after frame rows kept (take i ls) after))

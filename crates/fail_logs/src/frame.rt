@@ -1,7 +1,10 @@
 //! What a log is read for.
 
-ghost use Rattle.std.specs.Prelude.{◌≡◌, IfOk};
+ghost use Rattle.std.specs.Prelude.{◌≡◌, IfOk, length, map, replicate};
 ghost use Rattle.scan_model.specs.LogText.{log_frame};
+ghost use Rattle.scan_model.specs.ScanTest.{name_of, points_of};
+ghost use Rattle.fail_logs.specs.Frames.{rows_view};
+ghost use Rattle.fail_logs.specs.Places.{places_in};
 ghost use Rattle.fail_logs.specs.IsFrame.{IsFrame};
 
 use crate::tables::{cell_places, chain_lengths, chain_names, output_names, shift_marks};
@@ -24,6 +27,26 @@ pub struct Frame<'a> {
     pub die: &'a [u8],
 }
 
+// The names of the outputs, and of the chains.
+fn names_of(alloc: Global, parts: &Parts) -> Result<(Names<'_>, Names<'_>), AllocError>
+    ensures outputs { IfOk result (λ names. names.0 ≡ map (name_of parts.now) parts.now.netlist.outputs) }
+    ensures chains { IfOk result (λ names. names.1 ≡ map (λ h. h.name) parts.now.chains) }
+{
+    let outputs = output_names(alloc, parts.circuit())?;
+    let chains = chain_names(alloc, parts.chains().as_slice())?;
+    Ok((outputs, chains))
+}
+
+// The lengths of the chains, and the rows of their cells' places.
+fn rows_of(alloc: Global, parts: &Parts) -> Result<(Vec<usize>, Vec<Vec<u32>>), AllocError>
+    ensures lengths { IfOk result (λ rows. rows.0.items ≡ map (λ h. length h.cells) parts.now.chains) }
+    ensures places { IfOk result (λ rows. rows_view rows.1.items ≡ places_in (map (λ n. replicate n 0) (map (λ h. length h.cells) parts.now.chains)) 0 (points_of parts.now)) }
+{
+    let lengths = chain_lengths(alloc, parts.chains().as_slice())?;
+    let places = cell_places(alloc, &lengths, parts.points().as_slice())?;
+    Ok((lengths, places))
+}
+
 impl<'a> Frame<'a> {
     ghost use Rattle.fail_logs.specs.Frames.{frame_view, places_view};
 
@@ -37,13 +60,10 @@ impl<'a> Frame<'a> {
         ensures value { IfOk result (λ frame. frame_view frame ≡ log_frame parts.now design.now die.now) }
         ensures sound { IfOk result (λ frame. IsFrame (frame_view frame) (places_view frame)) }
     {
-        let rows = parts.chains().as_slice();
         let points = parts.points().as_slice();
-        let outputs = output_names(alloc, parts.circuit())?;
-        let chains = chain_names(alloc, rows)?;
-        let lengths = chain_lengths(alloc, rows)?;
-        let places = cell_places(alloc, &lengths, points)?;
         let shifts = shift_marks(alloc, parts.patterns().as_slice())?;
+        let (outputs, chains) = names_of(alloc, parts)?;
+        let (lengths, places) = rows_of(alloc, parts)?;
         Ok(Frame {
             outputs,
             chains,

@@ -3,7 +3,7 @@
 ghost use Rattle.std.specs.Prelude.{◌≡◌, ◌≤◌, ◌++◌, [], length, IfOk, OnOk, Ok, None, option_to_list};
 ghost use Rattle.scan_model.specs.Words.{words};
 ghost use Rattle.scan_model.specs.TextFaults.{lowest};
-ghost use Rattle.scan_model.specs.LogText.{is_title, is_end, is_truncated, log_rules};
+ghost use Rattle.scan_model.specs.LogText.{log_line, is_title, is_end, is_truncated, later_rules, rules_of_words, log_rules};
 ghost use Rattle.text_parts.specs.Views.{nows};
 ghost use Rattle.fail_logs.specs.LogViews.{line_view};
 ghost use Rattle.fail_logs.specs.Frames.{frame_view, places_view, headers_view};
@@ -136,6 +136,45 @@ impl Kept {
         Ok(())
     }
 
+    // Takes a line after the title and before the closing line, by its words.
+    fn take_later(&mut self, frame: &Frame<'_>, words: &[&[u8]]) -> Result<Option<u32>, AllocError>
+        requires outputs { length frame.now.outputs ≤ 131072 }
+        requires points { length frame.now.points.now ≤ 131072 }
+        ensures rule { IfOk result (λ r. r ≡ lowest (later_rules (frame_view frame.now) (headers_view self.old.headers) (log_line (nows words.now)))) }
+        ensures added { result ≡ Ok None → Adds (frame_view frame.now) (places_view frame.now) self.old self.new (log_line (nows words.now)) }
+    {
+        let line = LogLine::of_words(words);
+        let named = Named::of_line(frame, line);
+        let rule = later_rule(frame, self.headers, line, named);
+        if rule.is_none() {
+            self.add(frame, line, named)?;
+        }
+        Ok(rule)
+    }
+
+    // Takes a line whose bytes may stand in a log, by its words.
+    fn take_words(&mut self, frame: &Frame<'_>, words: &[&[u8]]) -> Result<Option<u32>, AllocError>
+        requires outputs { length frame.now.outputs ≤ 131072 }
+        requires points { length frame.now.points.now ≤ 131072 }
+        ensures rule { IfOk result (λ r. r ≡ lowest (rules_of_words (frame_view frame.now) self.old.titled self.old.closed (headers_view self.old.headers) (nows words.now))) }
+        ensures taken { result ≡ Ok None → Takes (frame_view frame.now) (places_view frame.now) self.old self.new (nows words.now) }
+    {
+        if words.is_empty() {
+            return Ok(None);
+        }
+        if !self.titled {
+            if !is_title(words) {
+                return Ok(Some(52));
+            }
+            self.titled = true;
+            return Ok(None);
+        }
+        if self.closed {
+            return Ok(Some(62));
+        }
+        self.take_later(frame, words)
+    }
+
     /// Takes a line, or answers the lowest rule that it breaks. The list is room for its words.
     pub fn take_line<'a>(
         &mut self,
@@ -152,27 +191,6 @@ impl Kept {
         if has_refused_byte(bytes) {
             return Ok(Some(51));
         }
-        let words = list.as_slice();
-        if words.is_empty() {
-            return Ok(None);
-        }
-        if !self.titled {
-            if !is_title(words) {
-                return Ok(Some(52));
-            }
-            self.titled = true;
-            return Ok(None);
-        }
-        if self.closed {
-            return Ok(Some(62));
-        }
-        let line = LogLine::of_words(words);
-        let named = Named::of_line(frame, line);
-        let rule = later_rule(frame, self.headers, line, named);
-        if rule.is_some() {
-            return Ok(rule);
-        }
-        self.add(frame, line, named)?;
-        Ok(None)
+        self.take_words(frame, list)
     }
 }

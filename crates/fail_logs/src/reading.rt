@@ -1,15 +1,17 @@
 //! A whole log.
 
-ghost use Rattle.std.specs.Prelude.{◌≡◌, ◌≤◌, ◌+◌, length, IfOk};
+ghost use Rattle.std.specs.Prelude.{◌≡◌, ◌≤◌, ◌+◌, [], length, IfOk};
 ghost use Rattle.scan_model.specs.Lines.{text_lines};
-ghost use Rattle.scan_model.specs.TextFaults.{HasNoFault, IsFirstFault, refused_or};
-ghost use Rattle.scan_model.specs.LogText.{log_frame, log_breaks, log_reading, log_fault, later_lines};
+ghost use Rattle.scan_model.specs.TextFaults.{HasNoFault, IsFirstFault, lowest, first_fault, refused_or};
+ghost use Rattle.scan_model.specs.LogText.{log_frame, log_breaks, log_reading, log_rule, log_fault, log_end_rules, later_lines};
 ghost use Rattle.scan_model.specs.Coverage.{FitsLog};
 ghost use Rattle.scan_model.specs.ScanTest.{points_of};
 ghost use Rattle.text_parts.specs.Gives.{Gives, IfFault};
+ghost use Rattle.text_parts.specs.Views.{nows};
 ghost use Rattle.fail_logs.specs.Frames.{frame_view, places_view};
 ghost use Rattle.fail_logs.specs.IsFrame.{IsFrame};
 ghost use Rattle.fail_logs.specs.LineFacts.{facts_of, kept_facts};
+ghost use Rattle.fail_logs.specs.Taken.{IsAfter};
 
 use crate::bits::bits_in_order;
 use crate::frame::Frame;
@@ -17,6 +19,45 @@ use crate::kept::Kept;
 use scan_model::{LogFacts, Parts};
 use std::alloc::Global;
 use text_parts::{ReadFault, TextFault, lines_of};
+
+// The lowest rule that is broken at the end of a log.
+fn end_rule(kept: &Kept) -> Option<u32>
+    ensures { result ≡ lowest (log_end_rules kept.now.titled kept.now.closed) }
+{
+    if !kept.titled {
+        return Some(52);
+    }
+    if !kept.closed {
+        return Some(61);
+    }
+    None
+}
+
+// Takes the lines of a log, up to its first fault.
+fn take_lines(
+    alloc: Global,
+    frame: &Frame<'_>,
+    kept: &mut Kept,
+    texts: &[&[u8]],
+) -> Result<(), ReadFault>
+    requires outputs { length frame.now.outputs ≤ 131072 }
+    requires points { length frame.now.points.now ≤ 131072 }
+    requires after { IsAfter (frame_view frame.now) (places_view frame.now) kept.old [] }
+    ensures { Gives (λ done. kept_facts kept.new) result (refused_or (first_fault (log_rule (frame_view frame.now) (nows texts.now)) (length (nows texts.now) + 1)) (facts_of (frame_view frame.now) (places_view frame.now) (later_lines (nows texts.now)))) }
+{
+    let mut words = Vec::new(alloc);
+    for (i, text) in texts.iter().enumerate() {
+        if let Some(rule) = kept.take_line(&mut words, frame, text)? {
+            let line = i as u64 + 1;
+            return Err(ReadFault::Text(TextFault { line, rule }));
+        }
+    }
+    if let Some(rule) = end_rule(kept) {
+        let line = texts.len() as u64 + 1;
+        return Err(ReadFault::Text(TextFault { line, rule }));
+    }
+    Ok(())
+}
 
 // What the lines of a log say, or its first fault.
 fn read_lines(alloc: Global, frame: &Frame<'_>, bytes: &[u8]) -> Result<Kept, ReadFault>
@@ -26,20 +67,7 @@ fn read_lines(alloc: Global, frame: &Frame<'_>, bytes: &[u8]) -> Result<Kept, Re
 {
     let texts = lines_of(alloc, bytes)?;
     let mut kept = Kept::new(alloc);
-    let mut words = Vec::new(alloc);
-    for (i, text) in texts.iter().enumerate() {
-        if let Some(rule) = kept.take_line(&mut words, frame, text)? {
-            let line = i as u64 + 1;
-            return Err(ReadFault::Text(TextFault { line, rule }));
-        }
-    }
-    let line = texts.len() as u64 + 1;
-    if !kept.titled {
-        return Err(ReadFault::Text(TextFault { line, rule: 52 }));
-    }
-    if !kept.closed {
-        return Err(ReadFault::Text(TextFault { line, rule: 61 }));
-    }
+    take_lines(alloc, frame, &mut kept, &texts)?;
     Ok(kept)
 }
 

@@ -1,5 +1,5 @@
 -- A scan text's fault, and a pattern text's, is the first by the rules that its lines break.
-use Rattle.std.proofs.Common.{◌≡◌, ℕ, ◌+◌, List, length, Result}
+use Rattle.std.proofs.Common.{ℕ, ◌+◌, List, length, Result}
 use Rattle.std.specs.Prelude.{IfOk}
 use Rattle.scan_model.specs.declared.circuit.Net.{Net}
 use Rattle.scan_model.specs.declared.parts.Chain.{Chain}

@@ -1,8 +1,17 @@
 -- The chains so far, as the reader keeps them.
-use Rattle.std.specs.Prelude.{◌≡◌, List, map}
+use Rattle.std.specs.Prelude.{ℕ, ◌≡◌, Bool, not, nat_le, List, [], ◌∷◌, length, map, Some}
+use Rattle.std.specs.List.{list_any}
 use Rattle.scan_model.specs.declared.circuit.Net.{Net}
-use Rattle.scan_model.specs.ScanText.{ChainNames, numbered, cells_in, titles_in}
+use Rattle.scan_model.specs.ScanText.{ChainNames, chain_limit, is_net, is_flop_net, is_taken, numbered, cells_in, titles_in}
 use Rattle.scan_text.specs.declared.chains.Chains.{Chains}
+
+-- rules 12 to 15 at a chain, after chains with these cells and these names
+abbrev pub chain_rules : List Net → List (List ℕ) → List (List ℕ) → ChainNames → List (ℕ × Bool)
+chain_rules nets cells titles c =
+    (12, list_any (λ w. not (is_net nets w)) c.cells) ∷
+    (13, list_any (λ w. not (is_flop_net nets w)) c.cells) ∷
+    (14, is_taken cells titles (Some c)) ∷
+    (15, nat_le chain_limit (length titles)) ∷ []
 
 -- what is kept after these chains
 pub record IsAfter (nets : List Net) (kept : Chains) (cs : List ChainNames) : Type 0 where

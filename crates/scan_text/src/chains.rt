@@ -1,4 +1,4 @@
-ghost use Rattle.std.specs.Prelude.{◌≡◌, ◌≤◌, length, map, not, IfOk, Ok, None, List, [], ◌++◌, option_to_list};
+ghost use Rattle.std.specs.Prelude.{◌≡◌, ◌≤◌, length, map, not, IfOk, Ok, None, List, [], ◌∷◌, ◌++◌, option_to_list};
 ghost use Rattle.std.specs.List.{list_any};
 ghost use Rattle.scan_model.specs.declared.circuit.Net.{Net};
 ghost use Rattle.scan_model.specs.Words.{words, has_word};
@@ -52,6 +52,19 @@ fn numbers_of(alloc: Global, names: &Names<'_>, cells: &[&[u8]]) -> Result<Vec<u
     Ok(numbers)
 }
 
+// The chain with its cells by number.
+fn numbered(alloc: Global, names: &Names<'_>, chain: NamedChain<'_, '_>) -> Result<Chain, NoMemory>
+    requires { length names.now ≤ 65536 }
+    ensures { IfOk result (λ c. c ≡ record { name = chain.entry.name.now; cells = map (net_number names.now) (nows chain.entry.cells.now) }) }
+{
+    let cells = numbers_of(alloc, names, chain.cells)?;
+    let name = Rows::copy_of(alloc, chain.name)?;
+    Ok(Chain {
+        name,
+        cells: Rows::from_vec(cells),
+    })
+}
+
 /// The chains of the lines so far, with the names of all their cells, and their own.
 #[derive(Drop)]
 pub struct Chains<'a> {
@@ -61,7 +74,8 @@ pub struct Chains<'a> {
 }
 
 impl<'a> Chains<'a> {
-    ghost use Rattle.scan_text.specs.AfterChains.{IsAfter};
+    ghost use Rattle.scan_text.specs.AfterChains.{chain_rules, IsAfter};
+    ghost use Rattle.scan_text.specs.NamedChains.{named_view};
 
     pub fn new(alloc: Global) -> Self
         ensures { (nets : List Net) → IsAfter nets result [] }
@@ -71,6 +85,39 @@ impl<'a> Chains<'a> {
             cells: Names::new(alloc),
             titles: Names::new(alloc),
         }
+    }
+
+    // Takes a chain, or answers the lowest of rules 12 to 15 that it breaks.
+    fn take(
+        &mut self,
+        alloc: Global,
+        nets: &[Net],
+        names: &Names<'_>,
+        chain: NamedChain<'a, '_>,
+    ) -> Result<Option<u32>, NoMemory>
+        requires limit { length nets.now ≤ 65536 }
+        requires names { names.now ≡ net_names nets.now }
+        ensures rule { IfOk result (λ r. r ≡ lowest (chain_rules nets.now self.old.cells self.old.titles (named_view chain.entry))) }
+        ensures taken { result ≡ Ok None → (cs : List ChainNames) → IsAfter nets.now self.old cs → IsAfter nets.now self.new (cs ++ named_view chain.entry ∷ []) }
+    {
+        if lacks(names, chain.cells) {
+            return Ok(Some(12));
+        }
+        if has_other_net(nets, names, chain.cells) {
+            return Ok(Some(13));
+        }
+        if !self.cells.add_new(chain.cells)? {
+            return Ok(Some(14));
+        }
+        if self.titles.contains(chain.name) {
+            return Ok(Some(14));
+        }
+        if self.titles.len() >= CHAIN_LIMIT {
+            return Ok(Some(15));
+        }
+        self.titles.add(chain.name)?;
+        self.chains.push(numbered(alloc, names, chain)?)?;
+        Ok(None)
     }
 
     /// Takes the chain of a line, or answers the lowest rule that the line breaks.
@@ -90,28 +137,9 @@ impl<'a> Chains<'a> {
             return Ok(Some(11));
         }
         let words = words_of(alloc, line)?;
-        let Some(chain) = NamedChain::of_words(&words) else {
-            return Ok(if words.is_empty() { None } else { Some(11) });
-        };
-        if lacks(names, chain.cells) {
-            return Ok(Some(12));
+        match NamedChain::of_words(&words) {
+            Some(chain) => self.take(alloc, nets, names, chain),
+            None => Ok(if words.is_empty() { None } else { Some(11) }),
         }
-        if has_other_net(nets, names, chain.cells) {
-            return Ok(Some(13));
-        }
-        if !self.cells.add_new(chain.cells)? {
-            return Ok(Some(14));
-        }
-        if self.titles.contains(chain.name) {
-            return Ok(Some(14));
-        }
-        if self.titles.len() >= CHAIN_LIMIT {
-            return Ok(Some(15));
-        }
-        self.titles.add(chain.name)?;
-        let name = Rows::copy_of(alloc, chain.name)?;
-        let cells = Rows::from_vec(numbers_of(alloc, names, chain.cells)?);
-        self.chains.push(Chain { name, cells })?;
-        Ok(None)
     }
 }

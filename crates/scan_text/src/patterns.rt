@@ -1,21 +1,49 @@
-ghost use Rattle.std.specs.Prelude.{◌≡◌, ◌+◌, length, IfOk, Ok, None, [], ◌∷◌, ◌++◌};
+ghost use Rattle.std.specs.Prelude.{◌≡◌, ◌+◌, length, IfOk, OnOk, Ok, None, [], ◌∷◌, ◌++◌};
 ghost use Rattle.scan_model.specs.Netlist.{Netlist};
 ghost use Rattle.scan_model.specs.Lines.{text_lines};
-ghost use Rattle.scan_model.specs.TextFaults.{HasNoFault, IsFirstFault, lowest};
-ghost use Rattle.scan_model.specs.PatternText.{pattern_frame, pattern_rules, pattern_breaks, patterns_of, pattern_reading};
+ghost use Rattle.scan_model.specs.TextFaults.{HasNoFault, IsFirstFault, lowest, first_fault, refused_or};
+ghost use Rattle.scan_model.specs.PatternText.{pattern_frame, line_pattern, pattern_rule, pattern_rules, pattern_breaks, patterns_of, pattern_reading};
 ghost use Rattle.scan_model.specs.ScanTest.{ArePatterns};
 ghost use Rattle.text_parts.specs.Gives.{Gives, IfFault};
-ghost use Rattle.scan_text.specs.Frames.{frame_view};
+ghost use Rattle.scan_text.specs.Frames.{frame_view, kind_rules};
+ghost use Rattle.text_parts.specs.Views.{nows};
 
 use crate::pattern::{
     Frame, has_other_value, has_wrong_length, has_wrong_words, kind_of, pattern_of,
 };
-use scan_model::{Chain, Circuit, NoMemory, Pattern, Rows};
+use scan_model::{Chain, Circuit, NoMemory, Pattern, PatternKind, Rows};
 use std::alloc::Global;
 use text_parts::{ReadFault, TextFault, has_refused_byte, lines_of, words_of};
 
 /// The most patterns that a pattern text may have.
 const PATTERN_LIMIT: usize = 4096;
+
+// Takes the pattern of a line's words, or answers the lowest of rules 22 to 25 that the line breaks.
+fn take_pattern(
+    alloc: Global,
+    frame: &Frame<'_>,
+    patterns: &mut Rows<Pattern>,
+    kind: PatternKind,
+    words: &[&[u8]],
+) -> Result<Option<u32>, NoMemory>
+    ensures rule { IfOk result (λ r. r ≡ lowest (kind_rules (frame_view frame.now) (length patterns.old) kind (nows words.now))) }
+    ensures taken { result ≡ Ok None → patterns.new ≡ patterns.old ++ line_pattern (frame_view frame.now) (nows words.now) ∷ [] }
+{
+    if has_wrong_words(frame, kind, words) {
+        return Ok(Some(22));
+    }
+    if has_wrong_length(frame, kind, words) {
+        return Ok(Some(23));
+    }
+    if has_other_value(frame, kind, words) {
+        return Ok(Some(24));
+    }
+    if patterns.len() >= PATTERN_LIMIT {
+        return Ok(Some(25));
+    }
+    patterns.push(pattern_of(alloc, frame, words)?)?;
+    Ok(None)
+}
 
 // Takes the pattern of a line, or answers the lowest rule that the line breaks.
 fn take_line(
@@ -31,23 +59,34 @@ fn take_line(
         return Ok(Some(21));
     }
     let words = words_of(alloc, line)?;
-    let Some(kind) = kind_of(&words) else {
-        return Ok(if words.is_empty() { None } else { Some(21) });
-    };
-    if has_wrong_words(frame, kind, &words) {
-        return Ok(Some(22));
+    match kind_of(&words) {
+        Some(kind) => take_pattern(alloc, frame, patterns, kind, &words),
+        None => Ok(if words.is_empty() { None } else { Some(21) }),
     }
-    if has_wrong_length(frame, kind, &words) {
-        return Ok(Some(23));
+}
+
+// Takes the patterns of a text's lines, up to its first fault.
+fn take_lines(
+    alloc: Global,
+    frame: &Frame<'_>,
+    patterns: &mut Rows<Pattern>,
+    lines: &[&[u8]],
+) -> Result<(), ReadFault>
+    requires none { patterns.old ≡ [] }
+    ensures reading { Gives (λ done. patterns.new) result (refused_or (first_fault (pattern_rule (frame_view frame.now) (nows lines.now)) (length (nows lines.now) + 1)) (patterns_of (frame_view frame.now) (nows lines.now))) }
+    ensures fits { (c : Netlist) → length c.inputs ≡ frame.now.inputs → OnOk result (ArePatterns c frame.now.chains.now patterns.new) }
+{
+    for (i, line) in lines.iter().enumerate() {
+        if let Some(rule) = take_line(alloc, frame, patterns, line)? {
+            let line = i as u64 + 1;
+            return Err(ReadFault::Text(TextFault { line, rule }));
+        }
     }
-    if has_other_value(frame, kind, &words) {
-        return Ok(Some(24));
+    if patterns.is_empty() {
+        let line = lines.len() as u64 + 1;
+        return Err(ReadFault::Text(TextFault { line, rule: 26 }));
     }
-    if patterns.len() >= PATTERN_LIMIT {
-        return Ok(Some(25));
-    }
-    patterns.push(pattern_of(alloc, frame, &words)?)?;
-    Ok(None)
+    Ok(())
 }
 
 // The patterns of a text in a frame.
@@ -57,16 +96,7 @@ fn read_lines(alloc: Global, frame: &Frame<'_>, bytes: &[u8]) -> Result<Rows<Pat
 {
     let lines = lines_of(alloc, bytes)?;
     let mut patterns = Rows::new(alloc);
-    for (i, line) in lines.iter().enumerate() {
-        if let Some(rule) = take_line(alloc, frame, &mut patterns, line)? {
-            let line = i as u64 + 1;
-            return Err(ReadFault::Text(TextFault { line, rule }));
-        }
-    }
-    if patterns.is_empty() {
-        let line = lines.len() as u64 + 1;
-        return Err(ReadFault::Text(TextFault { line, rule: 26 }));
-    }
+    take_lines(alloc, frame, &mut patterns, &lines)?;
     Ok(patterns)
 }
 

@@ -1,15 +1,40 @@
-ghost use Rattle.std.specs.Prelude.{◌≡◌, ◌≤◌, length, IfOk};
+ghost use Rattle.std.specs.Prelude.{◌≡◌, ◌≤◌, [], length, IfOk, OnOk};
 ghost use Rattle.scan_model.specs.Netlist.{Netlist};
 ghost use Rattle.scan_model.specs.Lines.{text_lines};
-ghost use Rattle.scan_model.specs.TextFaults.{HasNoFault, IsFirstFault};
-ghost use Rattle.scan_model.specs.ScanText.{net_names, scan_breaks, scan_reading};
+ghost use Rattle.scan_model.specs.TextFaults.{HasNoFault, IsFirstFault, first_fault, refused_or};
+ghost use Rattle.scan_model.specs.ScanText.{net_names, scan_rule, scan_breaks, chains_of, scan_reading};
 ghost use Rattle.scan_model.specs.ScanTest.{AreChains};
 ghost use Rattle.text_parts.specs.Gives.{Gives, IfFault};
+ghost use Rattle.text_parts.specs.Views.{nows};
+ghost use Rattle.scan_text.specs.AfterChains.{IsAfter};
 
 use crate::chains::Chains;
 use scan_model::{Chain, Circuit, Net, Rows};
 use std::alloc::Global;
 use text_parts::{Names, ReadFault, TextFault, lines_of};
+
+// Takes the chains of a text's lines over these nets, up to its first fault.
+fn take_lines<'a>(
+    alloc: Global,
+    nets: &[Net],
+    names: &Names<'_>,
+    chains: &mut Chains<'a>,
+    lines: &[&'a [u8]],
+) -> Result<(), ReadFault>
+    requires limit { length nets.now ≤ 65536 }
+    requires names { names.now ≡ net_names nets.now }
+    requires after { IsAfter nets.now chains.old [] }
+    ensures reading { Gives (λ done. chains.new.chains.items) result (refused_or (first_fault (scan_rule nets.now (nows lines.now)) (length (nows lines.now))) (chains_of nets.now (nows lines.now))) }
+    ensures fits { (c : Netlist) → c.nets ≡ nets.now → OnOk result (AreChains c chains.new.chains.items) }
+{
+    for (i, line) in lines.iter().enumerate() {
+        if let Some(rule) = chains.take_line(alloc, nets, names, line)? {
+            let line = i as u64 + 1;
+            return Err(ReadFault::Text(TextFault { line, rule }));
+        }
+    }
+    Ok(())
+}
 
 // The chains of a text over these nets.
 fn read_chains(
@@ -25,12 +50,7 @@ fn read_chains(
 {
     let lines = lines_of(alloc, bytes)?;
     let mut chains = Chains::new(alloc);
-    for (i, line) in lines.iter().enumerate() {
-        if let Some(rule) = chains.take_line(alloc, nets, names, line)? {
-            let line = i as u64 + 1;
-            return Err(ReadFault::Text(TextFault { line, rule }));
-        }
-    }
+    take_lines(alloc, nets, names, &mut chains, &lines)?;
     Ok(chains.chains)
 }
 

@@ -9,7 +9,7 @@ use Rattle.bench_reader.specs.Kept.{forms_in, kept_views, uses_undefined}
 use Rattle.bench_reader.specs.Built.{Remain}
 use Rattle.bench_reader.proofs.OneMoreLine.{remain_more, pins_fit}
 use Rattle.bench_reader.proofs.NextNet.{next_number, nets_fit, none_lacks, one_lacks, first_past, first_here}
-use Rattle.bench_reader.proofs.build.built_of.Goals as goal
+use Rattle.bench_reader.proofs.build.Built.add_lines.Goals as goal
 
 abbrev forms : List KeptLine → List Form
 forms ls = forms_in (kept_views ls)
@@ -26,9 +26,9 @@ add-requires-clause-pins c =
     let i = c.loop-line.line-index in
     let lt : i < length items = rw (← c.deref-line-items.ensures.value) c.loop-line-test.true in
     let is = rw c.deref-line-items.ensures.value at c.line-item.is in
-    let fits : length (pins_after [] (forms items)) ≤ pin_limit = rw (← c.requires.pins) c.requires.within.pins in
-    pins_fit c.args.kept.now.defined c.loop-line.built (line_view c.line-item.result.line) (forms (drop (i + 1) items)) (forms items)
-    (next c.args.kept.now.defined c.loop-line.built items i c.line-item.result (forms items) lt is c.loop-line.invariant.remain) fits
+    let fits : length (pins_after [] (forms items)) ≤ pin_limit = rw (← c.requires.whole.pins) c.requires.whole.within.pins in
+    pins_fit c.args.kept.now.defined c.loop-line.self (line_view c.line-item.result.line) (forms (drop (i + 1) items)) (forms items)
+    (next c.args.kept.now.defined c.loop-line.self items i c.line-item.result (forms items) lt is c.loop-line.invariant.remain) fits
 
 pub add-requires-clause-next : goal.add-requires-clause-next
 add-requires-clause-next c =
@@ -36,8 +36,8 @@ add-requires-clause-next c =
     let i = c.loop-line.line-index in
     let lt : i < length items = rw (← c.deref-line-items.ensures.value) c.loop-line-test.true in
     let is = rw c.deref-line-items.ensures.value at c.line-item.is in
-    next_number c.args.kept.now.defined c.loop-line.built (line_view c.line-item.result.line) (forms (drop (i + 1) items)) (forms items)
-    (next c.args.kept.now.defined c.loop-line.built items i c.line-item.result (forms items) lt is c.loop-line.invariant.remain) c.requires.defined c.requires.differ
+    next_number c.args.kept.now.defined c.loop-line.self (line_view c.line-item.result.line) (forms (drop (i + 1) items)) (forms items)
+    (next c.args.kept.now.defined c.loop-line.self items i c.line-item.result (forms items) lt is c.loop-line.invariant.remain) c.requires.whole.defined c.requires.whole.differ
 
 pub add-requires-clause-few : goal.add-requires-clause-few
 add-requires-clause-few c =
@@ -47,9 +47,9 @@ add-requires-clause-few c =
     let is = rw c.deref-line-items.ensures.value at c.line-item.is in
     omega (
       arith,
-      c.requires.within.nets,
-      nets_fit c.args.kept.now.defined c.loop-line.built (line_view c.line-item.result.line) (forms (drop (i + 1) items)) (forms items)
-          (next c.args.kept.now.defined c.loop-line.built items i c.line-item.result (forms items) lt is c.loop-line.invariant.remain) c.requires.defined,
+      c.requires.whole.within.nets,
+      nets_fit c.args.kept.now.defined c.loop-line.self (line_view c.line-item.result.line) (forms (drop (i + 1) items)) (forms items)
+          (next c.args.kept.now.defined c.loop-line.self items i c.line-item.result (forms items) lt is c.loop-line.invariant.remain) c.requires.whole.defined,
     )
 
 pub returns-then-not-is_known-clause-fault : goal.returns-then-not-is_known-clause-fault
@@ -67,7 +67,7 @@ loop-line-preserved c =
     let lt : i < length items = rw (← c.deref-line-items.ensures.value) c.loop-line-test.true in
     let is = rw c.deref-line-items.ensures.value at c.line-item.is in
     record {
-      remain = remain_more c.args.kept.now.defined c.loop-line.built c.add.new.self (line_view c.line-item.result.line) (forms (drop (i + 1) items)) (forms items)
-          (next c.args.kept.now.defined c.loop-line.built items i c.line-item.result (forms items) lt is c.loop-line.invariant.remain) (c.add.ensures.added (c.in_ok-is_known.was ∙ ap Ok c.if-not-is_known.false));
+      remain = remain_more c.args.kept.now.defined c.loop-line.self c.add.new.self (line_view c.line-item.result.line) (forms (drop (i + 1) items)) (forms items)
+          (next c.args.kept.now.defined c.loop-line.self items i c.line-item.result (forms items) lt is c.loop-line.invariant.remain) (c.add.ensures.added (c.in_ok-is_known.was ∙ ap Ok c.if-not-is_known.false));
       none = first_past (uses_undefined c.args.kept.now.defined) items i c.line-item.result _ lt is c.loop-line.invariant.none (none_lacks _ (sym c.if-not-is_known.false ∙ c.in_ok-is_known.ensures.known));
     }
