@@ -85,24 +85,52 @@ fn simulated(alloc: Global, parts: &Parts) -> Result<Simulation, NoMemory>
     Ok(Simulation { good, expected })
 }
 
+// What a case keeps beside the parts of its design and its logs.
+#[derive(Drop)]
+struct Prepared {
+    names: CaseNames,
+    simulation: Simulation,
+}
+
+fn prepare(alloc: Global, design: &[u8], die: &[u8], parts: &Parts) -> Result<Prepared, NoMemory>
+    ensures design { IfOk result (λ made. made.names.design ≡ design.now) }
+    ensures die { IfOk result (λ made. made.names.die ≡ die.now) }
+    ensures good { IfOk result (λ made. BelongsTo parts.now made.simulation.good) }
+    ensures expected { IfOk result (λ made. made.simulation.expected ≡ expected_rows parts.now) }
+{
+    let names = case_names(alloc, design, die)?;
+    let simulation = simulated(alloc, parts)?;
+    Ok(Prepared { names, simulation })
+}
+
 impl Case {
+    // A case of what was prepared over the parts, without logs.
+    fn whole(alloc: Global, parts: Parts, made: Prepared) -> Case
+        requires design { is_tag made.names.design ≡ true }
+        requires die { is_tag made.names.die ≡ true }
+        requires good { BelongsTo parts made.simulation.good }
+        requires expected { made.simulation.expected ≡ expected_rows parts }
+        ensures { result ≡ record { design = made.names.design; die = made.names.die; test = parts; logs = [] } }
+    {
+        let Prepared { names, simulation } = made;
+        Case {
+            design: names.design,
+            die: names.die,
+            parts,
+            good: simulation.good,
+            expected: simulation.expected,
+            logs: Rows::new(alloc),
+        }
+    }
+
     /// A die of a design of these parts, without logs.
     pub fn make(alloc: Global, design: &[u8], die: &[u8], parts: Parts) -> Result<Case, NoMemory>
         requires design { is_tag design.now ≡ true }
         requires die { is_tag die.now ≡ true }
         ensures { IfOk result (λ case. case ≡ record { design = design.now; die = die.now; test = parts; logs = [] }) }
     {
-        let names = case_names(alloc, design, die)?;
-        let made = simulated(alloc, &parts)?;
-        let logs = Rows::new(alloc);
-        Ok(Case {
-            design: names.design,
-            die: names.die,
-            parts,
-            good: made.good,
-            expected: made.expected,
-            logs,
-        })
+        let made = prepare(alloc, design, die, &parts)?;
+        Ok(Case::whole(alloc, parts, made))
     }
 
     /// What the design stands for.

@@ -1,13 +1,13 @@
 //! The four texts of a design, each read and judged before the next.
 ghost use Rattle.std.specs.Prelude.{◌≡◌, Ok, IfOk, IfErr};
 ghost use Rattle.scan_model.specs.Circuits.{IsCircuit};
-ghost use Rattle.scan_model.specs.ScanTest.{AreChains, ArePatterns, ArePairs};
+ghost use Rattle.scan_model.specs.ScanTest.{AreChains, ArePatterns, ArePairs, scan_test};
 ghost use Rattle.scan_model.specs.NetlistText.{netlist_reading};
 ghost use Rattle.scan_model.specs.ScanText.{net_names, scan_reading};
 ghost use Rattle.scan_model.specs.PatternText.{pattern_frame, pattern_reading};
 ghost use Rattle.bridge_pairs.specs.PairText.{pairs_reading};
 ghost use Rattle.diagnosis.specs.declared.section.Section.TheVariants as section;
-ghost use Rattle.diagnosis.specs.Bundle.{in_section, texts_reading};
+ghost use Rattle.diagnosis.specs.Bundle.{in_section, texts_reading, with_circuit};
 ghost use Rattle.diagnosis.specs.Sections.{four_texts};
 ghost use Rattle.diagnosis.specs.Reading.{four, RefusedBy, ReadAs, IsIn};
 ghost use Rattle.diag_report.specs.PredictedLog.{HasWordNames};
@@ -90,17 +90,63 @@ fn read_pairs(
     )
 }
 
+// What the texts behind the netlist stand for, over its circuit.
+#[derive(Drop)]
+struct OverCircuit {
+    chains: Rows<Chain>,
+    patterns: Rows<Pattern>,
+    pairs: Pairs,
+}
+
+fn read_named(
+    alloc: Global,
+    texts: &Sections<'_>,
+    circuit: &Circuit,
+    names: &Names<'_>,
+) -> Result<OverCircuit, BundleFault>
+    requires { names.now ≡ net_names circuit.now.nets }
+    ensures stands { IfOk result (λ over. with_circuit (four_texts texts.now) circuit.now ≡ Ok (scan_test circuit.now over.chains over.patterns over.pairs)) }
+    ensures chains { IfOk result (λ over. AreChains circuit.now over.chains) }
+    ensures patterns { IfOk result (λ over. ArePatterns circuit.now over.chains over.patterns) }
+    ensures pairs { IfOk result (λ over. ArePairs circuit.now over.pairs) }
+    ensures fault { IfErr result (RefusedBy (with_circuit (four_texts texts.now) circuit.now)) }
+{
+    let chains = read_chains(alloc, circuit, names, texts.scan)?;
+    let patterns = read_patterns(alloc, circuit, &chains, texts.patterns)?;
+    let pairs = read_pairs(alloc, circuit, names, texts.neighbours)?;
+    Ok(OverCircuit {
+        chains,
+        patterns,
+        pairs,
+    })
+}
+
+fn read_over(
+    alloc: Global,
+    texts: &Sections<'_>,
+    circuit: &Circuit,
+) -> Result<OverCircuit, BundleFault>
+    ensures stands { IfOk result (λ over. with_circuit (four_texts texts.now) circuit.now ≡ Ok (scan_test circuit.now over.chains over.patterns over.pairs)) }
+    ensures chains { IfOk result (λ over. AreChains circuit.now over.chains) }
+    ensures patterns { IfOk result (λ over. ArePatterns circuit.now over.chains over.patterns) }
+    ensures pairs { IfOk result (λ over. ArePairs circuit.now over.pairs) }
+    ensures fault { IfErr result (RefusedBy (with_circuit (four_texts texts.now) circuit.now)) }
+{
+    let names = names_of(alloc, circuit)?;
+    read_named(alloc, texts, circuit, &names)
+}
+
 /// The parts that four texts stand for, or the first fault of the first of them that breaks a rule.
 pub fn read_texts(alloc: Global, texts: &Sections<'_>) -> Result<Parts, BundleFault>
     ensures stands { IfOk result (λ parts. texts_reading (four_texts texts.now) ≡ Ok parts) }
     ensures fault { IfErr result (RefusedBy (texts_reading (four_texts texts.now))) }
 {
     let circuit = read_circuit(alloc, texts.netlist)?;
-    let names = names_of(alloc, &circuit)?;
-    let chains = read_chains(alloc, &circuit, &names, texts.scan)?;
-    let patterns = read_patterns(alloc, &circuit, &chains, texts.patterns)?;
-    let pairs = read_pairs(alloc, &circuit, &names, texts.neighbours)?;
-    drop(names);
+    let OverCircuit {
+        chains,
+        patterns,
+        pairs,
+    } = read_over(alloc, texts, &circuit)?;
     Ok(Parts::make(alloc, circuit, chains, patterns, pairs)?)
 }
 
