@@ -1,5 +1,5 @@
 -- The die with the log of the fault that is put in.
-use Rattle.std.proofs.Common.{◌≡◌, ℕ, List, [], ◌∷◌, ap, subst, ◌∙◌}
+use Rattle.std.proofs.Common.{◌≡◌, ℕ, List, [], ◌∷◌, sym, ap, subst, ◌∙◌}
 use Rattle.scan_model.specs.ScanTest.{ScanTest}
 use Rattle.scan_model.specs.MatchCounts.{candidates}
 use Rattle.scan_model.specs.Ranking.{ranked}
@@ -10,10 +10,10 @@ use Rattle.diagnosis.specs.declared.put.Put.TheVariants.{Created, Same}
 use Rattle.diagnosis.specs.Designs.{ReadLogFacts, facts_of}
 use Rattle.diagnosis.specs.Cases.{CaseFacts, IsLogOver, AddedAmong, with_logs, case_report}
 use Rattle.desk_commands.specs.Demo.{demo_name, own_candidates, own_report}
-use Rattle.desk_commands.specs.Injected.{IsOwnLog}
+use Rattle.desk_commands.specs.Injected.{IsDemoCase, IsOwnLog, demo_case}
 
-abbrev pub demo_case : ScanTest → List ReadLogFacts → CaseFacts
-demo_case t logs = record { design = demo_name; die = demo_name; test = t; logs = logs }
+pub is_demo_case : (t : ScanTest) (k : CaseFacts) → k ≡ demo_case t [] → IsDemoCase k
+is_demo_case t k is = record { is = is ∙ ap (λ (t : ScanTest). demo_case t []) (sym (ap (λ (k : CaseFacts). k.test) is)) }
 
 -- a log that is added to none is the one
 only_log : (put : Put) (log : ReadLogFacts) (new : List ReadLogFacts) → AddedAmong put log [] new → new ≡ log ∷ []
@@ -27,8 +27,11 @@ with_one t put log k new is added kept =
     kept ∙ ap (λ (k : CaseFacts). with_logs k new.logs) is ∙ ap (demo_case t) one
 
 module _ (t : ScanTest) (place : ℕ) (log : ReadLogFacts) (own : IsOwnLog t place log) where
-  pub is_log_over : IsLogOver t demo_name demo_name log
+  is_log_over : IsLogOver t demo_name demo_name log
   is_log_over = record { of_design = ap (λ (l : ReadLogFacts). l.design) own.is; of_die = ap (λ (l : ReadLogFacts). l.die) own.is; stands = own.stands }
+
+  pub is_log_of_case : (k : CaseFacts) → k ≡ demo_case t [] → IsLogOver k.test k.design k.die log
+  is_log_of_case k is = subst (λ (k : CaseFacts). IsLogOver k.test k.design k.die log) (sym is) is_log_over
 
   pub report_is : (k : CaseFacts) → k ≡ demo_case t (log ∷ []) → case_report k ≡ own_report t (fault_of t place)
   report_is k is = ap case_report is ∙ ap (λ (l : ReadLogFacts). die_report t demo_name demo_name (l.text ∷ [])) own.is

@@ -9,6 +9,7 @@ use Rattle.diag_report.specs.Summary.{count_line}
 use Rattle.diagnosis.specs.Bundle.{FourTexts}
 use Rattle.diagnosis.specs.Reading.{four}
 use Rattle.diagnosis.specs.Designs.{ReadLogFacts, StandsOver}
+use Rattle.diagnosis.specs.Cases.{CaseFacts}
 use Rattle.diagnosis.specs.declared.section.BundleFault.{BundleFault}
 use Rattle.diagnosis.specs.declared.section.BundleFault.TheVariants.{Text, NoMemory}
 use Rattle.desk_commands.specs.declared.generator.Made.{Made}
@@ -18,6 +19,14 @@ use Rattle.desk_commands.specs.declared.commands.demo.injected.Injected.{Injecte
 use Rattle.desk_commands.specs.Draws.{state_after}
 use Rattle.desk_commands.specs.Made.{text_draws}
 use Rattle.desk_commands.specs.Demo.{demo_name, injected_from, drawn_place, demo_lines, section_word}
+
+-- the die of the design that is made, with these logs
+abbrev pub demo_case : ScanTest → List ReadLogFacts → CaseFacts
+demo_case t logs = record { design = demo_name; die = demo_name; test = t; logs = logs }
+
+-- that die before it has logs
+pub record IsDemoCase (k : CaseFacts) : Type 0 where
+  pub is : k ≡ demo_case k.test []
 
 -- the log that a fault predicts, with what it stands for
 abbrev pub own_log : ScanTest → Fault → ReadLogFacts

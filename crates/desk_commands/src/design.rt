@@ -10,8 +10,8 @@ ghost use Rattle.scan_model.specs.PatternText.{pattern_frame, pattern_reading};
 ghost use Rattle.bridge_pairs.specs.PairText.{pairs_reading};
 ghost use Rattle.diagnosis.specs.Bundle.{texts_reading};
 ghost use Rattle.diagnosis.specs.Reading.{four};
-ghost use Rattle.desk_commands.specs.Designs.{shown_file, shown_design};
-ghost use Rattle.desk_commands.specs.Work.{netlist_file, scan_file, pattern_file, neighbour_file, design_reading};
+ghost use Rattle.desk_commands.specs.Designs.{shown_file, shown_over, shown_design};
+ghost use Rattle.desk_commands.specs.Work.{netlist_file, scan_file, pattern_file, neighbour_file, with_circuit, design_reading};
 ghost use Rattle.desk_commands.specs.Requests.{named_files};
 ghost use Rattle.desk_commands.specs.Stops.{Follows, shown, ends_by_fault};
 
@@ -27,6 +27,14 @@ use text_parts::Names;
 struct FileText<X> {
     text: Name,
     value: X,
+}
+
+// The files behind the netlist, over its circuit.
+#[derive(Drop)]
+struct OverCircuit {
+    chains: FileText<Rows<Chain>>,
+    patterns: FileText<Rows<Pattern>>,
+    pairs: FileText<Pairs>,
 }
 
 /// The four texts of a design, and the scan test that they stand for.
@@ -136,24 +144,69 @@ fn read_neighbours<'a, F: Shelf>(
     Ok(FileText { text, value })
 }
 
-/// The design of the files of these names.
-pub fn read_design<'a, F: Shelf>(
+// The files behind the netlist, over its circuit and the names of its nets.
+fn read_named<'a, F: Shelf>(
     alloc: Global,
     shelf: &mut F,
     files: &DesignFiles<'a>,
-) -> Result<ReadDesign, Stop<'a>>
-    ensures told { (held : List File) → F.files shelf.old ≡ Some held → Follows (shown shown_design result) (design_reading held (named_files files.now)) }
-    ensures stands { IfOk result (λ d. texts_reading (four d.netlist d.scan d.patterns d.neighbours) ≡ Ok d.parts) }
+    circuit: &FileText<Circuit>,
+    names: &Names<'_>,
+) -> Result<OverCircuit, Stop<'a>>
+    requires { names.now ≡ net_names circuit.now.value.nets }
+    ensures told { (held : List File) → F.files shelf.old ≡ Some held → Follows (shown (shown_over (shown_file circuit.now)) result) (with_circuit held (named_files files.now) (shown_file circuit.now)) }
+    ensures chains { IfOk result (λ over. (scan_reading circuit.now.value.nets over.chains.text ≡ Ok over.chains.value) × AreChains circuit.now.value over.chains.value) }
+    ensures patterns { IfOk result (λ over. (pattern_reading (pattern_frame circuit.now.value over.chains.value) over.patterns.text ≡ Ok over.patterns.value) × ArePatterns circuit.now.value over.chains.value over.patterns.value) }
+    ensures pairs { IfOk result (λ over. (pairs_reading circuit.now.value over.pairs.text ≡ Ok over.pairs.value) × ArePairs circuit.now.value over.pairs.value) }
     ensures fault { ends_by_fault result ≡ true → Rose (F.faults shelf.old) (F.faults shelf.new) }
     ensures same { F.files shelf.new ≡ F.files shelf.old }
     ensures later { F.faults shelf.old ≤ F.faults shelf.new }
 {
-    let circuit = read_circuit(alloc, shelf, files)?;
-    let names = names_of(alloc, &circuit.value)?;
-    let chains = read_chains(alloc, shelf, files, &circuit.value, &names)?;
+    let chains = read_chains(alloc, shelf, files, &circuit.value, names)?;
     let patterns = read_patterns(alloc, shelf, files, &circuit.value, &chains.value)?;
-    let pairs = read_neighbours(alloc, shelf, files, &circuit.value, &names)?;
-    drop(names);
+    let pairs = read_neighbours(alloc, shelf, files, &circuit.value, names)?;
+    Ok(OverCircuit {
+        chains,
+        patterns,
+        pairs,
+    })
+}
+
+// The same, with the names taken together once.
+fn read_over<'a, F: Shelf>(
+    alloc: Global,
+    shelf: &mut F,
+    files: &DesignFiles<'a>,
+    circuit: &FileText<Circuit>,
+) -> Result<OverCircuit, Stop<'a>>
+    ensures told { (held : List File) → F.files shelf.old ≡ Some held → Follows (shown (shown_over (shown_file circuit.now)) result) (with_circuit held (named_files files.now) (shown_file circuit.now)) }
+    ensures chains { IfOk result (λ over. (scan_reading circuit.now.value.nets over.chains.text ≡ Ok over.chains.value) × AreChains circuit.now.value over.chains.value) }
+    ensures patterns { IfOk result (λ over. (pattern_reading (pattern_frame circuit.now.value over.chains.value) over.patterns.text ≡ Ok over.patterns.value) × ArePatterns circuit.now.value over.chains.value over.patterns.value) }
+    ensures pairs { IfOk result (λ over. (pairs_reading circuit.now.value over.pairs.text ≡ Ok over.pairs.value) × ArePairs circuit.now.value over.pairs.value) }
+    ensures fault { ends_by_fault result ≡ true → Rose (F.faults shelf.old) (F.faults shelf.new) }
+    ensures same { F.files shelf.new ≡ F.files shelf.old }
+    ensures later { F.faults shelf.old ≤ F.faults shelf.new }
+{
+    let names = names_of(alloc, &circuit.value)?;
+    read_named(alloc, shelf, files, circuit, &names)
+}
+
+// The design of a netlist's file and of those that were read over its circuit.
+fn whole(
+    alloc: Global,
+    circuit: FileText<Circuit>,
+    over: OverCircuit,
+) -> Result<ReadDesign, NoMemory>
+    requires circuit { IsCircuit circuit.value }
+    requires chains { AreChains circuit.value over.chains.value }
+    requires patterns { ArePatterns circuit.value over.chains.value over.patterns.value }
+    requires pairs { ArePairs circuit.value over.pairs.value }
+    ensures { IfOk result (λ d. shown_design d ≡ shown_over (shown_file circuit) over) }
+{
+    let OverCircuit {
+        chains,
+        patterns,
+        pairs,
+    } = over;
     let parts = Parts::make(
         alloc,
         circuit.value,
@@ -168,4 +221,21 @@ pub fn read_design<'a, F: Shelf>(
         neighbours: pairs.text,
         parts,
     })
+}
+
+/// The design of the files of these names.
+pub fn read_design<'a, F: Shelf>(
+    alloc: Global,
+    shelf: &mut F,
+    files: &DesignFiles<'a>,
+) -> Result<ReadDesign, Stop<'a>>
+    ensures told { (held : List File) → F.files shelf.old ≡ Some held → Follows (shown shown_design result) (design_reading held (named_files files.now)) }
+    ensures stands { IfOk result (λ d. texts_reading (four d.netlist d.scan d.patterns d.neighbours) ≡ Ok d.parts) }
+    ensures fault { ends_by_fault result ≡ true → Rose (F.faults shelf.old) (F.faults shelf.new) }
+    ensures same { F.files shelf.new ≡ F.files shelf.old }
+    ensures later { F.faults shelf.old ≤ F.faults shelf.new }
+{
+    let circuit = read_circuit(alloc, shelf, files)?;
+    let over = read_over(alloc, shelf, files, &circuit)?;
+    Ok(whole(alloc, circuit, over)?)
 }

@@ -1,18 +1,27 @@
 //! `check`: the summary of the design of four files.
-ghost use Rattle.std.specs.Prelude.{◌≡◌, ◌≤◌, List, Some, true};
+ghost use Rattle.std.specs.Prelude.{◌≡◌, ◌≤◌, List, Some, true, false};
 ghost use Rattle.desk_outside.specs.declared.shelf.File.{File};
 ghost use Rattle.desk_outside.specs.Faults.{Rose};
+ghost use Rattle.diag_report.specs.Summary.{summary_text};
+ghost use Rattle.desk_commands.specs.Reading.{value};
 ghost use Rattle.desk_commands.specs.Work.{check_reading};
 ghost use Rattle.desk_commands.specs.Requests.{named_files};
 ghost use Rattle.desk_commands.specs.Stops.{Follows, ends_by_fault};
 
 use crate::command::DesignFiles;
-use crate::design::read_design;
+use crate::design::{ReadDesign, read_design};
 use crate::files::Stop;
 use desk_outside::Shelf;
 use diag_report::summary_text;
 use scan_model::Name;
 use std::alloc::Global;
+
+fn summary_over<'a>(alloc: Global, design: &ReadDesign) -> Result<Name, Stop<'a>>
+    ensures told { Follows result (value (summary_text design.now.parts)) }
+    ensures fault { ends_by_fault result ≡ false }
+{
+    Ok(summary_text(alloc, &design.parts)?)
+}
 
 /// The summary of the design of the files of these names.
 pub fn summary_of<'a, F: Shelf>(
@@ -25,5 +34,5 @@ pub fn summary_of<'a, F: Shelf>(
     ensures later { F.faults shelf.old ≤ F.faults shelf.new }
 {
     let design = read_design(alloc, shelf, files)?;
-    Ok(summary_text(alloc, &design.parts)?)
+    summary_over(alloc, &design)
 }

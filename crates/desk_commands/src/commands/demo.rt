@@ -13,7 +13,7 @@ ghost use Rattle.diag_report.specs.Summary.{count_line};
 ghost use Rattle.diagnosis.specs.Bundle.{texts_reading};
 ghost use Rattle.diagnosis.specs.Reading.{RefusedBy};
 ghost use Rattle.desk_commands.specs.Demo.{demo_output, injected_lines, rank_lines, section_word};
-ghost use Rattle.desk_commands.specs.Injected.{IsFound, IsAfterTexts, IsText, IsRefusal, place_of, texts_of};
+ghost use Rattle.desk_commands.specs.Injected.{IsDemoCase, IsFound, IsAfterTexts, IsText, IsRefusal, place_of, texts_of};
 
 use crate::command::Demo;
 use crate::commands::demo::diagnosed::diagnosis_of;
@@ -22,7 +22,7 @@ use crate::commands::demo::lines::{add_count, add_digest, add_head, add_injected
 use crate::generator::draws::Draws;
 use crate::generator::{Made, made_design};
 use crate::page::{Page, line_page, rule_line};
-use diagnosis::{BundleFault, Diagnosis, Section, parts_of};
+use diagnosis::{BundleFault, Case, Diagnosis, Section, parts_of};
 use scan_model::{Name, NoMemory, Parts, Rows};
 use std::alloc::Global;
 use std::thread::Threads;
@@ -90,20 +90,21 @@ fn add_ranking(
     add_digest(text, diagnosis.report.bytes())
 }
 
-// Adds the lines of the fault that is put in and of its diagnosis.
+// Adds the lines of the fault that is put in and of its diagnosis, for which its log is added to the die.
 fn add_diagnosis<R: Threads + Sync>(
     rt: &R,
     alloc: Global,
     text: &mut Name,
-    parts: Parts,
+    case: &mut Case,
     injected: Injected,
 ) -> Result<(), NoMemory>
-    requires found { IsFound parts injected }
-    ensures { OnOk result (text.new ≡ text.old ++ text_of.joined (injected_lines parts (Some injected.place))) }
+    requires case { IsDemoCase case.old }
+    requires found { IsFound case.old.test injected }
+    ensures { OnOk result (text.new ≡ text.old ++ text_of.joined (injected_lines case.old.test (Some injected.place))) }
 {
     let place = injected.place;
-    add_fault(alloc, text, &parts, &injected)?;
-    let diagnosis = diagnosis_of(rt, alloc, parts, injected)?;
+    add_fault(alloc, text, case.parts(), &injected)?;
+    let diagnosis = diagnosis_of(rt, alloc, case, injected)?;
     add_ranking(alloc, text, &diagnosis, place)
 }
 
@@ -112,19 +113,56 @@ fn add_found<R: Threads + Sync>(
     rt: &R,
     alloc: Global,
     text: &mut Name,
-    parts: Parts,
+    case: &mut Case,
     injected: Option<Injected>,
 ) -> Result<(), NoMemory>
-    requires { IfSome injected (IsFound parts) }
-    ensures { OnOk result (text.new ≡ text.old ++ text_of.joined (injected_lines parts (place_of injected))) }
+    requires case { IsDemoCase case.old }
+    requires found { IfSome injected (IsFound case.old.test) }
+    ensures { OnOk result (text.new ≡ text.old ++ text_of.joined (injected_lines case.old.test (place_of injected))) }
 {
     match injected {
         None => text.append(b"injected none\n"),
-        Some(injected) => add_diagnosis(rt, alloc, text, parts, injected),
+        Some(injected) => add_diagnosis(rt, alloc, text, case, injected),
     }
 }
 
-// The page of the design that was made, with the draws that come after its texts.
+// The text over the die of the design that was made, with the draws that come after its texts.
+fn text_over<R: Threads + Sync>(
+    rt: &R,
+    alloc: Global,
+    demo: Demo,
+    case: &mut Case,
+    draws: &mut Draws,
+) -> Result<Name, NoMemory>
+    requires case { IsDemoCase case.old }
+    requires names { HasWordNames case.old.test }
+    requires draws { IsAfterTexts demo.seed demo.blocks draws.old.state }
+    ensures { IfOk result (IsText demo.seed demo.blocks case.old.test) }
+{
+    let mut text = Rows::new(alloc);
+    add_head(alloc, &mut text, demo, case.parts())?;
+    let injected = inject(alloc, case, draws)?;
+    add_found(rt, alloc, &mut text, case, injected)?;
+    Ok(text)
+}
+
+// The text of the design that was made.
+fn text_of_design<R: Threads + Sync>(
+    rt: &R,
+    alloc: Global,
+    demo: Demo,
+    parts: Parts,
+    draws: &mut Draws,
+) -> Result<Name, NoMemory>
+    requires names { HasWordNames parts }
+    requires draws { IsAfterTexts demo.seed demo.blocks draws.old.state }
+    ensures { IfOk result (IsText demo.seed demo.blocks parts) }
+{
+    let mut case = Case::make(alloc, b"demo", b"demo", parts)?;
+    text_over(rt, alloc, demo, &mut case, draws)
+}
+
+// The page of the design that was made.
 fn page_of_design<R: Threads + Sync>(
     rt: &R,
     alloc: Global,
@@ -137,10 +175,7 @@ fn page_of_design<R: Threads + Sync>(
     ensures status { IfOk result (λ page. page.status ≡ 0) }
     ensures text { IfOk result (λ page. IsText demo.seed demo.blocks parts page.text) }
 {
-    let injected = inject(alloc, &parts, draws)?;
-    let mut text = Rows::new(alloc);
-    add_head(alloc, &mut text, demo, &parts)?;
-    add_found(rt, alloc, &mut text, parts, injected)?;
+    let text = text_of_design(rt, alloc, demo, parts, draws)?;
     Ok(Page { status: 0, text })
 }
 

@@ -1,18 +1,34 @@
 //! `pack`: the bundle of the design of four files.
-ghost use Rattle.std.specs.Prelude.{◌≡◌, ◌≤◌, List, Some, true};
+ghost use Rattle.std.specs.Prelude.{◌≡◌, ◌≤◌, List, Some, true, false};
 ghost use Rattle.desk_outside.specs.declared.shelf.File.{File};
 ghost use Rattle.desk_outside.specs.Faults.{Rose};
+ghost use Rattle.diagnosis.specs.Bundle.{bundle_text};
+ghost use Rattle.desk_commands.specs.Designs.{shown_design};
+ghost use Rattle.desk_commands.specs.Reading.{value};
 ghost use Rattle.desk_commands.specs.Work.{pack_reading};
 ghost use Rattle.desk_commands.specs.Requests.{named_files};
 ghost use Rattle.desk_commands.specs.Stops.{Follows, ends_by_fault};
 
 use crate::command::DesignFiles;
-use crate::design::read_design;
+use crate::design::{ReadDesign, read_design};
 use crate::files::Stop;
 use desk_outside::Shelf;
 use diagnosis::{Sections, bundle_text};
 use scan_model::Name;
 use std::alloc::Global;
+
+fn bundle_over<'a>(alloc: Global, design: &ReadDesign) -> Result<Name, Stop<'a>>
+    ensures told { Follows result (value (bundle_text (shown_design design.now).texts)) }
+    ensures fault { ends_by_fault result ≡ false }
+{
+    let texts = Sections {
+        netlist: design.netlist.as_slice(),
+        scan: design.scan.as_slice(),
+        patterns: design.patterns.as_slice(),
+        neighbours: design.neighbours.as_slice(),
+    };
+    Ok(bundle_text(alloc, &texts)?)
+}
 
 /// The bundle of the design of the files of these names.
 pub fn bundle_of<'a, F: Shelf>(
@@ -25,11 +41,5 @@ pub fn bundle_of<'a, F: Shelf>(
     ensures later { F.faults shelf.old ≤ F.faults shelf.new }
 {
     let design = read_design(alloc, shelf, files)?;
-    let texts = Sections {
-        netlist: design.netlist.as_slice(),
-        scan: design.scan.as_slice(),
-        patterns: design.patterns.as_slice(),
-        neighbours: design.neighbours.as_slice(),
-    };
-    Ok(bundle_text(alloc, &texts)?)
+    bundle_over(alloc, &design)
 }

@@ -1,11 +1,11 @@
 //! Right words, which `clap` assigns to the arguments of their command.
-ghost use Rattle.std.specs.Prelude.{◌≡◌, ◌≤◌, map, length, Some, true, false, IfOk, string_bytes};
+ghost use Rattle.std.specs.Prelude.{◌≡◌, ◌≤◌, map, length, Some, true, false, IfOk, codes, string_bytes};
 ghost use Rattle.std.specs.List.{list_all};
 ghost use Rattle.scan_model.specs.Words.{number_of};
 ghost use Rattle.clap.specs.Words.{app_of, found_of, is_simple, matches_of, rows_of, rule_of};
 ghost use Rattle.desk_commands.specs.Words.{is_plain_word, names_from, number_at, request_of};
 ghost use Rattle.desk_commands.specs.Requests.{named_files, said};
-ghost use Rattle.desk_commands.specs.Assigned.{argument, arguments, text_of, texts_of, names_in, with_files};
+ghost use Rattle.desk_commands.specs.Assigned.{argument, arguments, diagnose, demo, text_of, texts_of, names_in, request_in, with_files};
 
 use crate::command::{Demo, DesignFiles, Diagnose};
 use clap::{Arg, ArgMatches};
@@ -109,22 +109,54 @@ pub fn design_files_of<'a>(
     names_in(&matches)
 }
 
+// `diagnose` with its arguments.
+fn diagnose_command<'a>(alloc: Global) -> Result<clap::Command<'a>, AllocError>
+    ensures { IfOk result (λ c. app_of c ≡ diagnose) }
+{
+    let command = clap::Command::new(alloc, "diagnose")
+        .arg(argument(alloc, "design"))?
+        .arg(argument(alloc, "die"))?;
+    with_files(alloc, command)?.arg(arguments(alloc, "log"))
+}
+
+fn diagnose_in<'a>(alloc: Global, matches: &ArgMatches<'a>) -> Result<Diagnose<'a>, NoMemory>
+    ensures { IfOk result (λ diagnose. said diagnose ≡ request_in (rows_of (found_of matches.now))) }
+{
+    Ok(Diagnose {
+        design: text_of(matches, "design")?,
+        die: text_of(matches, "die")?,
+        files: names_in(matches)?,
+        logs: texts_of(alloc, matches, "log")?,
+    })
+}
+
 /// What the words of `diagnose` name.
 pub fn diagnose_of<'a>(alloc: Global, words: &'a [String]) -> Result<Diagnose<'a>, NoMemory>
     requires count { 8 ≤ length words.now }
     requires plain { list_all is_plain_word (map string_bytes words.now) ≡ true }
     ensures { IfOk result (λ diagnose. said diagnose ≡ request_of (map string_bytes words.entry.now)) }
 {
-    let command = clap::Command::new(alloc, "diagnose")
-        .arg(argument(alloc, "design"))?
-        .arg(argument(alloc, "die"))?;
-    let command = with_files(alloc, command)?.arg(arguments(alloc, "log"))?;
+    let command = diagnose_command(alloc)?;
     let matches = matches_of(command, words)?;
-    Ok(Diagnose {
-        design: text_of(&matches, "design")?,
-        die: text_of(&matches, "die")?,
-        files: names_in(&matches)?,
-        logs: texts_of(alloc, &matches, "log")?,
+    diagnose_in(alloc, &matches)
+}
+
+// `demo` with its arguments.
+fn demo_command<'a>(alloc: Global) -> Result<clap::Command<'a>, AllocError>
+    ensures { IfOk result (λ c. app_of c ≡ demo) }
+{
+    clap::Command::new(alloc, "demo")
+        .arg(argument(alloc, "seed"))?
+        .arg(argument(alloc, "blocks"))
+}
+
+fn demo_in(matches: &ArgMatches<'_>) -> Result<Demo, NoMemory>
+    ensures { IfOk result (λ demo. (number_of (text_of (codes "seed") (rows_of (found_of matches.now))) ≡ Some demo.seed)
+        × (number_of (text_of (codes "blocks") (rows_of (found_of matches.now))) ≡ Some demo.blocks)) }
+{
+    Ok(Demo {
+        seed: number_in(matches, "seed")?,
+        blocks: number_in(matches, "blocks")?,
     })
 }
 
@@ -134,12 +166,7 @@ pub fn demo_of(alloc: Global, words: &[String]) -> Result<Demo, NoMemory>
     requires plain { list_all is_plain_word (map string_bytes words.now) ≡ true }
     ensures { IfOk result (λ demo. (demo.seed ≡ number_at (map string_bytes words.entry.now) 1) × (demo.blocks ≡ number_at (map string_bytes words.entry.now) 2)) }
 {
-    let command = clap::Command::new(alloc, "demo")
-        .arg(argument(alloc, "seed"))?
-        .arg(argument(alloc, "blocks"))?;
+    let command = demo_command(alloc)?;
     let matches = matches_of(command, words)?;
-    Ok(Demo {
-        seed: number_in(&matches, "seed")?,
-        blocks: number_in(&matches, "blocks")?,
-    })
+    demo_in(&matches)
 }

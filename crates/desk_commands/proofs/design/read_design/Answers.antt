@@ -1,40 +1,11 @@
 use Rattle.std.proofs.Common.{rules, ◌≡◌, ◌∙◌, Err}
 use Rattle.desk_commands.specs.Designs.{shown_file}
 use Rattle.desk_commands.specs.Requests.{named_files}
-use Rattle.desk_commands.proofs.Designs.{stops_at_chains, stops_at_patterns, stops_at_neighbours}
+use Rattle.desk_commands.proofs.Designs.{stops_behind}
 use Rattle.desk_commands.proofs.design.read_design.Goals as goal
 
-pub returns-in_err-chains-clause-told : goal.returns-in_err-chains-clause-told
-returns-in_err-chains-clause-told g c = λ held e.
-    let is : c.from_residual-in_err-chains.result ≡ Err c.in_err-chains.field-0.0 = search rules in
-    let names = named_files c.args.files.now in
-    let same = c.read_circuit.ensures.same ∙ e in
-    rw is (stops_at_chains held names (shown_file c.in_ok-circuit.circuit) c.in_err-chains.field-0.0
-    (c.in_ok-circuit.ensures.told held e) (c.in_err-chains.ensures.told held same))
-
-pub returns-in_err-patterns-clause-told : goal.returns-in_err-patterns-clause-told
-returns-in_err-patterns-clause-told g c = λ held e.
-    let is : c.from_residual-in_err-patterns.result ≡ Err c.in_err-patterns.field-0.0 = search rules in
-    let names = named_files c.args.files.now in
-    let same = c.read_circuit.ensures.same ∙ e in
-    let same_after = c.read_chains.ensures.same ∙ same in
-    rw is (stops_at_patterns held names (shown_file c.in_ok-circuit.circuit) (shown_file c.in_ok-chains.chains) c.in_err-patterns.field-0.0
-    (c.in_ok-circuit.ensures.told held e) (c.in_ok-chains.ensures.told held same) (c.in_err-patterns.ensures.told held same_after))
-
-pub returns-in_err-pairs-clause-told : goal.returns-in_err-pairs-clause-told
-returns-in_err-pairs-clause-told g c = λ held e.
-    let is : c.from_residual-in_err-pairs.result ≡ Err c.in_err-pairs.field-0.0 = search rules in
-    let names = named_files c.args.files.now in
-    let same = c.read_circuit.ensures.same ∙ e in
-    let same_after = c.read_chains.ensures.same ∙ same in
-    rw is (stops_at_neighbours held names (shown_file c.in_ok-circuit.circuit) (shown_file c.in_ok-chains.chains) (shown_file c.in_ok-patterns.patterns) c.in_err-pairs.field-0.0
-    (c.in_ok-circuit.ensures.told held e) (c.in_ok-chains.ensures.told held same) (c.in_ok-patterns.ensures.told held same_after)
-    (c.in_err-pairs.ensures.told held (c.read_patterns.ensures.same ∙ same_after)))
-
-pub make-requires : goal.make-requires
-make-requires g c = record {
-  circuit = c.in_ok-circuit.ensures.fits;
-  chains = c.in_ok-chains.ensures.fits;
-  patterns = c.in_ok-patterns.ensures.fits;
-  pairs = c.in_ok-pairs.ensures.fits;
-}
+pub returns-in_err-over-clause-told : goal.returns-in_err-over-clause-told
+returns-in_err-over-clause-told g c = λ held e.
+    let is : c.from_residual-in_err-over.result ≡ Err c.in_err-over.field-0.0 = search rules in
+    rw is (stops_behind held (named_files c.args.files.now) (shown_file c.in_ok-circuit.circuit) c.in_err-over.field-0.0
+    (c.in_ok-circuit.ensures.told held e) (c.in_err-over.ensures.told held (c.read_circuit.ensures.same ∙ e)))

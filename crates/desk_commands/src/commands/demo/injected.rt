@@ -2,13 +2,12 @@
 ghost use Rattle.std.specs.Prelude.{◌≡◌, ◌<◌, ℕ, length, IfOk, IfSome};
 ghost use Rattle.scan_model.specs.Universe.{universe};
 ghost use Rattle.diag_report.specs.PredictedLog.{HasWordNames};
-ghost use Rattle.desk_commands.specs.Injected.{IsOwnLog, IsFound, IsFirst, IsAfterTexts, IsDrawn, place_of};
+ghost use Rattle.desk_commands.specs.Injected.{IsDemoCase, IsOwnLog, IsFound, IsFirst, IsAfterTexts, IsDrawn, place_of};
 
 use crate::generator::draws::Draws;
-use diag_report::fails_text;
-use diagnosis::{ReadLog, log_over};
+use diagnosis::{Case, ReadLog, log_over};
 use fault_universe::universe_len;
-use scan_model::{NoMemory, Parts};
+use scan_model::NoMemory;
 use std::alloc::Global;
 use text_parts::ReadFault;
 
@@ -23,13 +22,14 @@ pub struct Injected {
 }
 
 // The log that the fault at a place predicts, as it is read.
-fn own_log(alloc: Global, parts: &Parts, place: u32) -> Result<ReadLog, NoMemory>
-    requires names { HasWordNames parts.now }
-    requires place { place < length (universe parts.now) }
-    ensures { IfOk result (IsOwnLog parts.now place) }
+fn own_log(alloc: Global, case: &Case, place: u32) -> Result<ReadLog, NoMemory>
+    requires case { IsDemoCase case.now }
+    requires names { HasWordNames case.now.test }
+    requires place { place < length (universe case.now.test) }
+    ensures { IfOk result (IsOwnLog case.now.test place) }
 {
-    let text = fails_text(alloc, parts, b"demo", b"demo", place)?;
-    match log_over(alloc, parts, b"demo", b"demo", text) {
+    let text = case.predicted(alloc, place)?;
+    match log_over(alloc, case.parts(), b"demo", b"demo", text) {
         Ok(log) => Ok(log),
         Err(ReadFault::Text(_)) => unreachable!(),
         Err(ReadFault::NoMemory) => Err(NoMemory),
@@ -39,19 +39,20 @@ fn own_log(alloc: Global, parts: &Parts, place: u32) -> Result<ReadLog, NoMemory
 // The first of the tried places from this one on, of so many, whose fault predicts a fail.
 fn first_failing(
     alloc: Global,
-    parts: &Parts,
+    case: &Case,
     first: u32,
     count: u32,
 ) -> Result<Option<Injected>, NoMemory>
-    requires names { HasWordNames parts.now }
-    requires count { count ≡ length (universe parts.now) }
+    requires case { IsDemoCase case.now }
+    requires names { HasWordNames case.now.test }
+    requires count { count ≡ length (universe case.now.test) }
     requires some { 0 < count }
-    ensures found { IfOk result (λ injected. IfSome injected (IsFound parts.now)) }
-    ensures first { IfOk result (λ injected. IsFirst parts.now first (place_of injected)) }
+    ensures found { IfOk result (λ injected. IfSome injected (IsFound case.now.test)) }
+    ensures first { IfOk result (λ injected. IsFirst case.now.test first (place_of injected)) }
 {
     for i in 0..TRIES {
         let place = ((u64::from(first) + i) % u64::from(count)) as u32;
-        let log = own_log(alloc, parts, place)?;
+        let log = own_log(alloc, case, place)?;
         if !log.facts().fails.is_empty() {
             return Ok(Some(Injected { place, log }));
         }
@@ -60,15 +61,16 @@ fn first_failing(
 }
 
 /// The first fault from a drawn place on, round the end, that predicts a fail; none where none of those that are tried does.
-pub fn inject(alloc: Global, parts: &Parts, draws: &mut Draws) -> Result<Option<Injected>, NoMemory>
-    requires { HasWordNames parts.now }
-    ensures found { IfOk result (λ injected. IfSome injected (IsFound parts.now)) }
-    ensures drawn { (seed blocks : ℕ) → IsAfterTexts seed blocks draws.old.state → IfOk result (λ injected. IsDrawn seed blocks parts.now (place_of injected)) }
+pub fn inject(alloc: Global, case: &Case, draws: &mut Draws) -> Result<Option<Injected>, NoMemory>
+    requires case { IsDemoCase case.now }
+    requires names { HasWordNames case.now.test }
+    ensures found { IfOk result (λ injected. IfSome injected (IsFound case.now.test)) }
+    ensures drawn { (seed blocks : ℕ) → IsAfterTexts seed blocks draws.old.state → IfOk result (λ injected. IsDrawn seed blocks case.now.test (place_of injected)) }
 {
-    let count = universe_len(parts);
+    let count = universe_len(case.parts());
     if count == 0 {
         return Ok(None);
     }
     let first = draws.draw(count);
-    first_failing(alloc, parts, first, count)
+    first_failing(alloc, case, first, count)
 }

@@ -1,7 +1,12 @@
-use Rattle.std.proofs.lemmas.Result.{err_from_is_err_and}
+use Rattle.diag_report.specs.Summary.{summary_text}
+use Rattle.desk_commands.specs.Designs.{shown_design}
+use Rattle.desk_commands.specs.Reading.{value}
+use Rattle.desk_commands.specs.Requests.{named_files}
+use Rattle.desk_commands.specs.Work.{design_reading}
+use Rattle.desk_commands.proofs.Chain.{after_serving}
 use Rattle.desk_commands.proofs.commands.check.summary_of.Goals as goal
 
-pub returns-in_err-summary_text-clause-told : goal.returns-in_err-summary_text-clause-told
-returns-in_err-summary_text-clause-told g c = λ held e.
-    let is = err_from_is_err_and c.from_residual-in_err-summary_text.result c.from_residual-in_err-summary_text.ensures.1 in
-    rw (is.1, is.2) tt
+pub returns-clause-told : goal.returns-clause-told
+returns-clause-told g c = λ held e.
+    after_serving (design_reading held (named_files c.args.files.now)) (λ d. value (summary_text d.test)) (shown_design c.in_ok-design.design) c.summary_over.result
+    (c.in_ok-design.ensures.told held e) c.summary_over.ensures.told

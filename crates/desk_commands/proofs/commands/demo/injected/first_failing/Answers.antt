@@ -6,7 +6,7 @@ use Rattle.desk_commands.proofs.commands.demo.injected.first_failing.Goals as go
 
 pub loop-i-preserved : goal.loop-i-preserved
 loop-i-preserved c =
-    let t = c.args.parts.now in
+    let t = c.args.case.now.test in
     let place = (c.args.first + c.loop-i.i) % c.args.count in
     let same : (c.from.result + c.loop-i.i) % c.from-in-loop-i.result ≡ place = ap (λ (n : ℕ). (n + c.loop-i.i) % c.from-in-loop-i.result) c.from.ensures ∙ ap (λ (n : ℕ). (c.args.first + c.loop-i.i) % n) c.from-in-loop-i.ensures in
     let own : IsOwnLog t place c.in_ok-log.log = subst (λ (n : ℕ). IsOwnLog t n c.in_ok-log.log) same c.in_ok-log.ensures in
@@ -19,7 +19,7 @@ returns-then-not-is_empty-clause-found c = record { within = omega arith; own = 
 
 pub returns-then-not-is_empty-clause-first : goal.returns-then-not-is_empty-clause-first
 returns-then-not-is_empty-clause-first c =
-    let t = c.args.parts.now in
+    let t = c.args.case.now.test in
     let log = c.in_ok-log.log in
     let place = (c.args.first + c.loop-i.i) % c.args.count in
     let same : (c.from.result + c.loop-i.i) % c.from-in-loop-i.result ≡ place = ap (λ (n : ℕ). (n + c.loop-i.i) % c.from-in-loop-i.result) c.from.ensures ∙ ap (λ (n : ℕ). (c.args.first + c.loop-i.i) % n) c.from-in-loop-i.ensures in
@@ -30,4 +30,4 @@ returns-then-not-is_empty-clause-first c =
     subst (λ (n : ℕ). IsFirst t c.args.first (Some n)) (sym same) at
 
 pub returns-clause-first : goal.returns-clause-first
-returns-clause-first c = no_place c.args.parts.now c.args.first c.args.count c.requires.count c.requires.some (λ k lt. c.loop-i.invariant k (omega arith))
+returns-clause-first c = no_place c.args.case.now.test c.args.first c.args.count c.requires.count c.requires.some (λ k lt. c.loop-i.invariant k (omega arith))
