@@ -36,10 +36,11 @@ wait_for_the_first_line() {
     done
 }
 
-# serve SESSIONS: the program serves so many connections over the store, at the first of these ports that nobody else has.
+# serve WORKERS SESSIONS: so many workers serve so many connections each, over the store, at the first of these ports that
+# nobody else has.
 serve() {
     for port in ${PORT:-18490 18491 18492 18493}; do
-        timeout 900 "$program" serve "$port" 1 "$1" "$work/store" >"$work/lines" &
+        timeout 900 "$program" serve "$port" "$1" "$2" "$work/store" >"$work/lines" &
         serving=$!
         wait_for_the_first_line
         grep -q '^serving' "$work/lines" && break
@@ -60,7 +61,7 @@ ended() {
 }
 
 cd "$top/examples/day" || exit 1
-serve 13
+serve 1 13
 ask put-design --upload-file pack.expected "$desk/designs/block"
 ask put-design-again --upload-file pack.expected "$desk/designs/block"
 ask post-first-log --data-binary @first.log "$die/logs"
@@ -84,8 +85,8 @@ ask get-twice "$die/signoffs/1" "$die/signoffs/1"
 ask get-none "$desk/designs/none"
 ask delete-design --request DELETE "$desk/designs/block"
 ended lines
-# Another run finds what the first has kept.
-serve 2
+# Another run finds what the first has kept. Its two connections are those of two workers.
+serve 2 1
 ask post-first-log-again --data-binary @first.log "$die/logs"
 ask get-signoff "$die/signoffs/1"
 ended lines-again

@@ -1,4 +1,4 @@
-//! Rows of the commands: words and files in memory whose output is known from outside.
+//! Rows of the commands and of `serve`: words, files, streets and stores in memory whose output is known from outside.
 #![tactic(auto)]
 
 #[cfg(test)]

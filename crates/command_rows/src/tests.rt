@@ -6,4 +6,5 @@ mod files;
 mod refusals;
 mod reports;
 mod runs;
+mod serve;
 mod words;

@@ -1,5 +1,6 @@
 mod chains;
 mod counts;
+mod demo;
 mod designs;
 mod fails;
 mod joined;

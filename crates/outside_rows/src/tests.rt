@@ -2,3 +2,4 @@ mod exchanges;
 mod files;
 mod keepers;
 mod links;
+mod store;

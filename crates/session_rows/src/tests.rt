@@ -16,6 +16,7 @@ mod bodies;
 mod byte_link;
 mod cut;
 mod failing;
+mod gate;
 mod heads;
 mod hostile;
 mod incoming;

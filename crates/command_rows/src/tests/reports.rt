@@ -1,6 +1,5 @@
 //! Reports of `diagnose`.
-use super::runs::ran_after;
-use std::test::Fail;
+use super::runs::{Asked, ends};
 
 // The reports of runs, by the words after `diagnose`.
 const REPORTS: &[(&[&str], &[u8])] = &[
@@ -246,11 +245,9 @@ candidate 10 fault 32 tfsf 1 tfsp 0 tpsf 0 branch 16 to 23 1 sa0\n\
 ";
 
 #[test]
-fn each_report_is_as_known(rt: HostRuntime) -> Result<(), Fail> {
+fn each_report_is_as_known(rt: HostRuntime) {
     for (words, report) in REPORTS {
-        let (status, text) = ran_after(&rt, rt.alloc(), "diagnose", words)?;
-        assert_eq!(rt; status, 0);
-        assert_eq!(rt; text.as_slice(), *report);
+        let asked = Asked::surely("diagnose", words);
+        assert!(rt; matches!(ends(&rt, rt.alloc(), &asked, 0, report), Ok(true)));
     }
-    Ok(())
 }

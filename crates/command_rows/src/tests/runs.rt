@@ -2,73 +2,112 @@
 use super::files::files_in_memory;
 use desk_outside::{File, MemCabinet, MemShelf, MemSink, MemStreet, Sink, are_distinct};
 use desk_run::run;
-use scan_model::Rows;
-use std::alloc::{AllocError, Global};
+use scan_model::{NoMemory, Rows};
+use std::alloc::Global;
 use std::sync::Wait;
-use std::test::Fail;
 use std::thread::Threads;
 
-fn strings(alloc: Global, command: &str, words: &[&str]) -> Result<Vec<String>, AllocError> {
+/// A command, the words after it, and the numbers of the reads of the shelf and the writes to the sink that fail.
+#[derive(Clone, Copy)]
+pub struct Asked<'a> {
+    pub command: &'a str,
+    pub words: &'a [&'a str],
+    pub failing_reads: &'a [u64],
+    pub failing_writes: &'a [u64],
+}
+
+impl<'a> Asked<'a> {
+    /// Where no call fails.
+    pub fn surely(command: &'a str, words: &'a [&'a str]) -> Asked<'a> {
+        Asked {
+            command,
+            words,
+            failing_reads: &[],
+            failing_writes: &[],
+        }
+    }
+}
+
+fn add(alloc: Global, all: &mut Vec<String>, word: &str) -> Result<(), NoMemory> {
+    let word = String::from_str(alloc, word)?;
+    all.push(word)?;
+    Ok(())
+}
+
+fn strings(alloc: Global, asked: &Asked<'_>) -> Result<Vec<String>, NoMemory> {
     let mut all = Vec::new(alloc);
-    all.push(String::from_str(alloc, command)?)?;
-    for word in words {
-        all.push(String::from_str(alloc, word)?)?;
+    add(alloc, &mut all, asked.command)?;
+    for word in asked.words {
+        add(alloc, &mut all, word)?;
     }
     Ok(all)
 }
 
-/// The status and the text of a command with these words after it.
-pub fn ran_after<R: Threads + Wait + Sync>(
-    rt: &R,
-    alloc: Global,
-    command: &str,
-    words: &[&str],
-) -> Result<(u8, Vec<u8>), Fail> {
-    let held = files_in_memory(alloc)?;
-    ran_over(rt, alloc, held, command, words, &[], &[])
+fn calls_of(alloc: Global, calls: &[u64]) -> Result<Rows<u64>, NoMemory> {
+    Ok(Rows::from_vec(Vec::from_slice(alloc, calls)?))
 }
 
-/// The same over a shelf with these files, where these reads of the shelf and these writes to the sink fail.
-pub fn ran_over<R: Threads + Wait + Sync>(
-    rt: &R,
-    alloc: Global,
-    held: Rows<File>,
-    command: &str,
-    words: &[&str],
-    failing_reads: &[u64],
-    failing_writes: &[u64],
-) -> Result<(u8, Vec<u8>), Fail> {
-    let failing_writes = Rows::from_vec(Vec::from_slice(alloc, failing_writes)?);
-    let mut sink = MemSink::make_failing(alloc, Rows::new(alloc), failing_writes)?;
-    let status = status_over(rt, alloc, held, command, words, failing_reads, &mut sink)?;
-    Ok((status, Vec::from_slice(alloc, sink.bytes())?))
+fn shelf_of(alloc: Global, held: Rows<File>, failing: &[u64]) -> Result<MemShelf, NoMemory> {
+    let failing = calls_of(alloc, failing)?;
+    if !are_distinct(held.as_slice()) {
+        return Err(NoMemory);
+    }
+    MemShelf::make_failing(alloc, held, failing)
 }
 
-/// The status of the same, whose text goes to this sink.
+fn sink_of(alloc: Global, failing: &[u64]) -> Result<MemSink, NoMemory> {
+    let failing = calls_of(alloc, failing)?;
+    MemSink::make_failing(alloc, Rows::new(alloc), failing)
+}
+
+// The street and the cabinet are empty.
+fn run_with<R: Threads + Wait + Sync, O: Sink>(
+    rt: &R,
+    alloc: Global,
+    words: &[String],
+    shelf: &mut MemShelf,
+    sink: &mut O,
+) -> Result<u8, NoMemory> {
+    let mut street = MemStreet::make(alloc, Rows::new(alloc))?;
+    let mut cabinet = MemCabinet::make(alloc, Rows::new(alloc))?;
+    Ok(run(rt, alloc, words, shelf, sink, &mut street, &mut cabinet))
+}
+
+/// The status of a run over a shelf with these files, whose text goes to this sink.
 pub fn status_over<R: Threads + Wait + Sync, O: Sink>(
     rt: &R,
     alloc: Global,
     held: Rows<File>,
-    command: &str,
-    words: &[&str],
-    failing_reads: &[u64],
+    asked: &Asked<'_>,
     sink: &mut O,
-) -> Result<u8, Fail> {
-    let words = strings(alloc, command, words)?;
-    if !are_distinct(held.as_slice()) {
-        Err::<(), _>("a name stands twice")?;
-    }
-    let failing_reads = Rows::from_vec(Vec::from_slice(alloc, failing_reads)?);
-    let mut shelf = MemShelf::make_failing(alloc, held, failing_reads)?;
-    let mut street = MemStreet::make(alloc, Rows::new(alloc))?;
-    let mut cabinet = MemCabinet::make(alloc, Rows::new(alloc))?;
-    Ok(run(
-        rt,
-        alloc,
-        &words,
-        &mut shelf,
-        sink,
-        &mut street,
-        &mut cabinet,
-    ))
+) -> Result<u8, NoMemory> {
+    let mut shelf = shelf_of(alloc, held, asked.failing_reads)?;
+    let words = strings(alloc, asked)?;
+    run_with(rt, alloc, &words, &mut shelf, sink)
+}
+
+/// Whether a run over a shelf with these files ends with this status and this text.
+pub fn ends_over<R: Threads + Wait + Sync>(
+    rt: &R,
+    alloc: Global,
+    held: Rows<File>,
+    asked: &Asked<'_>,
+    due: u8,
+    text: &[u8],
+) -> Result<bool, NoMemory> {
+    let mut sink = sink_of(alloc, asked.failing_writes)?;
+    let status = status_over(rt, alloc, held, asked, &mut sink)?;
+    Ok(status == due && sink.bytes() == text)
+}
+
+/// The same over the files of all runs.
+pub fn ends<R: Threads + Wait + Sync>(
+    rt: &R,
+    alloc: Global,
+    asked: &Asked<'_>,
+    due: u8,
+    text: &[u8],
+) -> Result<bool, NoMemory> {
+    let held = files_in_memory(alloc)?;
+    ends_over(rt, alloc, held, asked, due, text)
 }

@@ -54,7 +54,7 @@ fn are_equal<R: Threads + Sync>(
     Ok(rows.as_slice() == plain.as_slice() && rows.len() > 0)
 }
 
-fn are_equal_over<R: Threads + Sync>(
+pub(crate) fn are_equal_over<R: Threads + Sync>(
     rt: &R,
     alloc: Global,
     design: &Design,

@@ -1,28 +1,19 @@
+//! No session waits for another that is held in its gate.
 ghost use Rattle.std.specs.Prelude.{◌≡◌, All, IfOk};
 ghost use Rattle.desk_http.specs.DeskSeats.{IsSeatOf};
 
-use self::texts::*;
+use super::joined;
+use super::texts::*;
 use desk_http::{ReportCache, session};
 use desk_outside::{Gate, Keeper, Link, MemKeeper, MemLink, OpenGate};
 use desk_rows::start_two;
-use scan_model::{Name, NoMemory, Rows};
+use scan_model::{NoMemory, Rows};
 use shared_desk::{Desk, DeskSeat};
 use std::alloc::Global;
 use std::sync::Wait;
 use std::sync::atomic::{AtomicU64, Ordering};
 use std::thread;
 use std::thread::Threads;
-
-mod texts;
-
-// These parts, one after another.
-fn joined(alloc: Global, parts: &[&[u8]]) -> Result<Name, NoMemory> {
-    let mut text = Name::new(alloc);
-    for part in parts {
-        text.append(part)?;
-    }
-    Ok(text)
-}
 
 // A gate that holds its session until a flag is set, though not for ever.
 #[derive(Drop)]

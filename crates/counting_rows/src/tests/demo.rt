@@ -1,0 +1,33 @@
+//! The counts of the design of `demo 7 2`.
+
+use super::counts::are_equal_over;
+use desk_commands::made_design;
+use diagnosis::{BundleFault, Design, design_of};
+use std::alloc::Global;
+use std::thread::Threads;
+
+/// Fails of outputs of both blocks and of cells, in two words of patterns.
+const LOG: &[u8] =
+    b"FAILLOG 1\ndie D1\ndesign d\ntested 0 511\nfail 1 out g0_90\nfail 1 cell c0 3\nfail 70 out g1_92\nfail 70 cell c0 8\nend\n";
+
+fn demo_design(alloc: Global) -> Result<Design, BundleFault> {
+    let made = made_design(alloc, 7, 2)?;
+    design_of(
+        alloc,
+        b"d",
+        made.netlist.as_slice(),
+        made.scan.as_slice(),
+        made.patterns.as_slice(),
+        made.neighbours.as_slice(),
+    )
+}
+
+fn demo_is_equal<R: Threads + Sync>(rt: &R, alloc: Global) -> Result<bool, BundleFault> {
+    let design = demo_design(alloc)?;
+    are_equal_over(rt, alloc, &design, LOG)
+}
+
+#[test]
+fn counts_of_demo_7_2(rt: HostRuntime) {
+    assert!(rt; matches!(demo_is_equal(&rt, rt.alloc()), Ok(true)));
+}

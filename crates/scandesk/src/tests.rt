@@ -1,2 +1,0 @@
-mod outside;
-mod street;

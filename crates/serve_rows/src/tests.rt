@@ -1,3 +1,0 @@
-mod failing;
-mod outsides;
-mod runs;

@@ -1,4 +1,0 @@
-mod changed;
-mod deeds;
-mod kept;
-mod stores;
