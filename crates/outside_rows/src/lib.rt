@@ -1,4 +1,4 @@
-//! Tests of the outside: its objects that stand in memory, through their traits, and deeds that are kept in a database file.
+//! Tests of the objects of the outside that stand in memory, through their traits.
 #![tactic(auto)]
 
 #[cfg(test)]

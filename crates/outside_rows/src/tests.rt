@@ -2,4 +2,3 @@ mod exchanges;
 mod files;
 mod keepers;
 mod links;
-mod store;

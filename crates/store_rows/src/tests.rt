@@ -1,0 +1,4 @@
+mod changed;
+mod deeds;
+mod kept;
+mod stores;
