@@ -2,7 +2,7 @@
 
 pub(crate) mod resource;
 
-ghost use Rattle.std.specs.Prelude.{◌≡◌, IfOk};
+ghost use Rattle.std.specs.Prelude.{◌≡◌, [], IfOk, OnOk};
 ghost use Rattle.desk_http.specs.Routes.{routes};
 
 use matchit::{InsertError, Router};
@@ -64,10 +64,10 @@ impl Routes {
 }
 
 // No two of these routes conflict, so that an error is want of memory.
-fn router(alloc: Global) -> Result<Router<Route>, InsertError>
-    ensures { IfOk result (λ router. router ≡ routes) }
+fn add_routes(router: &mut Router<Route>) -> Result<(), InsertError>
+    requires { router.old ≡ [] }
+    ensures { OnOk result (router.new ≡ routes) }
 {
-    let mut router = Router::new(alloc);
     router.insert("/designs/{design}", Route::Design)?;
     router.insert("/designs/{design}/faults/{fault}/fails", Route::Fails)?;
     router.insert("/designs/{design}/dies/{die}/logs", Route::Logs)?;
@@ -85,5 +85,13 @@ fn router(alloc: Global) -> Result<Router<Route>, InsertError>
         "/designs/{design}/dies/{die}/signoffs/{number}",
         Route::Sign,
     )?;
+    Ok(())
+}
+
+fn router(alloc: Global) -> Result<Router<Route>, InsertError>
+    ensures { IfOk result (λ router. router ≡ routes) }
+{
+    let mut router = Router::new(alloc);
+    add_routes(&mut router)?;
     Ok(router)
 }

@@ -387,11 +387,14 @@ impl Room {
         ensures piece { IfOk result (λ room. vec_len room.piece ≡ 65536) }
         ensures marks { IfOk result (λ room. room.marks ≡ []) }
     {
+        let piece = vec![in alloc; 0; PIECE]?;
+        let marks = Marks::make(alloc)?;
+        let inbox = Inbox::make(alloc)?;
         Ok(Room {
             routes: Routes::make(alloc)?,
-            inbox: Inbox::make(alloc)?,
-            piece: vec![in alloc; 0; PIECE]?,
-            marks: Marks::make(alloc)?,
+            inbox,
+            piece,
+            marks,
         })
     }
 }
