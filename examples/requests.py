@@ -4,8 +4,8 @@
     examples/requests.py PROGRAM FOLDER
 
 They are the rows of the table below 'Examples', one after another, each over a connection of its own to a desk without deeds; then each
-example of the rule of a bundle, as the body of a PUT; and three heads that are refused before their body is read. FOLDER has the files
-that the rows name. The last line tells how many replies were compared and how many were wrong.
+example of the rule of a bundle, as the body of a PUT; and three heads that are refused before their body is read. A last connection sends
+nothing, and nothing is due. FOLDER has the files that the rows name. The last line tells how many replies were compared and how many were wrong.
 """
 import os
 import re
@@ -65,6 +65,13 @@ def reply_to(port, sent):
     return head.decode('latin-1').split(' ')[1], body
 
 
+def is_silent(port):
+    """Whether a connection that sends nothing is sent nothing."""
+    with socket.create_connection(('127.0.0.1', port), timeout=60) as link:
+        link.shutdown(socket.SHUT_WR)
+        return link.recv(1) == b''
+
+
 def serve(program, sessions, store):
     """The program at the first of the ports that nobody else has."""
     for port in PORTS:
@@ -80,14 +87,15 @@ def main():
     due = list(examples(folder))
     wrong = 0
     with tempfile.TemporaryDirectory() as room:
-        serving, port = serve(program, len(due), os.path.join(room, 'store'))
+        serving, port = serve(program, len(due) + 1, os.path.join(room, 'store'))
         for sent, status, reply in due:
             came = reply_to(port, sent)
             if came != (status, reply.encode() + b'\n'):
                 wrong += 1
                 print(f'{sent[:60]!r}: answered {came}, {status} {reply} was due')
+        wrong += not is_silent(port)
         last = serving.stdout.read()
-        wrong += last != f'sessions {len(due)} deeds 3\n' or serving.wait() != 0
+        wrong += last != f'sessions {len(due) + 1} deeds 3\n' or serving.wait() != 0
     print(f'{len(due)} requests, {wrong} wrong')
     sys.exit(1 if wrong else 0)
 
