@@ -1,18 +1,17 @@
 -- Pairs that are kept and left out.
-use Rattle.std.proofs.Common.{◌≡◌, ℕ, ◌+◌, ◌-◌, ◌<◌, ◌≤◌, Bool, true, false, not, cond, ◌||◌, List, [], ◌∷◌, ◌++◌, length, get_or, take, drop, map, refl, sym, ap, ◌∙◌, arith}
-use Rattle.std.specs.Prelude.{filter, All}
+use Rattle.std.proofs.Common.{◌≡◌, ℕ, ◌+◌, ◌-◌, ◌<◌, ◌≤◌, Bool, true, false, not, cond, List, [], ◌∷◌, ◌++◌, length, get_or, take, drop, refl, sym, ap, ◌∙◌, arith}
+use Rattle.std.specs.Prelude.{filter}
 use Rattle.std.specs.List.{IsDistinct, AllPairs}
 use Rattle.std.proofs.Math.Seq.{take-add}
 use Rattle.std.proofs.lemmas.Bool.{not-true, or_parts}
-use Rattle.std.proofs.lemmas.List.{append_assoc, get_or-map, length-map}
-use Rattle.std.proofs.lemmas.List.Elements.{All-filter, All-map, All-same, All-weaker, filter_more, filter_passes, filter-append}
+use Rattle.std.proofs.lemmas.List.{append_assoc}
+use Rattle.std.proofs.lemmas.List.Elements.{All-filter, All-weaker, filter_more, filter_passes, filter-append}
 use Rattle.std.proofs.lemmas.List.Filters.{length-filter_both}
 use Rattle.std.proofs.lemmas.List.Kept.{AllPairs-filter}
 use Rattle.std.proofs.lemmas.Map.Keys.{apart_from_distinct, IsDistinct-from_apart}
 use Rattle.scan_model.specs.declared.parts.Pair.{Pair}
 use Rattle.scan_model.specs.Netlist.{Netlist}
 use Rattle.scan_model.specs.Cone.{in_fan_in}
-use Rattle.scan_model.specs.BitTable.{table_bit}
 use Rattle.scan_model.specs.ScanTest.{same_pair, IsNoFeedback, ArePairs}
 use Rattle.bridge_pairs.specs.PairText.{is_feedback, parted}
 use Rattle.bridge_pairs.specs.NamedNets.{AreNamed}
@@ -34,27 +33,6 @@ pub kept_more : (test : Pair → Bool) (batch : List Pair) (j : ℕ) (d : Pair) 
     → old ≡ start ++ filter (λ q. not (test q)) (take j batch) → new ≡ old ++ cond b [] (get_or batch j d ∷ []) → new ≡ start ++ filter (λ q. not (test q)) (take (j + 1) batch)
 kept_more test batch j d b start old new lt tested so_far pushed =
     left_out_more (λ q. not (test q)) batch j d (not b) start old new lt (ap not tested) so_far (pushed ∙ ap (λ xs. old ++ xs) (sym (kept_one b (get_or batch j d))))
-
-pub starts_in_range : (n : ℕ) (net : Pair → ℕ) (batch : List Pair) (starts : List ℕ) → All (λ p. net p < n) batch → starts ≡ map net batch → All (λ m. m < n) starts
-starts_in_range n net batch starts within is = All-same (λ m. m < n) starts (map net batch) is (All-map (λ m. m < n) net batch within)
-
--- the words of a batch tell its feedback pairs
-pub tested_pair : (c : Netlist) (batch : List Pair) (j : ℕ) (d : Pair) (firsts seconds from_a from_b : List ℕ) (b : Bool) → j < length batch → All (λ p. (p.a < length c.nets) × (p.b < length c.nets)) batch
-    → firsts ≡ map (λ p. p.a) batch → seconds ≡ map (λ p. p.b) batch → length from_a ≡ length c.nets → length from_b ≡ length c.nets
-    → ((i n : ℕ) → i < length firsts → n < length c.nets → table_bit from_a (length c.nets) i n ≡ in_fan_in c (get_or firsts i 0) n)
-    → ((i n : ℕ) → i < length seconds → n < length c.nets → table_bit from_b (length c.nets) i n ≡ in_fan_in c (get_or seconds i 0) n)
-    → b ≡ (table_bit from_a (length from_a) j (get_or batch j d).b || table_bit from_b (length from_b) j (get_or batch j d).a) → b ≡ is_feedback c (get_or batch j d)
-tested_pair c batch j d firsts seconds from_a from_b b lt within are_firsts are_seconds len_a len_b bits_a bits_b is =
-    let p = get_or batch j d in
-    let N = length c.nets in
-    let nets : (p.a < N) × (p.b < N) = within j d lt in
-    let first : get_or firsts j 0 ≡ p.a = ap (λ xs. get_or xs j 0) are_firsts ∙ get_or-map (λ q. q.a) batch j d 0 lt in
-    let second : get_or seconds j 0 ≡ p.b = ap (λ xs. get_or xs j 0) are_seconds ∙ get_or-map (λ q. q.b) batch j d 0 lt in
-    let short_a : j < length firsts = omega (arith, ap length are_firsts, length-map batch (λ q. q.a)) in
-    let short_b : j < length seconds = omega (arith, ap length are_seconds, length-map batch (λ q. q.b)) in
-    let a_of_b : table_bit from_a (length from_a) j p.b ≡ in_fan_in c p.a p.b = ap (λ n. table_bit from_a n j p.b) len_a ∙ bits_a j p.b short_a nets.1 ∙ ap (λ m. in_fan_in c m p.b) first in
-    let b_of_a : table_bit from_b (length from_b) j p.a ≡ in_fan_in c p.b p.a = ap (λ n. table_bit from_b n j p.a) len_b ∙ bits_b j p.a short_b nets.0 ∙ ap (λ m. in_fan_in c m p.a) second in
-    is ∙ ap (λ x. x || table_bit from_b (length from_b) j p.a) a_of_b ∙ ap (λ x. in_fan_in c p.a p.b || x) b_of_a
 
 -- one more batch
 pub batch_more : (test : Pair → Bool) (pairs : List Pair) (at end : ℕ) (old new : List Pair) → at ≤ end → old ≡ filter test (take at pairs) → new ≡ old ++ filter test (take (end - at) (drop at pairs)) → new ≡ filter test (take end pairs)

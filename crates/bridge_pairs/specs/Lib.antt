@@ -2,3 +2,4 @@ pub mod PairText
 pub mod PairSets
 pub mod FieldViews
 pub mod NamedNets
+pub mod Ranks

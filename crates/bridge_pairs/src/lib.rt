@@ -3,6 +3,7 @@
 
 mod fields;
 mod named;
+mod ranks;
 mod reading;
 mod records;
 mod sweep;

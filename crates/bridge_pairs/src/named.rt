@@ -1,6 +1,8 @@
-ghost use Rattle.std.specs.Prelude.{◌≡◌, ◌≤◌, [], ◌∷◌, ◌++◌, ◌<◌, ◌^◌, length, map, IfOk, OnOk, Ok, Some, None};
+ghost use Rattle.std.specs.Prelude.{◌≡◌, ◌≤◌, [], ◌∷◌, ◌++◌, ◌<◌, ◌^◌, length, map, IfOk, OnOk, MatchOption, Ok, Some, None, true, false};
 ghost use Rattle.csv.specs.Records.{fields_of};
+ghost use Rattle.scan_model.specs.Words.{has_word};
 ghost use Rattle.scan_model.specs.TextFaults.{lowest};
+ghost use Rattle.scan_model.specs.NetlistText.{net_number};
 ghost use Rattle.bridge_pairs.specs.PairText.{trimmed, nets_named, names_no_net, names_one_net, names_too_many, with_pair, is_named, pair_rules};
 ghost use Rattle.bridge_pairs.specs.PairSets.{key_of};
 ghost use Rattle.bridge_pairs.specs.FieldViews.{names_view};
@@ -41,6 +43,15 @@ fn key_of(pair: &Pair) -> (u32, u32)
     ensures { result ≡ key_of pair.now }
 {
     (pair.a.min(pair.b), pair.a.max(pair.b))
+}
+
+/// The number of the net that has a name.
+fn number_of(names: &Names<'_>, name: &[u8]) -> Option<u32>
+    requires { length names.now ≤ 65536 }
+    ensures { MatchOption result (has_word names.now name.now ≡ false) (λ n. (has_word names.now name.now ≡ true) × (n ≡ net_number names.now name.now)) }
+{
+    let place = names.place(name)?;
+    Some(place as u32)
 }
 
 impl NamedPairs {
@@ -116,14 +127,12 @@ impl NamedPairs {
         ensures rule { IfOk result (λ r. r ≡ lowest ((32, names_no_net names.now (Some (names_view two.entry))) ∷ (33, names_one_net names.now (Some (names_view two.entry))) ∷ (34, names_too_many names.now self.old index (Some (names_view two.entry))) ∷ [])) }
         ensures taken { result ≡ Ok None → self.new ≡ with_pair names.now self.old index (Some (names_view two.entry)) }
     {
-        if !names.contains(two.a) {
+        let Some(a) = number_of(names, two.a) else {
             return Ok(Some(32));
-        }
-        if !names.contains(two.b) {
+        };
+        let Some(b) = number_of(names, two.b) else {
             return Ok(Some(32));
-        }
-        let a = names.place_or_len(two.a) as u32;
-        let b = names.place_or_len(two.b) as u32;
+        };
         if a == b {
             return Ok(Some(33));
         }

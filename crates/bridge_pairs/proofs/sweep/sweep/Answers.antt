@@ -1,20 +1,50 @@
-use Rattle.std.proofs.Common.{◌≡◌, length, get_or, ap, ◌∙◌, arith}
+use Rattle.std.proofs.Common.{◌≡◌, ◌<◌, length, get_or, ap, ◌∙◌, arith}
+use Rattle.std.proofs.lemmas.List.{length-set}
 use Rattle.scan_model.specs.BitTable.{table_bit}
-use Rattle.scan_model.specs.Walks.{IsEvaluationOrder}
-use Rattle.scan_model.proofs.FanSweeps.{swept_all}
+use Rattle.bridge_pairs.specs.Ranks.{start_of, target_of}
 use Rattle.bridge_pairs.proofs.Words.{swept_bit}
+use Rattle.bridge_pairs.proofs.Ranking.{start_within, target_within, swept_start, swept_target, feedback_in_order}
 use Rattle.bridge_pairs.proofs.sweep.sweep.Goals as goal
 
-pub loop-gate-preserved : goal.loop-gate-preserved
-loop-gate-preserved c = λ j lt.
-    let circuit = c.args.circuit.now in
-    let order = c.as_slice-order.result.now in
-    let ordered : IsEvaluationOrder circuit order = rw c.as_slice-order.ensures c.order.ensures in
-    let count : c.len-count.result ≡ length circuit.nets = c.len-count.ensures ∙ ap length c.nets.ensures.value in
-    swept_bit circuit order c.loop-gate.gate-index c.read_mask-mask.result c.loop-gate.words c.set_bits.new.words c.nets.ensures.circuit.netlist ordered c.loop-gate-test.true c.read_mask-mask.ensures (rw count at c.set_bits.ensures)
-    (get_or c.args.starts.now j 0) j (c.requires.starts j 0 lt) (omega (arith, c.requires.count)) (c.loop-gate.invariant j lt)
+pub loop-k-init : goal.loop-k-init
+loop-k-init c =
+    let circuit = c.args.ranked.now.circuit.now in
+    let order = c.args.ranked.now.order.now in
+    let ranks = c.args.ranked.now.ranks.now in
+    let batch = c.args.batch.now in
+    let words = c.set_starts.new.words in
+    let len : length words ≡ length circuit.nets = c.set_starts.ensures.len ∙ c.requires.words in
+    record {
+      len = len;
+      swept = λ j d lt.
+          let p = get_or batch j d in
+          swept_start circuit order ranks c.requires.ranked (start_of ranks p) c.window-low.result.0 (table_bit words (length circuit.nets) j) (start_within ranks (length circuit.nets) p (c.requires.nets j d lt)) (c.window-low.ensures.low j d lt) (omega arith)
+          (λ n n_lt. rw len at (c.set_starts.ensures.starts j n d lt (omega arith)));
+    }
 
-pub returns : goal.returns
-returns c = λ j n lt in_range.
-    let ordered : IsEvaluationOrder c.args.circuit.now c.as_slice-order.result.now = rw c.as_slice-order.ensures c.order.ensures in
-    swept_all c.args.circuit.now c.as_slice-order.result.now c.nets.ensures.circuit.netlist ordered (get_or c.args.starts.now j 0) c.loop-gate.gate-index (table_bit c.loop-gate.words (length c.args.circuit.now.nets) j) c.loop-gate-test.false (c.loop-gate.invariant j lt) n in_range
+pub loop-k-preserved : goal.loop-k-preserved
+loop-k-preserved c =
+    let circuit = c.args.ranked.now.circuit.now in
+    let order = c.args.ranked.now.order.now in
+    let ranks = c.args.ranked.now.ranks.now in
+    let batch = c.args.batch.now in
+    let within : c.loop-k.k < length order = omega arith in
+    record {
+      len = length-set c.loop-k.words _ _ ∙ c.loop-k.invariant.len;
+      swept = λ j d lt.
+          swept_bit circuit order c.loop-k.k c.read_mask-mask.result c.loop-k.words c.requires.ranked.netlist c.requires.ranked.evaluation within c.loop-k.invariant.len c.read_mask-mask.ensures
+          (start_of ranks (get_or batch j d)) j (start_within ranks (length circuit.nets) (get_or batch j d) (c.requires.nets j d lt)) (omega arith) (c.loop-k.invariant.swept j d lt);
+    }
+
+pub returns-clause-bits : goal.returns-clause-bits
+returns-clause-bits c = λ j d lt.
+    let circuit = c.args.ranked.now.circuit.now in
+    let order = c.args.ranked.now.order.now in
+    let ranks = c.args.ranked.now.ranks.now in
+    let p = get_or c.args.batch.now j d in
+    let words = c.loop-k.words in
+    let within = c.requires.nets j d lt in
+    ap (λ n. table_bit words n j (target_of ranks p)) c.loop-k.invariant.len
+    ∙ swept_target circuit order ranks c.requires.ranked (start_of ranks p) (target_of ranks p) c.loop-k.k (table_bit words (length circuit.nets) j) (target_within ranks (length circuit.nets) p within)
+    (omega (arith, c.window-low.ensures.high j d lt)) (omega arith) (c.loop-k.invariant.swept j d lt)
+    ∙ feedback_in_order circuit order ranks c.requires.ranked p within.0 within.1
