@@ -16,9 +16,9 @@ use Rattle.scan_model.specs.NetlistRules.{nets_of, new_output, pins_of, pins_aft
 use Rattle.scan_model.specs.NetlistText.{net_number, line_nets, nets_after, line_pins, line_pins_after, circuit_in}
 use Rattle.bench_reader.specs.Kept.{uses_undefined}
 use Rattle.bench_reader.specs.Clean.{AreClean, AreKnown}
-use Rattle.bench_reader.specs.Built.{operand_pin}
+use Rattle.bench_reader.specs.Uses.{operand_pin}
 use Rattle.bench_reader.proofs.NamesDiffer.{number_in_range, outputs_all, outputs_none}
-use Rattle.bench_reader.proofs.OneMoreLine.{length-line_pins_after}
+use Rattle.bench_reader.proofs.UsesOfLines.{length-line_pins_after}
 use Rattle.bench_reader.proofs.OneMoreNet.{IsPart}
 use Rattle.bench_reader.proofs.PartsOfLines.{lines_part}
 

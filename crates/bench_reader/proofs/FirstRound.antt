@@ -1,6 +1,6 @@
 -- One more line in the first round.
 use Rattle.std.proofs.Common.{◌≡◌, ℕ, ◌+◌, ◌-◌, ◌<◌, ◌≤◌, Bool, true, false, not, cond, ◌||◌, List, [], ◌∷◌, ◌++◌, length, take, get_or, fold, map, Some, None, refl, sym, ap, ◌∙◌, arith, append_assoc, append-nil, Bor}
-use Rattle.std.specs.Prelude.{All, filter, flat_map}
+use Rattle.std.specs.Prelude.{All, flat_map}
 use Rattle.std.specs.List.{enumerate_from, list_any, AllByRecursion, IsDistinct}
 use Rattle.std.specs.Str.{bytes_eq}
 use Rattle.std.specs.Cmp.Lexicographic.{nat_list_eq_equiv}
@@ -8,7 +8,7 @@ use Rattle.std.proofs.lemmas.Bool.{leb-true, or_parts}
 use Rattle.std.proofs.lemmas.Map.Keys.{IsDistinct-push}
 use Rattle.std.proofs.lemmas.List.{map_more, length-map, get_or-map, take_all, length-append, length-take}
 use Rattle.std.proofs.lemmas.List.Concat.{flat_map-append}
-use Rattle.std.proofs.lemmas.List.Elements.{filter-append, All-append, All-cons, All-nil}
+use Rattle.std.proofs.lemmas.List.Elements.{All-append, All-cons, All-nil}
 use Rattle.std.proofs.lemmas.Grind.{fold-append}
 use Rattle.scan_model.specs.Lines.{line_at, has_refused_byte}
 use Rattle.scan_model.specs.Words.{is_short, has_word}
@@ -18,19 +18,18 @@ use Rattle.scan_model.specs.NetlistRules.{forms_of, nets_of, new_output, pins_of
 use Rattle.scan_model.proofs.FaultSteps.{fault_goes_on, fault_is_here, fault_is_none}
 use Rattle.text_parts.specs.Views.{nows}
 use Rattle.bench_reader.specs.declared.first.Lines.{Lines}
-use Rattle.bench_reader.specs.Lines.{is_nothing}
-use Rattle.bench_reader.specs.Kept.{Takes, IsAfter, filled_from, net_lines_from}
+use Rattle.scan_model.specs.NetlistText.{line_nets}
+use Rattle.bench_reader.specs.Uses.{use_view, use_views, line_uses}
+use Rattle.bench_reader.specs.Kept.{AddsNames, TakesRest, Takes, IsAfter, IsWithin, net_lines_from}
 use Rattle.bench_reader.specs.Clean.{AreClean, HasItsOperands}
+use Rattle.bench_reader.proofs.UsesOfLines.{outputs_after, length-line_uses, length-line_nets, new_output_pins, nets_after_push, inputs_after_push, uses_after_push}
+use Rattle.bench_reader.proofs.CircuitOfLines.{length-nets_after}
 
 pub enumerate_from_push : {X : Type 0} (n : ℕ) (xs : List X) (x : X) → enumerate_from n (xs ++ x ∷ []) ≡ enumerate_from n xs ++ (n + length xs, x) ∷ []
 enumerate_from_push n [] x = let e : n ≡ n + 0 = omega arith in ap (λ k. (k, x) ∷ []) e
 enumerate_from_push n (y ∷ ys) x =
     let e : (n + 1) + length ys ≡ n + length (y ∷ ys) = omega arith in
     ap (λ zs. (n, y) ∷ zs) (enumerate_from_push (n + 1) ys x ∙ ap (λ k. enumerate_from (n + 1) ys ++ (k, x) ∷ []) e)
-
--- the outputs after one more line
-abbrev outputs_after : List (List ℕ) → List Form → List (List ℕ)
-outputs_after os fs = fold (λ outputs f. outputs ++ new_output outputs f) os fs
 
 -- the pins of one more line
 pins_after_push : (os : List (List ℕ)) (fs : List Form) (f : Form) → pins_after os (fs ++ f ∷ []) ≡ pins_after os fs ++ pins_of (outputs_after os fs) f
@@ -40,31 +39,55 @@ pins_after_push os (g ∷ gs) f = ap (λ ps. pins_of os g ++ ps) (pins_after_pus
 defined_names_push : (fs : List Form) (f : Form) → defined_names (fs ++ f ∷ []) ≡ defined_names fs ++ nets_of f
 defined_names_push fs f = flat_map-append nets_of fs (f ∷ []) ∙ ap (λ ns. defined_names fs ++ ns) (append-nil (nets_of f))
 
-filled_one : (b : Bool) (e : ℕ × Form) → cond (not b) (e ∷ []) [] ≡ cond b [] (e ∷ [])
-filled_one true e = refl
-filled_one false e = refl
-
-filled_push : (n : ℕ) (fs : List Form) (f : Form) → filled_from n (fs ++ f ∷ []) ≡ filled_from n fs ++ cond (is_nothing f) [] ((n + length fs, f) ∷ [])
-filled_push n fs f =
-    ap (λ es. filter (λ e. not (is_nothing e.1)) es) (enumerate_from_push n fs f)
-    ∙ filter-append (λ (e : ℕ × Form). not (is_nothing e.1)) (enumerate_from n fs) ((n + length fs, f) ∷ [])
-    ∙ ap (λ es. filled_from n fs ++ es) (filled_one (is_nothing f) (n + length fs, f))
-
 net_lines_push : (n : ℕ) (fs : List Form) (f : Form) → net_lines_from n (fs ++ f ∷ []) ≡ net_lines_from n fs ++ map (λ w. n + length fs) (nets_of f)
 net_lines_push n fs f =
     ap (λ es. flat_map (λ e. map (λ w. e.0) (nets_of e.1)) es) (enumerate_from_push n fs f)
     ∙ flat_map-append (λ (e : ℕ × Form). map (λ (w : List ℕ). e.0) (nets_of e.1)) (enumerate_from n fs) ((n + length fs, f) ∷ [])
     ∙ ap (λ ls. net_lines_from n fs ++ ls) (append-nil (map (λ (w : List ℕ). n + length fs) (nets_of f)))
 
+takes_count : (old new : Lines) (f : Form) (number : ℕ) → Takes old new number f → length new.uses.items ≡ length old.uses.items + length (pins_of old.outputs f)
+takes_count old new f number takes =
+    omega (arith, ap length takes.uses, length-append (use_views old.uses.items) (line_uses number (length old.nets.items) old.outputs f), length-line_uses number (length old.nets.items) old.outputs f, length-map old.uses.items use_view, length-map new.uses.items use_view)
+
+within_more : (old new : Lines) (f : Form) (number : ℕ) → IsWithin old → Takes old new number f → length old.defined + length (nets_of f) ≤ net_limit → length old.uses.items + length (pins_of old.outputs f) ≤ pin_limit → IsWithin new
+within_more old new f number within takes nets pins =
+    let count : length new.uses.items ≡ length old.uses.items + length (pins_of old.outputs f) = takes_count old new f number takes in
+    record {
+      nets = omega (arith, nets, ap length takes.defined, length-append old.defined (nets_of f));
+      pins = omega (arith, pins, count);
+      each = omega (arith, within.each, ap length takes.nets, length-append old.nets.items (line_nets (length old.uses.items) f), length-line_nets (length old.uses.items) f, ap length takes.defined, length-append old.defined (nets_of f));
+      outputs = omega (arith, within.outputs, count, ap length takes.outputs, length-append old.outputs (new_output old.outputs f), new_output_pins old.outputs f);
+    }
+
+takes_both : (old named new : Lines) (f : Form) (number : ℕ) → TakesRest named new number f → AddsNames old named number (nets_of f) → Takes old new number f
+takes_both old named new f number rest names = record {
+  nets = rw (← names.nets, ← names.uses) rest.nets;
+  inputs = rw (← names.inputs, ← names.nets) rest.inputs;
+  uses = rw (← names.uses, ← names.nets, ← names.outputs) rest.uses;
+  defined = rest.defined ∙ names.defined;
+  net_lines = rw rest.net_lines names.net_lines;
+  outputs = rw (← names.outputs) rest.outputs;
+}
+
+-- no limit is passed after one more line, whose net's name is added first
+pub within_both : (old named new : Lines) (f : Form) (number : ℕ) → IsWithin old → TakesRest named new number f → AddsNames old named number (nets_of f)
+    → length old.defined + length (nets_of f) ≤ net_limit → length old.uses.items + length (pins_of old.outputs f) ≤ pin_limit → IsWithin new
+within_both old named new f number within rest names nets pins = within_more old new f number within (takes_both old named new f number rest names) nets pins
+
 -- what is kept after one more line
 after_takes : (old new : Lines) (fs : List Form) (f : Form) (number : ℕ) → number ≡ 1 + length fs → IsAfter old fs → Takes old new number f → IsAfter new (fs ++ f ∷ [])
-after_takes old new fs f number is after takes = record {
-  lines = takes.lines ∙ rw (after.lines, is) (sym (filled_push 1 fs f));
-  defined = takes.defined ∙ ap (λ ns. ns ++ nets_of f) after.defined ∙ sym (defined_names_push fs f);
-  net_lines = takes.net_lines ∙ rw (after.net_lines, is) (sym (net_lines_push 1 fs f));
-  outputs = takes.outputs ∙ ap (λ os. os ++ new_output os f) after.outputs ∙ sym (fold-append (λ outputs g. outputs ++ new_output outputs g) [] fs (f ∷ []));
-  pins = takes.pins ∙ rw (after.pins, after.outputs) (sym (ap length (pins_after_push [] fs f) ∙ length-append (pins_after [] fs) (pins_of (outputs_of fs) f)));
-}
+after_takes old new fs f number is after takes =
+    let nets : length old.nets.items ≡ 0 + length (defined_names fs) = omega (arith, ap length after.nets, length-nets_after fs) in
+    let pins : length old.uses.items ≡ 0 + length (pins_after [] fs) = omega (arith, after.pins) in
+    record {
+      nets = takes.nets ∙ rw (after.nets, pins) (sym (nets_after_push [] 0 fs f));
+      inputs = takes.inputs ∙ rw (after.inputs, nets) (sym (inputs_after_push 0 fs f));
+      uses = takes.uses ∙ rw (after.uses, is, nets, after.outputs) (sym (uses_after_push 1 0 [] fs f));
+      defined = takes.defined ∙ ap (λ ns. ns ++ nets_of f) after.defined ∙ sym (defined_names_push fs f);
+      net_lines = takes.net_lines ∙ rw (after.net_lines, is) (sym (net_lines_push 1 fs f));
+      outputs = takes.outputs ∙ ap (λ os. os ++ new_output os f) after.outputs ∙ sym (fold-append (λ outputs g. outputs ++ new_output outputs g) [] fs (f ∷ []));
+      pins = takes_count old new f number takes ∙ rw (after.pins, after.outputs) (sym (ap length (pins_after_push [] fs f) ∙ length-append (pins_after [] fs) (pins_of (outputs_of fs) f)));
+    }
 
 -- ---- one more line that breaks no rule
 
@@ -133,16 +156,16 @@ module _ (ls : List (List ℕ)) (items : List (Bor (List ℕ))) (i : ℕ) (d : B
   line_is : i < length items → (get_or items i d).now ≡ line_at ls i
   line_is lt = sym (get_or-map (λ x. x.now) items i d [] lt) ∙ ap (λ ts. line_at ts i) same
 
-  rule_is : i < length items → lowest (first_rules kept.defined kept.outputs kept.pins (get_or items i d).now) ≡ first_rule ls i
+  rule_is : i < length items → lowest (first_rules kept.defined kept.outputs (length kept.uses.items) (get_or items i d).now) ≡ first_rule ls i
   rule_is lt = rw (after.defined, after.outputs, after.pins, line_is lt) refl
 
-  pub line_is_faulty : (r : ℕ) → i < length items → Some r ≡ lowest (first_rules kept.defined kept.outputs kept.pins (get_or items i d).now)
+  pub line_is_faulty : (r : ℕ) → i < length items → Some r ≡ lowest (first_rules kept.defined kept.outputs (length kept.uses.items) (get_or items i d).now)
       → first_fault (first_rule ls) (length ls) ≡ Some (i + 1, r)
   line_is_faulty r lt some =
       let lt' : i < length ls = omega (arith, lines_length) in
       fault_is_here (first_rule ls) (length ls) i _ r lt' (sym (some ∙ rule_is lt)) so_far
 
-  pub no_fault_more : i < length items → None ≡ lowest (first_rules kept.defined kept.outputs kept.pins (get_or items i d).now)
+  pub no_fault_more : i < length items → None ≡ lowest (first_rules kept.defined kept.outputs (length kept.uses.items) (get_or items i d).now)
       → fault_from (first_rule ls) (i + 1) (length ls - (i + 1)) ≡ first_fault (first_rule ls) (length ls)
   no_fault_more lt none =
       let lt' : i < length ls = omega (arith, lines_length) in
@@ -154,11 +177,11 @@ module _ (ls : List (List ℕ)) (items : List (Bor (List ℕ))) (i : ℕ) (d : B
       let number : i + 1 ≡ 1 + length (forms_of (take i ls)) = omega (arith, length-map (take i ls) form_of, length-take i ls) in
       rw (map_more form_of ls i [] lt', ← line_is lt) (after_takes kept new (forms_of (take i ls)) _ (i + 1) number after takes)
 
-  pub clean_after : i < length items → None ≡ lowest (first_rules kept.defined kept.outputs kept.pins (get_or items i d).now) → AreClean (forms_of (take i ls)) → AreClean (forms_of (take (i + 1) ls))
+  pub clean_after : i < length items → None ≡ lowest (first_rules kept.defined kept.outputs (length kept.uses.items) (get_or items i d).now) → AreClean (forms_of (take i ls)) → AreClean (forms_of (take (i + 1) ls))
   clean_after lt none clean =
       let lt' : i < length ls = omega (arith, lines_length) in
-      let none' : lowest (first_rules kept.defined kept.outputs kept.pins (get_or items i d).now) ≡ None = sym none in
-      rw (map_more form_of ls i [] lt', ← line_is lt) (clean_more (forms_of (take i ls)) kept.outputs kept.pins (get_or items i d).now clean (rw after.defined at none'))
+      let none' : lowest (first_rules kept.defined kept.outputs (length kept.uses.items) (get_or items i d).now) ≡ None = sym none in
+      rw (map_more form_of ls i [] lt', ← line_is lt) (clean_more (forms_of (take i ls)) kept.outputs (length kept.uses.items) (get_or items i d).now clean (rw after.defined at none'))
 
   pub round_is_over : length items ≤ i
       → (first_fault (first_rule ls) (length ls) ≡ None) × (take i ls ≡ ls)

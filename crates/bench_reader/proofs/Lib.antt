@@ -1,14 +1,14 @@
 pub mod Names
 pub mod Operands
+pub mod FirstRules
 pub mod FirstRound
 pub mod SecondRound
-pub mod OneMoreLine
+pub mod UsesOfLines
+pub mod NetsByName
 pub mod OneMoreNet
 pub mod OneMoreOutput
 pub mod NamesDiffer
 pub mod PartsOfLines
 pub mod CircuitOfLines
-pub mod NextNet
-pub mod EmptyLines
 pub mod ThirdRound
 pub mod Judged

@@ -19,9 +19,9 @@ use Rattle.scan_model.specs.NetlistLines.{Form, nothing, input, output, definiti
 use Rattle.scan_model.specs.NetlistRules.{nets_of, new_output, pins_of, defined_names}
 use Rattle.scan_model.specs.NetlistText.{net_number, line_nets, nets_after, line_pins, line_pins_after, inputs_of}
 use Rattle.bench_reader.specs.Clean.{HasItsOperands}
-use Rattle.bench_reader.specs.Built.{operand_pin}
+use Rattle.bench_reader.specs.Uses.{operand_pin}
 use Rattle.bench_reader.proofs.NamesDiffer.{number_after}
-use Rattle.bench_reader.proofs.OneMoreLine.{length-line_pins}
+use Rattle.bench_reader.proofs.UsesOfLines.{length-line_pins, length-line_nets}
 use Rattle.bench_reader.proofs.OneMoreNet.{IsPart, one_more_net}
 use Rattle.bench_reader.proofs.OneMoreOutput.{one_more_output}
 
@@ -128,13 +128,6 @@ module _ (defined : List (List ℕ)) (differ : IsDistinct bytes_eq defined) wher
           moved nets (nets ++ []) (pins ++ record { net = net_number defined n; place = Output (length outputs) } ∷ []) (pins ++ record { net = net_number defined n; place = Output (length os) } ∷ []) inputs (inputs ++ []) (outputs ++ net_number defined n ∷ []) (map (net_number defined) (os ++ n ∷ []))
           (sym (append-nil nets)) (ap (λ k. pins ++ record { net = net_number defined n; place = Output k } ∷ []) place) (sym (append-nil inputs)) (sym (map_push (net_number defined) os n))
           (one_more_output nets pins inputs outputs (net_number defined n) part)
-
-  length-line_nets : (pins : ℕ) (f : Form) → length (line_nets pins f) ≡ length (nets_of f)
-  length-line_nets pins nothing = refl
-  length-line_nets pins (input n) = refl
-  length-line_nets pins (output n) = refl
-  length-line_nets pins (definition n word operands) = refl
-  length-line_nets pins no_form = refl
 
   -- the lists after these lines, where the names that they define follow those of the nets before
   pub lines_part : (fs : List Form) (front : List (List ℕ)) → defined ≡ front ++ defined_names fs → AllByRecursion HasItsOperands fs

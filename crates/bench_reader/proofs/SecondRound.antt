@@ -10,7 +10,8 @@ use Rattle.scan_model.specs.TextFaults.{lowest, fault_from, first_fault, refused
 use Rattle.scan_model.specs.NetlistLines.{Form, form_of, nothing}
 use Rattle.scan_model.specs.NetlistRules.{uses_undefined_first, first_rule, second_rule, early_fault, forms_of, form_at, uses_of, used_names, defined_names}
 use Rattle.bench_reader.specs.Lines.{is_nothing}
-use Rattle.bench_reader.specs.Kept.{filled_from, first_line, uses_undefined, IsUndefined}
+use Rattle.bench_reader.specs.Kept.{filled_from, first_line, uses_undefined}
+use Rattle.bench_reader.specs.Uses.{IsUndefined}
 use Rattle.text_parts.specs.Gives.{Fails}
 use Rattle.text_parts.specs.declared.fault.ReadFault.{ReadFault}
 use Rattle.text_parts.specs.declared.fault.ReadFault.TheVariants.{Text, NoMemory}
@@ -58,7 +59,7 @@ module _ (passes : Form → Bool) (skips : passes nothing ≡ false) where
 
 module _ (defined : List (List ℕ)) where
   -- a name that no undefined use has is defined, where it is used
-  in_uses : (n : List ℕ) (us : List (List ℕ)) → list_any (λ m. not (has_word defined m)) us ≡ false → has_word us n ≡ true → has_word defined n ≡ true
+  pub in_uses : (n : List ℕ) (us : List (List ℕ)) → list_any (λ m. not (has_word defined m)) us ≡ false → has_word us n ≡ true → has_word defined n ≡ true
   in_uses n [] none used = absurd cc
   in_uses n (u ∷ us) none used = go (bytes_eq n u) refl (has_word defined u) refl none used (in_uses n us)
     where
@@ -104,7 +105,7 @@ not_refused None x y e = refl
 not_refused (Some f) x y e = absurd cc
 
 -- both rounds, where the first has no fault
-pub two_rounds : (ls : List (List ℕ)) (x y : List (ℕ × Form)) → refused_or (first_fault (first_rule ls) (length ls)) x ≡ Ok y
+pub two_rounds : {X : Type 0} (ls : List (List ℕ)) (x y : X) → refused_or (first_fault (first_rule ls) (length ls)) x ≡ Ok y
     → early_fault ls ≡ option_map (λ n. (n, 7)) (first_line (uses_undefined (defined_names (forms_of ls))) (filled_from 1 (forms_of ls)))
 two_rounds ls x y first =
     let count : length (forms_of ls) ≡ length ls = length-map ls form_of in
@@ -113,18 +114,9 @@ two_rounds ls x y first =
     ∙ fault_is_first_line (uses_undefined (defined_names (forms_of ls))) refl (second_rule ls) 7 0 (forms_of ls)
     (λ k lt none. let at : 0 + k ≡ k = omega arith in ap (second_rule ls) at ∙ ap (λ b. lowest ((7, b) ∷ [])) (first_at (forms_of ls) k none))
 
--- both rounds, by what the second found among the lines that are kept
-pub early_is : (ls : List (List ℕ)) (kept : List (ℕ × Form)) (defined : List (List ℕ)) (o : Option ℕ) → refused_or (first_fault (first_rule ls) (length ls)) (filled_from 1 (forms_of ls)) ≡ Ok kept
-    → kept ≡ filled_from 1 (forms_of ls) → defined ≡ defined_names (forms_of ls) → first_line (uses_undefined defined) kept ≡ o → early_fault ls ≡ option_map (λ n. (n, 7)) o
-early_is ls kept defined o first lines names is =
-    two_rounds ls (filled_from 1 (forms_of ls)) kept first ∙ ap (option_map (λ n. (n, 7))) (sym (sym is ∙ rw (lines, names) refl))
-
 -- the fault of a line that uses an undefined net is one of both
 pub second_fails : {Y : Type 0} (e : ReadFault) (early : Option (ℕ × ℕ)) (o : Option ℕ) (y : Y) → early ≡ option_map (λ n. (n, 7)) o → IsUndefined e o → Fails e (refused_or early y)
 second_fails NoMemory early o y is fault = tt
 second_fails (Text f) early o y is fault =
     let seven : 7 ≡ f.rule = sym fault.1 in
     ap (λ g. refused_or g y) (is ∙ ap (option_map (λ n. (n, 7))) fault.0) ∙ ap (λ r. Err (f.line, r)) seven
-
-pub all_known : (fs : List Form) → first_line (uses_undefined (defined_names fs)) (filled_from 1 fs) ≡ None → AllByRecursion (λ f. uses_undefined (defined_names fs) f ≡ false) fs
-all_known fs none = none_passes (uses_undefined (defined_names fs)) refl 1 fs none

@@ -14,5 +14,6 @@ use Rattle.bench_reader.specs.declared.reading.Draft.{Draft}
 pub record IsDraft (d : Draft) (fs : List Form) : Type 0 where
   pub lists : netlist d.nets d.pins d.inputs d.outputs ≡ circuit_in fs
   pub circuit : IsCircuit (circuit_in fs)
+  pub names : d.names ≡ defined_names fs
   pub differ : IsDistinct bytes_eq (defined_names fs)
   pub net_lines : d.net_lines.items ≡ net_lines_from 1 fs

@@ -1,16 +1,26 @@
 -- Lines without where they lie in memory.
-use Rattle.scan_model.specs.NetlistLines.{Form, nothing, input, output, definition, no_form}
-use Rattle.std.specs.Prelude.{Bool, true, false}
+use Rattle.scan_model.specs.NetlistLines.{Form, nothing, input, output, definition, no_form, driver_named}
+use Rattle.std.specs.Prelude.{ℕ, ◌≡◌, Bool, true, false, List}
 use Rattle.text_parts.specs.Views.{nows}
+use Rattle.bench_reader.specs.declared.line.Kind.{Kind}
+use Rattle.bench_reader.specs.declared.line.Kind.TheVariants.{Nothing, Input, Output, Definition, NoForm}
 use Rattle.bench_reader.specs.declared.line.Line.{Line}
-use Rattle.bench_reader.specs.declared.line.Line.TheVariants.{Nothing, Input, Output, Definition, NoForm}
+
+-- what a line is, with these operands if it is a definition
+abbrev pub kind_view : List (List ℕ) → Kind → Form
+kind_view operands Nothing = nothing
+kind_view operands (Input n) = input n.now
+kind_view operands (Output n) = output n.now
+kind_view operands (Definition n word driver) = definition n.now word.now operands
+kind_view operands NoForm = no_form
 
 abbrev pub line_view : Line → Form
-line_view Nothing = nothing
-line_view (Input n) = input n.now
-line_view (Output n) = output n.now
-line_view (Definition n word operands) = definition n.now word.now (nows operands.items)
-line_view NoForm = no_form
+line_view l = kind_view (nows l.operands.now) l.kind
+
+-- a definition has the driver that its word names
+abbrev pub HasItsDriver : Kind → Type 0
+HasItsDriver (Definition n word driver) = driver ≡ driver_named word.now
+HasItsDriver k = Unit {0}
 
 -- nothing stands outside the line's comment
 abbrev pub is_nothing : Form → Bool

@@ -1,18 +1,20 @@
 //! The first round: each line by itself and after those before it.
 
-ghost use Rattle.std.specs.Prelude.{◌≡◌, ◌≤◌, ◌<◌, ◌+◌, ◌^◌, [], ◌∷◌, ◌++◌, length, IfOk, OnOk, Ok, None, not, true, false};
-ghost use Rattle.std.specs.List.{list_any};
+ghost use Rattle.std.specs.Prelude.{◌≡◌, ◌≤◌, ◌<◌, ◌+◌, ◌^◌, [], ◌∷◌, ◌++◌, length, map, IfOk, OnOk, Ok, None, not, true, false};
+ghost use Rattle.std.specs.List.{list_any, enumerate_from};
 ghost use Rattle.scan_model.specs.Words.{is_short, has_word};
 ghost use Rattle.scan_model.specs.TextFaults.{lowest};
-ghost use Rattle.scan_model.specs.NetlistLines.{form_of};
-ghost use Rattle.scan_model.specs.NetlistRules.{nets_of, new_output, pins_of, is_no_form, has_unknown_word, has_wrong_count, has_long_name, defines_among, first_rules, makes_past, net_limit, pin_limit};
+ghost use Rattle.scan_model.specs.NetlistLines.{form_of, output};
+ghost use Rattle.scan_model.specs.NetlistRules.{nets_of, pins_of, is_no_form, has_unknown_word, has_wrong_count, has_long_name, defines_among, first_rules, makes_past, net_limit, pin_limit};
 ghost use Rattle.text_parts.specs.Views.{nows};
-ghost use Rattle.bench_reader.specs.Lines.{line_view};
+ghost use Rattle.bench_reader.specs.Lines.{kind_view, line_view, HasItsDriver};
 ghost use Rattle.bench_reader.specs.FirstRules.{own_rules, passes_limit};
+ghost use Rattle.bench_reader.specs.Uses.{use_views, operand_use};
 
-use crate::driver::{driver_named, takes_one};
-use crate::line::Line;
+use crate::driver::takes_one;
+use crate::line::{Kind, Line};
 use crate::token::Token;
+use scan_model::{Driver, Name, Net, NoMemory, PinPlace};
 use std::alloc::{AllocError, Global};
 use text_parts::{Names, has_refused_byte};
 
@@ -20,30 +22,32 @@ const NET_LIMIT: usize = 65_536;
 
 const PIN_LIMIT: usize = 262_144;
 
-fn is_no_form(line: &Line<'_>) -> bool
+fn is_no_form(line: &Line<'_, '_>) -> bool
     ensures { result ≡ is_no_form (line_view line.now) }
 {
-    matches!(line, Line::NoForm)
+    matches!(line.kind, Kind::NoForm)
 }
 
-fn has_unknown_word(line: &Line<'_>) -> bool
+fn has_unknown_word(line: &Line<'_, '_>) -> bool
+    requires { HasItsDriver line.now.kind }
     ensures { result ≡ has_unknown_word (line_view line.now) }
 {
-    match line {
-        Line::Definition { word, .. } => driver_named(word).is_none(),
+    match line.kind {
+        Kind::Definition { driver, .. } => driver.is_none(),
         _ => false,
     }
 }
 
-fn has_wrong_count(line: &Line<'_>) -> bool
+fn has_wrong_count(line: &Line<'_, '_>) -> bool
+    requires { HasItsDriver line.now.kind }
     ensures { result ≡ has_wrong_count (line_view line.now) }
 {
-    match line {
-        Line::Definition { word, operands, .. } => {
-            if takes_one(driver_named(word)) {
-                operands.len() != 1
+    match line.kind {
+        Kind::Definition { driver, .. } => {
+            if takes_one(driver) {
+                line.operands.len() != 1
             } else {
-                operands.is_empty()
+                line.operands.is_empty()
             }
         }
         _ => false,
@@ -62,20 +66,21 @@ fn has_long(names: &[&[u8]]) -> bool
     names.iter().any(|n| !is_short(n))
 }
 
-fn has_long_name(line: &Line<'_>) -> bool
+fn has_long_name(line: &Line<'_, '_>) -> bool
     ensures { result ≡ has_long_name (line_view line.now) }
 {
-    match line {
-        Line::Input(n) => !is_short(n),
-        Line::Output(n) => !is_short(n),
-        Line::Definition { net, operands, .. } => !is_short(net) || has_long(operands),
+    match line.kind {
+        Kind::Input(n) => !is_short(n),
+        Kind::Output(n) => !is_short(n),
+        Kind::Definition { net, .. } => !is_short(net) || has_long(line.operands),
         _ => false,
     }
 }
 
 // The lowest of rules 1 to 5, which look at the line alone, that it breaks.
-fn own_rule(bytes: &[u8], line: &Line<'_>) -> Option<u32>
-    requires { line_view line.now ≡ form_of bytes.now }
+fn own_rule(bytes: &[u8], line: &Line<'_, '_>) -> Option<u32>
+    requires form { line_view line.now ≡ form_of bytes.now }
+    requires driver { HasItsDriver line.now.kind }
     ensures { result ≡ lowest (own_rules bytes.now) }
 {
     if has_refused_byte(bytes) {
@@ -97,34 +102,22 @@ fn own_rule(bytes: &[u8], line: &Line<'_>) -> Option<u32>
 }
 
 // How many pins the line makes.
-fn pins_made(outputs: &Names<'_>, line: &Line<'_>) -> usize
+fn pins_made(outputs: &Names<'_>, line: &Line<'_, '_>) -> usize
     ensures { result ≡ length (pins_of outputs.now (line_view line.now)) }
 {
-    match line {
-        Line::Output(n) => { if outputs.contains(n) { 0 } else { 1 } }
-        Line::Definition { operands, .. } => operands.len(),
+    match line.kind {
+        Kind::Output(n) => { if outputs.contains(n) { 0 } else { 1 } }
+        Kind::Definition { .. } => line.operands.len(),
         _ => 0,
     }
 }
 
-// Adds the output that the line names; answers how many pins the line makes.
-fn add_output<'a>(outputs: &mut Names<'a>, line: &Line<'a>) -> Result<usize, AllocError>
-    ensures pins { IfOk result (λ n. n ≡ length (pins_of outputs.old (line_view line.now))) }
-    ensures added { OnOk result (outputs.new ≡ outputs.old ++ new_output outputs.old (line_view line.now)) }
-{
-    let made = pins_made(outputs, line);
-    if let Line::Output(n) = line {
-        outputs.add_if_new(n)?;
-    }
-    Ok(made)
-}
-
-fn nets_made(line: &Line<'_>) -> usize
+fn nets_made(line: &Line<'_, '_>) -> usize
     ensures { result ≡ length (nets_of (line_view line.now)) }
 {
-    match line {
-        Line::Input(_) => 1,
-        Line::Definition { .. } => 1,
+    match line.kind {
+        Kind::Input(_) => 1,
+        Kind::Definition { .. } => 1,
         _ => 0,
     }
 }
@@ -137,26 +130,56 @@ fn makes_past(earlier: usize, made: usize, limit: usize) -> bool
     made > limit - earlier
 }
 
-/// A line that is not empty, and its number, counted from 1.
+/// Room for the tokens and the operands of a line, taken once for all lines.
 #[derive(Drop)]
-pub struct KeptLine<'a> {
-    pub number: u64,
-    pub line: Line<'a>,
+pub struct Found<'a> {
+    pub tokens: Vec<Token<'a>>,
+    pub operands: Vec<&'a [u8]>,
 }
 
-/// The lines so far that are not empty, the nets that they define with the number of each net's line, their outputs,
-/// and how many pins they make.
+/// A use of a net: the number of its line, counted from 1, the net's name, and where the pin is that it makes.
+#[derive(Clone, Copy)]
+pub struct Use<'a> {
+    pub line: u64,
+    pub name: &'a [u8],
+    pub place: PinPlace,
+}
+
+// Adds the uses of a net's operands by the line of this number.
+fn add_operands<'a>(
+    uses: &mut Vec<Use<'a>>,
+    line: u64,
+    net: u32,
+    operands: &[&'a [u8]],
+) -> Result<(), AllocError>
+    requires { length operands.now ≤ pin_limit }
+    ensures { OnOk result (use_views uses.new.items ≡ use_views uses.old.items ++ map (operand_use line net) (enumerate_from 0 (nows operands.now))) }
+{
+    for (i, name) in operands.iter().enumerate() {
+        let index = i as u32;
+        uses.push(Use {
+            line,
+            name,
+            place: PinPlace::Operand { net, index },
+        })?;
+    }
+    Ok(())
+}
+
+/// What the lines so far say: their nets, inputs and uses of nets, and by name the nets, each with the number of its
+/// line, and the outputs.
 #[derive(Drop)]
 pub struct Lines<'a> {
-    pub lines: Vec<KeptLine<'a>>,
+    pub nets: Vec<Net>,
+    pub inputs: Vec<u32>,
+    pub uses: Vec<Use<'a>>,
     pub defined: Names<'a>,
     pub net_lines: Vec<u64>,
     pub outputs: Names<'a>,
-    pub pins: usize,
 }
 
 impl<'a> Lines<'a> {
-    ghost use Rattle.bench_reader.specs.Kept.{AddsNets, Takes, TakesRest, IsWithin, IsAfter};
+    ghost use Rattle.bench_reader.specs.Kept.{Keeps, AddsNames, TakesInput, TakesDefinition, TakesRest, Takes, IsWithin, IsAfter};
 
     /// None so far of so many lines.
     pub fn new(alloc: Global, count: usize) -> Result<Self, AllocError>
@@ -164,30 +187,44 @@ impl<'a> Lines<'a> {
         ensures after { IfOk result (λ kept. IsAfter kept []) }
     {
         let room = count.min(NET_LIMIT);
-        Ok(Lines {
-            lines: Vec::new(alloc),
+        let mut kept = Lines {
+            nets: Vec::new(alloc),
+            inputs: Vec::new(alloc),
+            uses: Vec::new(alloc),
             defined: Names::with_room(alloc, room)?,
-            net_lines: Vec::with_capacity(alloc, room)?,
+            net_lines: Vec::new(alloc),
             outputs: Names::new(alloc),
-            pins: 0,
-        })
+        };
+        kept.make_room(room)?;
+        Ok(kept)
+    }
+
+    // Takes the memory of so many nets at once, with two uses of each.
+    fn make_room(&mut self, count: usize) -> Result<(), AllocError>
+        requires { count ≤ net_limit }
+        ensures { OnOk result (Keeps self.old self.new) }
+    {
+        self.nets.reserve(count)?;
+        self.net_lines.reserve(count)?;
+        self.uses.reserve(2 * count)?;
+        Ok(())
     }
 
     // Rule 9: with the line there are more nets or pins than may be.
-    fn is_passed_by(&self, line: &Line<'_>) -> bool
+    fn is_passed_by(&self, line: &Line<'_, '_>) -> bool
         requires { IsWithin self.now }
-        ensures rule { result ≡ passes_limit self.now.defined self.now.outputs self.now.pins (line_view line.now) }
+        ensures rule { result ≡ passes_limit self.now.defined self.now.outputs (length self.now.uses.items) (line_view line.now) }
         ensures nets { result ≡ false → length self.now.defined + length (nets_of (line_view line.now)) ≤ net_limit }
-        ensures pins { result ≡ false → self.now.pins + length (pins_of self.now.outputs (line_view line.now)) ≤ pin_limit }
+        ensures pins { result ≡ false → length self.now.uses.items + length (pins_of self.now.outputs (line_view line.now)) ≤ pin_limit }
     {
         makes_past(self.defined.len(), nets_made(line), NET_LIMIT)
-            || makes_past(self.pins, pins_made(&self.outputs, line), PIN_LIMIT)
+            || makes_past(self.uses.len(), pins_made(&self.outputs, line), PIN_LIMIT)
     }
 
-    // Adds a net of this name, defined by the line of this number, unless there is one; answers whether there was none.
-    fn add_net(&mut self, number: u64, name: &'a [u8]) -> Result<bool, AllocError>
+    // Adds the name of a net, defined by the line of this number, unless there is one; answers whether there was none.
+    fn add_name(&mut self, number: u64, name: &'a [u8]) -> Result<bool, AllocError>
         ensures fresh { IfOk result (λ b. b ≡ not (has_word self.old.defined name.now)) }
-        ensures added { result ≡ Ok true → AddsNets self.old self.new number (name.now ∷ []) }
+        ensures added { result ≡ Ok true → AddsNames self.old self.new number (name.now ∷ []) }
     {
         if !self.defined.add_if_new(name)? {
             return Ok(false);
@@ -196,51 +233,119 @@ impl<'a> Lines<'a> {
         Ok(true)
     }
 
-    // Adds the net that the line defines, if it defines one; answers whether there was none of its name.
-    fn add_nets(&mut self, number: u64, line: &Line<'a>) -> Result<bool, AllocError>
+    // Adds the name of the net that the line defines, if it defines one; answers whether there was none of its name.
+    fn add_names(&mut self, number: u64, line: &Line<'_, 'a>) -> Result<bool, AllocError>
         ensures fresh { IfOk result (λ b. b ≡ not (defines_among self.old.defined (line_view line.now))) }
-        ensures added { result ≡ Ok true → AddsNets self.old self.new number (nets_of (line_view line.now)) }
+        ensures added { result ≡ Ok true → AddsNames self.old self.new number (nets_of (line_view line.now)) }
     {
-        match line {
-            Line::Input(n) => self.add_net(number, n),
-            Line::Definition { net, .. } => self.add_net(number, net),
+        match line.kind {
+            Kind::Input(n) => self.add_name(number, n),
+            Kind::Definition { net, .. } => self.add_name(number, net),
             _ => Ok(true),
         }
     }
 
-    // Takes what a line says, but for the net that it defines.
-    fn add(&mut self, number: u64, line: Line<'a>) -> Result<(), AllocError>
-        requires { self.old.pins + length (pins_of self.old.outputs (line_view line)) < 2 ^ 64 }
-        ensures { OnOk result (TakesRest self.old self.new number (line_view line.entry)) }
+    // Adds the net of an input.
+    fn add_input(&mut self, alloc: Global, name: &[u8]) -> Result<(), NoMemory>
+        requires nets { length self.old.nets.items ≤ net_limit }
+        requires uses { length self.old.uses.items ≤ pin_limit }
+        ensures { OnOk result (TakesInput self.old self.new name.now) }
     {
-        if line.is_nothing() {
-            return Ok(());
-        }
-        self.pins += add_output(&mut self.outputs, &line)?;
-        self.lines.push(KeptLine { number, line })?;
+        let number = self.nets.len() as u32;
+        let first_pin = self.uses.len() as u32;
+        self.nets.push(Net {
+            name: Name::copy_of(alloc, name)?,
+            driver: Driver::Input,
+            first_pin,
+            pin_count: 0,
+        })?;
+        self.inputs.push(number)?;
         Ok(())
     }
 
-    // Adds the net that the line of this number defines, or answers the lowest rule that the line breaks.
-    fn add_sound_nets(
+    // Adds an output that the line of this number names, unless there is one.
+    fn add_output(&mut self, line: u64, name: &'a [u8]) -> Result<(), AllocError>
+        requires { length self.old.outputs ≤ pin_limit }
+        ensures { OnOk result (TakesRest self.old self.new line (output name.now)) }
+    {
+        let place = self.outputs.len() as u32;
+        if self.outputs.add_if_new(name)? {
+            self.uses.push(Use {
+                line,
+                name,
+                place: PinPlace::Output { place },
+            })?;
+        }
+        Ok(())
+    }
+
+    // Adds the net that the line of this number defines, with the uses of its operands.
+    fn add_definition(
+        &mut self,
+        alloc: Global,
+        line: u64,
+        net: &[u8],
+        driver: Driver,
+        operands: &[&'a [u8]],
+    ) -> Result<(), NoMemory>
+        requires nets { length self.old.nets.items ≤ net_limit }
+        requires uses { length self.old.uses.items + length operands.now ≤ pin_limit }
+        ensures { OnOk result (TakesDefinition self.old self.new line net.now driver (nows operands.now)) }
+    {
+        let number = self.nets.len() as u32;
+        self.nets.push(Net {
+            name: Name::copy_of(alloc, net)?,
+            driver,
+            first_pin: self.uses.len() as u32,
+            pin_count: operands.len() as u32,
+        })?;
+        add_operands(&mut self.uses, line, number, operands)?;
+        Ok(())
+    }
+
+    // Takes what the line of this number says, but for the name of the net that it defines.
+    fn add(&mut self, alloc: Global, number: u64, line: &Line<'_, 'a>) -> Result<(), NoMemory>
+        requires driver { HasItsDriver line.now.kind }
+        requires nets { length self.old.nets.items ≤ net_limit }
+        requires outputs { length self.old.outputs ≤ pin_limit }
+        requires uses { length self.old.uses.items + length (pins_of self.old.outputs (line_view line.now)) ≤ pin_limit }
+        ensures { OnOk result (TakesRest self.old self.new number (line_view line.now)) }
+    {
+        match line.kind {
+            Kind::Input(n) => self.add_input(alloc, n),
+            Kind::Output(n) => {
+                self.add_output(number, n)?;
+                Ok(())
+            }
+            Kind::Definition { net, driver, .. } => {
+                let driver = driver.unwrap_or(Driver::Flop);
+                self.add_definition(alloc, number, net, driver, line.operands)
+            }
+            _ => Ok(()),
+        }
+    }
+
+    // Adds the name of the net that the line of this number defines, or answers the lowest rule that the line breaks.
+    fn add_sound_names(
         &mut self,
         number: u64,
         bytes: &[u8],
-        line: &Line<'a>,
+        line: &Line<'_, 'a>,
     ) -> Result<Option<u32>, AllocError>
         requires form { line_view line.now ≡ form_of bytes.now }
+        requires driver { HasItsDriver line.now.kind }
         requires within { IsWithin self.old }
-        ensures rule { IfOk result (λ r. r ≡ lowest (first_rules self.old.defined self.old.outputs self.old.pins bytes.now)) }
-        ensures added { result ≡ Ok None → AddsNets self.old self.new number (nets_of (line_view line.now)) }
+        ensures rule { IfOk result (λ r. r ≡ lowest (first_rules self.old.defined self.old.outputs (length self.old.uses.items) bytes.now)) }
+        ensures added { result ≡ Ok None → AddsNames self.old self.new number (nets_of (line_view line.now)) }
         ensures nets { result ≡ Ok None → length self.old.defined + length (nets_of (line_view line.now)) ≤ net_limit }
-        ensures pins { result ≡ Ok None → self.old.pins + length (pins_of self.old.outputs (line_view line.now)) ≤ pin_limit }
+        ensures pins { result ≡ Ok None → length self.old.uses.items + length (pins_of self.old.outputs (line_view line.now)) ≤ pin_limit }
     {
         if let Some(rule) = own_rule(bytes, line) {
             return Ok(Some(rule));
         }
-        // Told after rule 6, and found before the net is added.
+        // Told after rule 6, and found before the name is added.
         let is_past = self.is_passed_by(line);
-        if !self.add_nets(number, line)? {
+        if !self.add_names(number, line)? {
             return Ok(Some(6));
         }
         if is_past {
@@ -253,19 +358,23 @@ impl<'a> Lines<'a> {
     pub fn take_line(
         &mut self,
         alloc: Global,
-        tokens: &mut Vec<Token<'a>>,
+        found: &mut Found<'a>,
         number: u64,
         bytes: &'a [u8],
-    ) -> Result<Option<u32>, AllocError>
+    ) -> Result<Option<u32>, NoMemory>
         requires { IsWithin self.old }
-        ensures rule { IfOk result (λ r. r ≡ lowest (first_rules self.old.defined self.old.outputs self.old.pins bytes.now)) }
+        ensures rule { IfOk result (λ r. r ≡ lowest (first_rules self.old.defined self.old.outputs (length self.old.uses.items) bytes.now)) }
         ensures taken { result ≡ Ok None → Takes self.old self.new number (form_of bytes.now) }
         ensures within { result ≡ Ok None → IsWithin self.new }
     {
-        let line = Line::of_bytes(alloc, tokens, bytes)?;
-        let rule = self.add_sound_nets(number, bytes, &line)?;
+        let kind = Kind::of_bytes(&mut found.tokens, &mut found.operands, bytes)?;
+        let line = Line {
+            kind,
+            operands: &found.operands,
+        };
+        let rule = self.add_sound_names(number, bytes, &line)?;
         if rule.is_none() {
-            self.add(number, line)?;
+            self.add(alloc, number, &line)?;
         }
         Ok(rule)
     }

@@ -8,4 +8,4 @@ mod line;
 mod reading;
 mod token;
 
-pub use reading::read_netlist;
+pub use reading::{NamedCircuit, read_netlist, read_netlist_named};

@@ -1,27 +1,37 @@
 //! The form of a line.
 
-ghost use Rattle.std.specs.Prelude.{◌≡◌, IfOk, option_map};
+ghost use Rattle.std.specs.Prelude.{◌≡◌, List, ℕ, cond, Some, None, IfOk};
 ghost use Rattle.std.specs.Str.{str_eq_ignore_ascii_case};
 ghost use Rattle.scan_model.specs.NetlistLines.{listed_names, operand_names, definition_of, port_of, form_of_tokens, form_of};
 ghost use Rattle.text_parts.specs.Views.{nows};
 ghost use Rattle.bench_reader.specs.Tokens.{token_views};
 
+use crate::driver::driver_named;
 use crate::token::Token;
-use std::alloc::{AllocError, Global};
+use scan_model::Driver;
+use std::alloc::AllocError;
 use text_parts::without_comment;
 
-/// What a line is.
-#[derive(Drop)]
-pub enum Line<'a> {
+/// What a line is, but for its operands.
+#[derive(Clone, Copy)]
+pub enum Kind<'a> {
     Nothing,
     Input(&'a [u8]),
     Output(&'a [u8]),
+    // The driver is what the word names, looked up once.
     Definition {
         net: &'a [u8],
         word: &'a [u8],
-        operands: Vec<&'a [u8]>,
+        driver: Option<Driver>,
     },
     NoForm,
+}
+
+/// A line, with the operands that a definition has.
+#[derive(Clone, Copy)]
+pub struct Line<'t, 'a> {
+    pub kind: Kind<'a>,
+    pub operands: &'t [&'a [u8]],
 }
 
 // What a list of names begins with.
@@ -63,130 +73,129 @@ impl<'a> Begins<'a> {
     }
 }
 
-// The names of `name , name , .. )`.
-fn listed<'a>(alloc: Global, tokens: &[Token<'a>]) -> Result<Option<Vec<&'a [u8]>>, AllocError>
-    ensures { IfOk result (λ o. option_map (λ v. nows v.items) o ≡ listed_names (token_views tokens.now)) }
+// Puts the names of `name , name , .. )` in place of those that the list has; answers whether that stands there.
+fn listed<'a>(names: &mut Vec<&'a [u8]>, tokens: &[Token<'a>]) -> Result<bool, AllocError>
+    ensures { IfOk result (λ b. cond b (Some (nows names.new.items)) None ≡ listed_names (token_views tokens.now)) }
 {
-    let mut names = Vec::new(alloc);
+    names.clear();
     let mut at = 0;
     while at < tokens.len() {
         match Begins::of(&tokens[at..]) {
             Begins::Last(name) => {
                 names.push(name)?;
-                return Ok(Some(names));
+                return Ok(true);
             }
             Begins::Comma(name) => names.push(name)?,
-            Begins::Other => return Ok(None),
+            Begins::Other => return Ok(false),
         }
         at += 2;
     }
-    Ok(None)
+    Ok(false)
 }
 
 // The same, or none at all.
-fn operands<'a>(alloc: Global, tokens: &[Token<'a>]) -> Result<Option<Vec<&'a [u8]>>, AllocError>
-    ensures { IfOk result (λ o. option_map (λ v. nows v.items) o ≡ operand_names (token_views tokens.now)) }
+fn operands<'a>(names: &mut Vec<&'a [u8]>, tokens: &[Token<'a>]) -> Result<bool, AllocError>
+    ensures { IfOk result (λ b. cond b (Some (nows names.new.items)) None ≡ operand_names (token_views tokens.now)) }
 {
     if let [Token::Close] = tokens {
-        return Ok(Some(Vec::new(alloc)));
+        names.clear();
+        return Ok(true);
     }
-    listed(alloc, tokens)
+    listed(names, tokens)
 }
 
-impl<'a> Line<'a> {
-    ghost use Rattle.bench_reader.specs.Lines.{line_view, is_nothing};
-
-    /// Whether nothing stands outside the line's comment.
-    pub fn is_nothing(&self) -> bool
-        ensures { result ≡ is_nothing (line_view self.now) }
-    {
-        matches!(self, Line::Nothing)
-    }
+impl<'a> Kind<'a> {
+    ghost use Rattle.bench_reader.specs.Lines.{kind_view, HasItsDriver};
 
     // What follows `name =`.
-    fn of_definition(alloc: Global, net: &'a [u8], tokens: &[Token<'a>]) -> Result<Self, AllocError>
-        ensures { IfOk result (λ line. line_view line ≡ definition_of net.now (token_views tokens.now)) }
+    fn of_definition(
+        names: &mut Vec<&'a [u8]>,
+        net: &'a [u8],
+        tokens: &[Token<'a>],
+    ) -> Result<Self, AllocError>
+        ensures form { IfOk result (λ kind. kind_view (nows names.new.items) kind ≡ definition_of net.now (token_views tokens.now)) }
+        ensures driver { IfOk result HasItsDriver }
     {
         let [first, more @ ..] = tokens else {
-            return Ok(Line::NoForm);
+            return Ok(Kind::NoForm);
         };
         let Token::Name(word) = first else {
-            return Ok(Line::NoForm);
+            return Ok(Kind::NoForm);
         };
         let word = *word;
         let [second, rest @ ..] = more else {
-            return Ok(Line::NoForm);
+            return Ok(Kind::NoForm);
         };
         let Token::Open = second else {
-            return Ok(Line::NoForm);
+            return Ok(Kind::NoForm);
         };
-        Ok(match operands(alloc, rest)? {
-            Some(operands) => Line::Definition {
-                net,
-                word,
-                operands,
-            },
-            None => Line::NoForm,
-        })
+        if !operands(names, rest)? {
+            return Ok(Kind::NoForm);
+        }
+        let driver = driver_named(word);
+        Ok(Kind::Definition { net, word, driver })
     }
 
     // What follows `word (`.
     fn of_port(word: &[u8], tokens: &[Token<'a>]) -> Self
-        ensures { line_view result ≡ port_of word.now (token_views tokens.now) }
+        ensures form { (names : List (List ℕ)) → kind_view names result ≡ port_of word.now (token_views tokens.now) }
+        ensures driver { HasItsDriver result }
     {
         let [first, more @ ..] = tokens else {
-            return Line::NoForm;
+            return Kind::NoForm;
         };
         let Token::Name(net) = first else {
-            return Line::NoForm;
+            return Kind::NoForm;
         };
         let [second, rest @ ..] = more else {
-            return Line::NoForm;
+            return Kind::NoForm;
         };
         let Token::Close = second else {
-            return Line::NoForm;
+            return Kind::NoForm;
         };
         if !rest.is_empty() {
-            return Line::NoForm;
+            return Kind::NoForm;
         }
         if word.eq_ignore_ascii_case(b"INPUT") {
-            return Line::Input(*net);
+            return Kind::Input(*net);
         }
         if word.eq_ignore_ascii_case(b"OUTPUT") {
-            return Line::Output(*net);
+            return Kind::Output(*net);
         }
-        Line::NoForm
+        Kind::NoForm
     }
 
-    fn of_tokens(alloc: Global, tokens: &[Token<'a>]) -> Result<Self, AllocError>
-        ensures { IfOk result (λ line. line_view line ≡ form_of_tokens (token_views tokens.now)) }
+    fn of_tokens(names: &mut Vec<&'a [u8]>, tokens: &[Token<'a>]) -> Result<Self, AllocError>
+        ensures form { IfOk result (λ kind. kind_view (nows names.new.items) kind ≡ form_of_tokens (token_views tokens.now)) }
+        ensures driver { IfOk result HasItsDriver }
     {
         let [first, more @ ..] = tokens else {
-            return Ok(Line::Nothing);
+            return Ok(Kind::Nothing);
         };
         let Token::Name(name) = first else {
-            return Ok(Line::NoForm);
+            return Ok(Kind::NoForm);
         };
         let name = *name;
         let [second, rest @ ..] = more else {
-            return Ok(Line::NoForm);
+            return Ok(Kind::NoForm);
         };
         match second {
-            Token::Equals => Line::of_definition(alloc, name, rest),
-            Token::Open => Ok(Line::of_port(name, rest)),
-            _ => Ok(Line::NoForm),
+            Token::Equals => Kind::of_definition(names, name, rest),
+            Token::Open => Ok(Kind::of_port(name, rest)),
+            _ => Ok(Kind::NoForm),
         }
     }
 
-    /// The form of a line, whose tokens take the place of those found before.
+    /// What a line is. Its tokens take the place of those found before, and so do the operands of a definition.
     pub fn of_bytes(
-        alloc: Global,
         tokens: &mut Vec<Token<'a>>,
+        names: &mut Vec<&'a [u8]>,
         line: &'a [u8],
     ) -> Result<Self, AllocError>
-        ensures { IfOk result (λ r. line_view r ≡ form_of line.now) }
+        ensures form { IfOk result (λ kind. kind_view (nows names.new.items) kind ≡ form_of line.now) }
+        ensures driver { IfOk result HasItsDriver }
     {
         Token::refill(tokens, without_comment(line))?;
-        Line::of_tokens(alloc, tokens)
+        Kind::of_tokens(names, tokens)
     }
 }

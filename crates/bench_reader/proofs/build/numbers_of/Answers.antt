@@ -1,4 +1,4 @@
-use Rattle.bench_reader.proofs.OneMoreLine.{number_added}
+use Rattle.bench_reader.proofs.NetsByName.{number_added}
 use Rattle.bench_reader.proofs.build.numbers_of.Goals as goal
 
 pub loop-name-preserved : goal.loop-name-preserved

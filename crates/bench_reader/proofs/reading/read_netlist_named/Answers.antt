@@ -1,6 +1,7 @@
-use Rattle.std.proofs.Common.{rules, ◌≡◌, ℕ, ◌<◌, List, Ok, Err, None, length, get_or, sym, ap, subst, ◌∙◌, arith}
+use Rattle.std.proofs.Common.{rules, ◌≡◌, ℕ, ◌<◌, List, [], Ok, Err, None, length, get_or, sym, ap, subst, ◌∙◌, arith}
 use Rattle.std.proofs.lemmas.List.{get_or_default}
 use Rattle.scan_model.specs.Netlist.{Netlist, netlist}
+use Rattle.scan_model.specs.ScanText.{net_names}
 use Rattle.scan_model.specs.Walks.{HasLevels, IsLeastWithoutLevel}
 use Rattle.scan_model.specs.Lines.{text_lines}
 use Rattle.scan_model.specs.TextFaults.{refused_or}
@@ -9,11 +10,11 @@ use Rattle.scan_model.specs.NetlistText.{circuit_of, netlist_reading}
 use Rattle.bench_reader.specs.declared.reading.Draft.{Draft}
 use Rattle.bench_reader.specs.Drafts.{IsDraft}
 use Rattle.bench_reader.proofs.SecondRound.{not_refused}
-use Rattle.bench_reader.proofs.CircuitOfLines.{length-nets_after}
+use Rattle.bench_reader.proofs.CircuitOfLines.{length-nets_after, names_after}
 use Rattle.bench_reader.proofs.ThirdRound.{reads_circuit, reads_level_fault, length-net_lines_from}
 use Rattle.bench_reader.proofs.Judged.{reads_first, reads_none, early_first}
 use Rattle.text_parts.specs.declared.fault.ReadFault.TheVariants.{Text}
-use Rattle.bench_reader.proofs.reading.read_netlist.Goals as goal
+use Rattle.bench_reader.proofs.reading.read_netlist_named.Goals as goal
 
 module _ (bytes : List ℕ) (d : Draft) (read : refused_or (early_fault (text_lines bytes)) (circuit_of bytes) ≡ Ok (netlist d.nets d.pins d.inputs d.outputs)) (draft : IsDraft d (forms_of (text_lines bytes))) where
   early : early_fault (text_lines bytes) ≡ None
@@ -21,6 +22,9 @@ module _ (bytes : List ℕ) (d : Draft) (read : refused_or (early_fault (text_li
 
   with_levels : (c : Netlist) → c ≡ netlist d.nets d.pins d.inputs d.outputs → HasLevels (netlist d.nets d.pins d.inputs d.outputs) → netlist_reading bytes ≡ Ok c
   with_levels c is levels = reads_circuit bytes early (subst HasLevels draft.lists levels) ∙ ap Ok (sym (is ∙ draft.lists))
+
+  names_of_nets : (c : Netlist) → c ≡ netlist d.nets d.pins d.inputs d.outputs → d.names ≡ net_names c.nets
+  names_of_nets c is = draft.names ∙ sym (names_after [] 0 (forms_of (text_lines bytes))) ∙ sym (ap (λ (x : Netlist). net_names x.nets) (is ∙ draft.lists))
 
   module _ (net : ℕ) (least : IsLeastWithoutLevel (netlist d.nets d.pins d.inputs d.outputs) net) where
     least_in : IsLeastWithoutLevel (circuit_of bytes) net
@@ -44,6 +48,9 @@ returns-in-Ok-clause-reading c = with_levels c.args.bytes.now c.in_ok-draft.draf
 
 pub returns-in-Ok-clause-none : goal.returns-in-Ok-clause-none
 returns-in-Ok-clause-none c = reads_none c.args.bytes.now (Ok c.in-Ok.circuit) (returns-in-Ok-clause-reading c)
+
+pub returns-in-Ok-clause-names : goal.returns-in-Ok-clause-names
+returns-in-Ok-clause-names c = names_of_nets c.args.bytes.now c.in_ok-draft.draft c.in_ok-draft.ensures.fault c.in_ok-draft.ensures.draft c.in-Ok.circuit c.in-Ok.ensures.ok
 
 pub index-line-requires : goal.index-line-requires
 index-line-requires c =

@@ -1,0 +1,33 @@
+-- The lowest rule of the first round, where none of those that look at the line alone is broken.
+use Rattle.std.proofs.Common.{◌≡◌, ℕ, Bool, true, false, not, List, [], ◌∷◌, length, Option, None, refl, sym, ap, ◌∙◌}
+use Rattle.scan_model.specs.Lines.{has_refused_byte}
+use Rattle.scan_model.specs.TextFaults.{lowest}
+use Rattle.scan_model.specs.NetlistLines.{Form, form_of}
+use Rattle.scan_model.specs.NetlistRules.{is_no_form, has_unknown_word, has_wrong_count, has_long_name, defines_among, first_rules}
+use Rattle.bench_reader.specs.FirstRules.{own_rules, passes_limit}
+
+own_past : (b1 b2 b3 b4 b5 : Bool) (more : List (ℕ × Bool)) → lowest ((1, b1) ∷ (2, b2) ∷ (3, b3) ∷ (4, b4) ∷ (5, b5) ∷ []) ≡ None
+    → lowest ((1, b1) ∷ (2, b2) ∷ (3, b3) ∷ (4, b4) ∷ (5, b5) ∷ more) ≡ lowest more
+own_past true b2 b3 b4 b5 more none = absurd cc
+own_past false true b3 b4 b5 more none = absurd cc
+own_past false false true b4 b5 more none = absurd cc
+own_past false false false true b5 more none = absurd cc
+own_past false false false false true more none = absurd cc
+own_past false false false false false more none = refl
+
+pub rule_after_own : (defined outputs : List (List ℕ)) (pins : ℕ) (line : List ℕ) (f : Form) (taken past : Bool) → f ≡ form_of line → None ≡ lowest (own_rules line)
+    → defines_among defined f ≡ taken → passes_limit defined outputs pins f ≡ past
+    → lowest (first_rules defined outputs pins line) ≡ lowest ((6, taken) ∷ (9, past) ∷ [])
+rule_after_own defined outputs pins line f taken past is none is_taken is_past =
+    own_past (has_refused_byte line) (is_no_form (form_of line)) (has_unknown_word (form_of line)) (has_wrong_count (form_of line)) (has_long_name (form_of line))
+    ((6, defines_among defined (form_of line)) ∷ (9, passes_limit defined outputs pins (form_of line)) ∷ []) (sym none)
+    ∙ ap (λ b. lowest ((6, b) ∷ (9, passes_limit defined outputs pins (form_of line)) ∷ [])) (ap (defines_among defined) (sym is) ∙ is_taken)
+    ∙ ap (λ b. lowest ((6, taken) ∷ (9, b) ∷ [])) (ap (passes_limit defined outputs pins) (sym is) ∙ is_past)
+
+pub is_taken_name : (taken : Bool) → false ≡ not taken → taken ≡ true
+is_taken_name true e = refl
+is_taken_name false e = absurd cc
+
+pub is_new_name : (taken : Bool) → true ≡ not taken → taken ≡ false
+is_new_name true e = absurd cc
+is_new_name false e = refl
