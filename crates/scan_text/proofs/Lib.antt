@@ -1,4 +1,5 @@
 pub mod Tables
+pub mod CellNets
 pub mod SoundChains
 pub mod ScanLoop
 pub mod SoundPatterns

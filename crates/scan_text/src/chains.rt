@@ -1,10 +1,10 @@
-ghost use Rattle.std.specs.Prelude.{◌≡◌, ◌≤◌, length, map, not, IfOk, Ok, None, List, [], ◌∷◌, ◌++◌, option_to_list};
+ghost use Rattle.std.specs.Prelude.{◌≡◌, ◌≤◌, length, map, not, IfOk, Ok, None, List, [], ◌∷◌, ◌++◌, option_to_list, slice_index_or};
 ghost use Rattle.std.specs.List.{list_any};
 ghost use Rattle.scan_model.specs.declared.circuit.Net.{Net};
-ghost use Rattle.scan_model.specs.Words.{words, has_word};
+ghost use Rattle.scan_model.specs.Netlist.{no_net};
+ghost use Rattle.scan_model.specs.Words.{words};
 ghost use Rattle.scan_model.specs.TextFaults.{lowest};
-ghost use Rattle.scan_model.specs.NetlistText.{net_number};
-ghost use Rattle.scan_model.specs.ScanText.{ChainNames, net_names, is_flop_net, chain_of, scan_rules};
+ghost use Rattle.scan_model.specs.ScanText.{ChainNames, net_names, number_of_net, is_net, is_flop_net, is_flop_driver, chain_of, scan_rules};
 ghost use Rattle.text_parts.specs.Views.{nows};
 
 use crate::chain::NamedChain;
@@ -15,50 +15,81 @@ use text_parts::{Names, has_refused_byte, words_of};
 /// The most chains that a scan text may have.
 const CHAIN_LIMIT: usize = 256;
 
-// A name has no net.
-fn lacks(names: &Names<'_>, cells: &[&[u8]]) -> bool
-    ensures { result ≡ list_any (λ w. not (has_word names.now w)) (nows cells.now) }
-{
-    cells.iter().any(|c| !names.contains(c))
+// The net of a cell's name: its number, or else the number of nets; whether there is one; and whether it is a flop.
+#[derive(Clone, Copy)]
+struct CellNet {
+    number: u32,
+    is_net: bool,
+    is_flop: bool,
 }
 
-fn is_flop(nets: &[Net], names: &Names<'_>, cell: &[u8]) -> bool
-    requires { names.now ≡ net_names nets.now }
-    ensures { result ≡ is_flop_net nets.now cell.now }
+fn is_flop(nets: &[Net], place: usize) -> bool
+    ensures { result ≡ is_flop_driver (slice_index_or nets.now place no_net).driver }
 {
-    match nets.get(names.place_or_len(cell)) {
+    match nets.get(place) {
         Some(net) => matches!(net.driver, Driver::Flop),
         None => false,
     }
 }
 
-// A name's net is no flop.
-fn has_other_net(nets: &[Net], names: &Names<'_>, cells: &[&[u8]]) -> bool
-    requires { names.now ≡ net_names nets.now }
-    ensures { result ≡ list_any (λ w. not (is_flop_net nets.now w)) (nows cells.now) }
+fn cell_net(nets: &[Net], names: &Names<'_>, cell: &[u8]) -> CellNet
+    requires limit { length nets.now ≤ 65536 }
+    requires names { names.now ≡ net_names nets.now }
+    ensures number { result.number ≡ number_of_net nets.now cell.now }
+    ensures is_net { result.is_net ≡ is_net nets.now cell.now }
+    ensures is_flop { result.is_flop ≡ is_flop_net nets.now cell.now }
 {
-    cells.iter().any(|c| !is_flop(nets, names, c))
-}
-
-// The net numbers of names.
-fn numbers_of(alloc: Global, names: &Names<'_>, cells: &[&[u8]]) -> Result<Vec<u32>, NoMemory>
-    requires { length names.now ≤ 65536 }
-    ensures { IfOk result (λ v. v.items ≡ map (net_number names.now) (nows cells.now)) }
-{
-    let mut numbers = Vec::new(alloc);
-    for cell in cells {
-        numbers.push(names.place_or_len(cell) as u32)?;
+    let place = names.place_or_len(cell);
+    let is_net = place < nets.len();
+    let is_flop = is_flop(nets, place);
+    CellNet {
+        number: place as u32,
+        is_net,
+        is_flop,
     }
-    Ok(numbers)
 }
 
-// The chain with its cells by number.
-fn numbered(alloc: Global, names: &Names<'_>, chain: NamedChain<'_, '_>) -> Result<Chain, NoMemory>
-    requires { length names.now ≤ 65536 }
-    ensures { IfOk result (λ c. c ≡ record { name = chain.entry.name.now; cells = map (net_number names.now) (nows chain.entry.cells.now) }) }
+// The net numbers of a chain's cells, whether one has no net, and whether one has a net that is no flop.
+#[derive(Drop)]
+struct CellNets {
+    numbers: Vec<u32>,
+    lacks_net: bool,
+    has_other: bool,
+}
+
+fn cell_nets(
+    alloc: Global,
+    nets: &[Net],
+    names: &Names<'_>,
+    cells: &[&[u8]],
+) -> Result<CellNets, NoMemory>
+    requires limit { length nets.now ≤ 65536 }
+    requires names { names.now ≡ net_names nets.now }
+    ensures numbers { IfOk result (λ found. found.numbers.items ≡ map (number_of_net nets.now) (nows cells.now)) }
+    ensures lacks_net { IfOk result (λ found. found.lacks_net ≡ list_any (λ w. not (is_net nets.now w)) (nows cells.now)) }
+    ensures has_other { IfOk result (λ found. found.has_other ≡ list_any (λ w. not (is_flop_net nets.now w)) (nows cells.now)) }
 {
-    let cells = numbers_of(alloc, names, chain.cells)?;
-    let name = Rows::copy_of(alloc, chain.name)?;
+    let mut numbers = Vec::with_capacity(alloc, cells.len())?;
+    let mut lacks_net = false;
+    let mut has_other = false;
+    for cell in cells {
+        let net = cell_net(nets, names, cell);
+        numbers.push_reserved(net.number);
+        lacks_net |= !net.is_net;
+        has_other |= !net.is_flop;
+    }
+    Ok(CellNets {
+        numbers,
+        lacks_net,
+        has_other,
+    })
+}
+
+// A chain of this name and these cells.
+fn chain_with(alloc: Global, name: &[u8], cells: Vec<u32>) -> Result<Chain, NoMemory>
+    ensures { IfOk result (λ c. c ≡ record { name = name.now; cells = cells.items }) }
+{
+    let name = Rows::copy_of(alloc, name)?;
     Ok(Chain {
         name,
         cells: Rows::from_vec(cells),
@@ -100,10 +131,11 @@ impl<'a> Chains<'a> {
         ensures rule { IfOk result (λ r. r ≡ lowest (chain_rules nets.now self.old.cells self.old.titles (named_view chain.entry))) }
         ensures taken { result ≡ Ok None → (cs : List ChainNames) → IsAfter nets.now self.old cs → IsAfter nets.now self.new (cs ++ named_view chain.entry ∷ []) }
     {
-        if lacks(names, chain.cells) {
+        let found = cell_nets(alloc, nets, names, chain.cells)?;
+        if found.lacks_net {
             return Ok(Some(12));
         }
-        if has_other_net(nets, names, chain.cells) {
+        if found.has_other {
             return Ok(Some(13));
         }
         if !self.cells.add_new(chain.cells)? {
@@ -116,7 +148,8 @@ impl<'a> Chains<'a> {
             return Ok(Some(15));
         }
         self.titles.add(chain.name)?;
-        self.chains.push(numbered(alloc, names, chain)?)?;
+        self.chains
+            .push(chain_with(alloc, chain.name, found.numbers)?)?;
         Ok(None)
     }
 

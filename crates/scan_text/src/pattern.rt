@@ -178,11 +178,11 @@ fn values_of(alloc: Global, word: &[u8]) -> Result<Rows<Tri>, NoMemory>
 fn loads_of(alloc: Global, words: &[&[u8]]) -> Result<Rows<Rows<Tri>>, NoMemory>
     ensures { IfOk result (λ loads. loads ≡ map (map character_value) (nows words.now)) }
 {
-    let mut loads = Rows::new(alloc);
+    let mut loads = Vec::with_capacity(alloc, words.len())?;
     for word in words {
-        loads.push(values_of(alloc, word)?)?;
+        loads.push_reserved(values_of(alloc, word)?);
     }
-    Ok(loads)
+    Ok(Rows::from_vec(loads))
 }
 
 fn input_values(alloc: Global, inputs: usize, word: &[u8]) -> Result<Rows<Tri>, NoMemory>

@@ -13,7 +13,7 @@ use crate::pattern::{
 };
 use scan_model::{Chain, Circuit, NoMemory, Pattern, PatternKind, Rows};
 use std::alloc::Global;
-use text_parts::{ReadFault, TextFault, has_refused_byte, lines_of, words_of};
+use text_parts::{ReadFault, TextFault, fill_words, has_refused_byte, lines_of};
 
 /// The most patterns that a pattern text may have.
 const PATTERN_LIMIT: usize = 4096;
@@ -45,12 +45,13 @@ fn take_pattern(
     Ok(None)
 }
 
-// Takes the pattern of a line, or answers the lowest rule that the line breaks.
-fn take_line(
+// Takes the pattern of a line, or answers the lowest rule that the line breaks. The list is room for its words.
+fn take_line<'a>(
     alloc: Global,
     frame: &Frame<'_>,
     patterns: &mut Rows<Pattern>,
-    line: &[u8],
+    words: &mut Vec<&'a [u8]>,
+    line: &'a [u8],
 ) -> Result<Option<u32>, NoMemory>
     ensures rule { IfOk result (λ r. r ≡ lowest (pattern_rules (frame_view frame.now) (length patterns.old) line.now)) }
     ensures taken { result ≡ Ok None → patterns.new ≡ patterns.old ++ patterns_of (frame_view frame.now) (line.now ∷ []) }
@@ -58,9 +59,10 @@ fn take_line(
     if has_refused_byte(line) {
         return Ok(Some(21));
     }
-    let words = words_of(alloc, line)?;
-    match kind_of(&words) {
-        Some(kind) => take_pattern(alloc, frame, patterns, kind, &words),
+    fill_words(words, line)?;
+    let words = words.as_slice();
+    match kind_of(words) {
+        Some(kind) => take_pattern(alloc, frame, patterns, kind, words),
         None => Ok(if words.is_empty() { None } else { Some(21) }),
     }
 }
@@ -76,8 +78,9 @@ fn take_lines(
     ensures reading { Gives (λ done. patterns.new) result (refused_or (first_fault (pattern_rule (frame_view frame.now) (nows lines.now)) (length (nows lines.now) + 1)) (patterns_of (frame_view frame.now) (nows lines.now))) }
     ensures fits { (c : Netlist) → length c.inputs ≡ frame.now.inputs → OnOk result (ArePatterns c frame.now.chains.now patterns.new) }
 {
+    let mut words = Vec::new(alloc);
     for (i, line) in lines.iter().enumerate() {
-        if let Some(rule) = take_line(alloc, frame, patterns, line)? {
+        if let Some(rule) = take_line(alloc, frame, patterns, &mut words, line)? {
             let line = i as u64 + 1;
             return Err(ReadFault::Text(TextFault { line, rule }));
         }
