@@ -14,7 +14,8 @@ use Rattle.bridge_pairs.specs.PairText.{pairs_reading}
 use Rattle.scan_model.specs.LogText.{LogFrame, log_frame, log_reading}
 use Rattle.scan_model.specs.DieReport.{die_report}
 use Rattle.diag_report.specs.Summary.{summary_text}
-use Rattle.diagnosis.specs.Bundle.{FourTexts, bundle_text}
+use Rattle.diagnosis.specs.Texts.{FourTexts}
+use Rattle.diagnosis.specs.Bundle.{bundle_text}
 use Rattle.diagnosis.specs.Reading.{four}
 use Rattle.desk_commands.specs.declared.files.Refusal.{Refusal}
 use Rattle.desk_commands.specs.declared.files.Refusal.TheVariants.{Absent, TooLong, Rule}
