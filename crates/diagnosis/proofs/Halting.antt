@@ -4,7 +4,7 @@ use Rattle.std.specs.Prelude.{Contains}
 use Rattle.std.proofs.lemmas.List.Elements.{Contains-append_left, Contains-append_right, Contains-push}
 use Rattle.text_parts.specs.declared.fault.ReadFault.{ReadFault}
 use Rattle.text_parts.specs.declared.fault.ReadFault.TheVariants as answer
-use Rattle.text_parts.specs.Gives.{Gives}
+use Rattle.text_parts.specs.Gives.{Fails, Gives}
 use Rattle.scan_model.specs.declared.parts.Chain.{Chain}
 use Rattle.scan_model.specs.declared.parts.Pattern.{Pattern}
 use Rattle.scan_model.specs.Netlist.{Netlist}
@@ -39,6 +39,14 @@ module _ {N R X : Type 0} (place : Place N R) (rule : ℕ × ℕ → R) (reads :
   text_comes shows halt text (Err answer.NoMemory) (Err stop) held fails is = rw is tt
   text_comes shows halt text (Ok x) (Err stop) held stands is = absurd is
   text_comes shows halt text (Err fault) (Ok j) held fails is = absurd is
+
+  -- a text serves that stands for a value, and one with a fault is refused for it
+  pub text_serves : (text : List ℕ) (x : X) → place.text ≡ Ok text → reads text ≡ Ok x → (read_text place rule reads).outcome ≡ Ok (text, x)
+  text_serves text x held stands = rw (held, stands) refl
+
+  pub fault_halts : (text : List ℕ) (fault : ReadFault) (h : Halt N R) → place.text ≡ Ok text → Fails fault (reads text) → h ≡ halt_at place rule fault → HaltsAs h (read_text place rule reads)
+  fault_halts text (answer.Text f) h held fails is = rw (is, held, fails) refl
+  fault_halts text answer.NoMemory h held fails is = rw is tt
 
 -- ---- texts one after another
 

@@ -25,7 +25,7 @@ use Rattle.bench_reader.specs.Clean.{AreKnown}
 use Rattle.bench_reader.specs.Kept.{filled_from, first_line, uses_undefined}
 use Rattle.bench_reader.proofs.CircuitOfLines.{names_after, length-nets_after}
 use Rattle.bench_reader.proofs.NamesDiffer.{number_in_range, outputs_all, outputs_none}
-use Rattle.bench_reader.proofs.SecondRound.{two_rounds, all_known}
+use Rattle.bench_reader.proofs.SecondRound.{two_rounds, none_passes}
 use Rattle.diag_report.specs.PredictedLog.{is_word_name, HasWordNames}
 use Rattle.diagnosis.specs.Texts.{FourTexts}
 use Rattle.diagnosis.specs.Bundle.{texts_in, bundle_fault, texts_reading, refused_or_read, bundle_reading}
@@ -43,8 +43,8 @@ no_line (Some n) e = absurd cc
 uses_known : (ls : List (List ℕ)) → first_fault (first_rule ls) (length ls) ≡ None → early_fault ls ≡ None → AreKnown (forms_of ls)
 uses_known ls first early =
     let fs : List Form = forms_of ls in
-    let none = sym (two_rounds ls [] [] (ap (λ f. refused_or f []) first)) ∙ early in
-    all_known fs (no_line (first_line (uses_undefined (defined_names fs)) (filled_from 1 fs)) none)
+    let none = sym (two_rounds {X = List ℕ} ls [] [] (ap (λ f. refused_or f []) first)) ∙ early in
+    none_passes (uses_undefined (defined_names fs)) refl 1 fs (no_line (first_line (uses_undefined (defined_names fs)) (filled_from 1 fs)) none)
 
 -- the output of a line has the name that a line defines
 word_output : (fs : List Form) → are_words (defined_names fs) ≡ true → (n : List ℕ) → has_word (defined_names fs) n ≡ true

@@ -18,6 +18,7 @@ ghost use Rattle.diagnosis.specs.Reading.{four, RefusedBy};
 use crate::bundle::Sections;
 use crate::section::{BundleFault, DesignText};
 use crate::source::TextSource;
+use bench_reader::{NamedCircuit, read_netlist_named};
 use scan_model::{Chain, Circuit, NoMemory, Pairs, Parts, Pattern, Rows};
 use std::alloc::Global;
 use text_parts::{Names, ReadFault};
@@ -84,30 +85,6 @@ fn judge<O, S: TextSource<O>, X: Drop>(
     }
 }
 
-fn read_circuit<O, S: TextSource<O>>(
-    alloc: Global,
-    source: &S,
-    outside: &mut O,
-) -> Result<Judged<S::Text, Circuit>, S::Stop>
-    ensures told { (t : Source S.Name S.Why) → S.tells source.now (S.known outside.old) t → ComesTo S.halt (shown_text S.shows) result (netlist_text t) }
-    ensures stands { IfOk result (λ j. netlist_reading (S.shows j.text) ≡ Ok j.value) }
-    ensures fits { IfOk result (λ j. IsCircuit j.value) }
-    ensures fault { ends_by_failure S.halt result ≡ true → Rose (S.faults outside.old) (S.faults outside.new) }
-    ensures same { S.known outside.new ≡ S.known outside.old }
-    ensures later { S.faults outside.old ≤ S.faults outside.new }
-{
-    let text = source.text(alloc, outside, DesignText::Netlist)?;
-    let answer = bench_reader::read_netlist(alloc, source.bytes(&text));
-    judge(source, DesignText::Netlist, text, answer)
-}
-
-// The names of a circuit's nets, which the texts behind the netlist name.
-fn names_of(alloc: Global, circuit: &Circuit) -> Result<Names<'_>, NoMemory>
-    ensures { IfOk result (λ names. names ≡ net_names circuit.now.nets) }
-{
-    Ok(Names::of_nets(alloc, circuit.nets().as_slice())?)
-}
-
 fn read_chains<O, S: TextSource<O>>(
     alloc: Global,
     source: &S,
@@ -167,28 +144,29 @@ fn read_neighbours<O, S: TextSource<O>>(
     judge(source, DesignText::Neighbours, text, answer)
 }
 
-// The texts behind the netlist, over its circuit and the names of its nets.
-fn read_named<O, S: TextSource<O>>(
+// The texts behind a netlist, over its circuit and the names of its nets.
+fn read_behind<O, S: TextSource<O>>(
     alloc: Global,
     source: &S,
     outside: &mut O,
-    circuit: &Judged<S::Text, Circuit>,
+    netlist: &S::Text,
+    circuit: &Circuit,
     names: &Names<'_>,
 ) -> Result<OverCircuit<S::Text>, S::Stop>
-    requires { names.now ≡ net_names circuit.now.value.nets }
+    requires { names.now ≡ net_names circuit.now.nets }
     ensures told { (t : Source S.Name S.Why) → S.tells source.now (S.known outside.old) t
-        → ComesTo S.halt (shown_over S.shows (shown_text S.shows circuit.now)) result (with_circuit t (shown_text S.shows circuit.now)) }
-    ensures chains { IfOk result (λ over. (scan_reading circuit.now.value.nets (S.shows over.chains.text) ≡ Ok over.chains.value) × AreChains circuit.now.value over.chains.value) }
-    ensures patterns { IfOk result (λ over. (pattern_reading (pattern_frame circuit.now.value over.chains.value) (S.shows over.patterns.text) ≡ Ok over.patterns.value)
-        × ArePatterns circuit.now.value over.chains.value over.patterns.value) }
-    ensures pairs { IfOk result (λ over. (pairs_reading circuit.now.value (S.shows over.pairs.text) ≡ Ok over.pairs.value) × ArePairs circuit.now.value over.pairs.value) }
+        → ComesTo S.halt (shown_over S.shows (S.shows netlist.now, circuit.now)) result (with_circuit t (S.shows netlist.now, circuit.now)) }
+    ensures chains { IfOk result (λ over. (scan_reading circuit.now.nets (S.shows over.chains.text) ≡ Ok over.chains.value) × AreChains circuit.now over.chains.value) }
+    ensures patterns { IfOk result (λ over. (pattern_reading (pattern_frame circuit.now over.chains.value) (S.shows over.patterns.text) ≡ Ok over.patterns.value)
+        × ArePatterns circuit.now over.chains.value over.patterns.value) }
+    ensures pairs { IfOk result (λ over. (pairs_reading circuit.now (S.shows over.pairs.text) ≡ Ok over.pairs.value) × ArePairs circuit.now over.pairs.value) }
     ensures fault { ends_by_failure S.halt result ≡ true → Rose (S.faults outside.old) (S.faults outside.new) }
     ensures same { S.known outside.new ≡ S.known outside.old }
     ensures later { S.faults outside.old ≤ S.faults outside.new }
 {
-    let chains = read_chains(alloc, source, outside, &circuit.value, names)?;
-    let patterns = read_patterns(alloc, source, outside, &circuit.value, &chains.value)?;
-    let pairs = read_neighbours(alloc, source, outside, &circuit.value, names)?;
+    let chains = read_chains(alloc, source, outside, circuit, names)?;
+    let patterns = read_patterns(alloc, source, outside, circuit, &chains.value)?;
+    let pairs = read_neighbours(alloc, source, outside, circuit, names)?;
     Ok(OverCircuit {
         chains,
         patterns,
@@ -196,56 +174,83 @@ fn read_named<O, S: TextSource<O>>(
     })
 }
 
-// The same, with the names taken together once.
-fn read_over<O, S: TextSource<O>>(
+// The circuit of a netlist, and the texts that were read over it.
+#[derive(Drop)]
+struct Behind<T> {
+    circuit: Circuit,
+    over: OverCircuit<T>,
+}
+
+// What the texts behind a netlist stand for, over its circuit and the names of its nets.
+fn read_with<O, S: TextSource<O>>(
     alloc: Global,
     source: &S,
     outside: &mut O,
-    circuit: &Judged<S::Text, Circuit>,
-) -> Result<OverCircuit<S::Text>, S::Stop>
+    netlist: &S::Text,
+    named: NamedCircuit<'_>,
+) -> Result<Behind<S::Text>, S::Stop>
+    requires { named.names ≡ net_names named.circuit.nets }
     ensures told { (t : Source S.Name S.Why) → S.tells source.now (S.known outside.old) t
-        → ComesTo S.halt (shown_over S.shows (shown_text S.shows circuit.now)) result (with_circuit t (shown_text S.shows circuit.now)) }
-    ensures chains { IfOk result (λ over. (scan_reading circuit.now.value.nets (S.shows over.chains.text) ≡ Ok over.chains.value) × AreChains circuit.now.value over.chains.value) }
-    ensures patterns { IfOk result (λ over. (pattern_reading (pattern_frame circuit.now.value over.chains.value) (S.shows over.patterns.text) ≡ Ok over.patterns.value)
-        × ArePatterns circuit.now.value over.chains.value over.patterns.value) }
-    ensures pairs { IfOk result (λ over. (pairs_reading circuit.now.value (S.shows over.pairs.text) ≡ Ok over.pairs.value) × ArePairs circuit.now.value over.pairs.value) }
+        → ComesTo S.halt (λ r. shown_over S.shows (S.shows netlist.now, r.circuit) r.over) result (with_circuit t (S.shows netlist.now, named.entry.circuit)) }
+    ensures circuit { IfOk result (λ r. r.circuit ≡ named.entry.circuit) }
+    ensures chains { IfOk result (λ r. (scan_reading r.circuit.nets (S.shows r.over.chains.text) ≡ Ok r.over.chains.value) × AreChains r.circuit r.over.chains.value) }
+    ensures patterns { IfOk result (λ r. (pattern_reading (pattern_frame r.circuit r.over.chains.value) (S.shows r.over.patterns.text) ≡ Ok r.over.patterns.value)
+        × ArePatterns r.circuit r.over.chains.value r.over.patterns.value) }
+    ensures pairs { IfOk result (λ r. (pairs_reading r.circuit (S.shows r.over.pairs.text) ≡ Ok r.over.pairs.value) × ArePairs r.circuit r.over.pairs.value) }
     ensures fault { ends_by_failure S.halt result ≡ true → Rose (S.faults outside.old) (S.faults outside.new) }
     ensures same { S.known outside.new ≡ S.known outside.old }
     ensures later { S.faults outside.old ≤ S.faults outside.new }
 {
-    match names_of(alloc, &circuit.value) {
-        Ok(names) => read_named(alloc, source, outside, circuit, &names),
-        Err(NoMemory) => Err(source.stop_for_memory()),
+    let NamedCircuit { circuit, names } = named;
+    match read_behind(alloc, source, outside, netlist, &circuit, &names) {
+        Ok(over) => Ok(Behind { circuit, over }),
+        Err(stop) => Err(stop),
+    }
+}
+
+// What a netlist and the texts behind it stand for. The names of its nets are taken together once, by the reader of the netlist.
+fn read_over<O, S: TextSource<O>>(
+    alloc: Global,
+    source: &S,
+    outside: &mut O,
+    netlist: &S::Text,
+) -> Result<Behind<S::Text>, S::Stop>
+    ensures told { (t : Source S.Name S.Why) → S.tells source.now (S.known outside.old) t → t.netlist.text ≡ Ok (S.shows netlist.now)
+        → ComesTo S.halt (λ r. shown_over S.shows (S.shows netlist.now, r.circuit) r.over) result (source_reading t) }
+    ensures stands { IfOk result (λ r. netlist_reading (S.shows netlist.now) ≡ Ok r.circuit) }
+    ensures fits { IfOk result (λ r. IsCircuit r.circuit) }
+    ensures chains { IfOk result (λ r. (scan_reading r.circuit.nets (S.shows r.over.chains.text) ≡ Ok r.over.chains.value) × AreChains r.circuit r.over.chains.value) }
+    ensures patterns { IfOk result (λ r. (pattern_reading (pattern_frame r.circuit r.over.chains.value) (S.shows r.over.patterns.text) ≡ Ok r.over.patterns.value)
+        × ArePatterns r.circuit r.over.chains.value r.over.patterns.value) }
+    ensures pairs { IfOk result (λ r. (pairs_reading r.circuit (S.shows r.over.pairs.text) ≡ Ok r.over.pairs.value) × ArePairs r.circuit r.over.pairs.value) }
+    ensures fault { ends_by_failure S.halt result ≡ true → Rose (S.faults outside.old) (S.faults outside.new) }
+    ensures same { S.known outside.new ≡ S.known outside.old }
+    ensures later { S.faults outside.old ≤ S.faults outside.new }
+{
+    match read_netlist_named(alloc, source.bytes(netlist)) {
+        Ok(named) => read_with(alloc, source, outside, netlist, named),
+        Err(fault) => Err(stop_for(source, DesignText::Netlist, fault)),
     }
 }
 
 // The design of a netlist and of the texts that were read over its circuit.
-fn whole<T: Drop>(
-    alloc: Global,
-    circuit: Judged<T, Circuit>,
-    over: OverCircuit<T>,
-) -> Result<ReadDesign<T>, NoMemory>
-    requires circuit { IsCircuit circuit.value }
-    requires chains { AreChains circuit.value over.chains.value }
-    requires patterns { ArePatterns circuit.value over.chains.value over.patterns.value }
-    requires pairs { ArePairs circuit.value over.pairs.value }
-    ensures texts { IfOk result (λ d. (d.netlist ≡ circuit.text) × (d.scan ≡ over.chains.text) × (d.patterns ≡ over.patterns.text) × (d.neighbours ≡ over.pairs.text)) }
-    ensures parts { IfOk result (λ d. d.parts ≡ scan_test circuit.value over.chains.value over.patterns.value over.pairs.value) }
+fn whole<T: Drop>(alloc: Global, netlist: T, behind: Behind<T>) -> Result<ReadDesign<T>, NoMemory>
+    requires circuit { IsCircuit behind.circuit }
+    requires chains { AreChains behind.circuit behind.over.chains.value }
+    requires patterns { ArePatterns behind.circuit behind.over.chains.value behind.over.patterns.value }
+    requires pairs { ArePairs behind.circuit behind.over.pairs.value }
+    ensures texts { IfOk result (λ d. (d.netlist ≡ netlist) × (d.scan ≡ behind.over.chains.text) × (d.patterns ≡ behind.over.patterns.text) × (d.neighbours ≡ behind.over.pairs.text)) }
+    ensures parts { IfOk result (λ d. d.parts ≡ scan_test behind.circuit behind.over.chains.value behind.over.patterns.value behind.over.pairs.value) }
 {
+    let Behind { circuit, over } = behind;
     let OverCircuit {
         chains,
         patterns,
         pairs,
     } = over;
-    let parts = Parts::make(
-        alloc,
-        circuit.value,
-        chains.value,
-        patterns.value,
-        pairs.value,
-    )?;
+    let parts = Parts::make(alloc, circuit, chains.value, patterns.value, pairs.value)?;
     Ok(ReadDesign {
-        netlist: circuit.text,
+        netlist,
         scan: chains.text,
         patterns: patterns.text,
         neighbours: pairs.text,
@@ -266,9 +271,9 @@ pub fn read_from<O, S: TextSource<O>>(
     ensures same { S.known outside.new ≡ S.known outside.old }
     ensures later { S.faults outside.old ≤ S.faults outside.new }
 {
-    let circuit = read_circuit(alloc, source, outside)?;
-    let over = read_over(alloc, source, outside, &circuit)?;
-    match whole(alloc, circuit, over) {
+    let netlist = source.text(alloc, outside, DesignText::Netlist)?;
+    let behind = read_over(alloc, source, outside, &netlist)?;
+    match whole(alloc, netlist, behind) {
         Ok(design) => Ok(design),
         Err(NoMemory) => Err(source.stop_for_memory()),
     }
