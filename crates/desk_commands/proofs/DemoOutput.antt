@@ -6,7 +6,8 @@ use Rattle.scan_model.specs.ScanTest.{ScanTest}
 use Rattle.diagnosis.specs.declared.section.Section.{Section}
 use Rattle.diagnosis.specs.declared.section.BundleFault.{BundleFault}
 use Rattle.diagnosis.specs.declared.section.BundleFault.TheVariants.{Text, NoMemory}
-use Rattle.diagnosis.specs.Bundle.{FourTexts, texts_reading}
+use Rattle.diagnosis.specs.Texts.{FourTexts}
+use Rattle.diagnosis.specs.Bundle.{texts_reading}
 use Rattle.diagnosis.specs.Reading.{RefusedBy}
 use Rattle.desk_commands.specs.declared.page.Page.{Page}
 use Rattle.desk_commands.specs.Work.{Output}

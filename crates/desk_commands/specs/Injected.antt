@@ -6,7 +6,7 @@ use Rattle.scan_model.specs.Universe.{universe}
 use Rattle.scan_model.specs.ReportText.{line, joined}
 use Rattle.diag_report.specs.PredictedLog.{fault_of, predicted_log, predicted_facts}
 use Rattle.diag_report.specs.Summary.{count_line}
-use Rattle.diagnosis.specs.Bundle.{FourTexts}
+use Rattle.diagnosis.specs.Texts.{FourTexts}
 use Rattle.diagnosis.specs.Reading.{four}
 use Rattle.diagnosis.specs.Designs.{ReadLogFacts, StandsOver}
 use Rattle.diagnosis.specs.Cases.{CaseFacts}

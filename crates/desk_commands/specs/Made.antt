@@ -1,6 +1,6 @@
 -- The texts of the design that the generator makes, and the draw that comes after them.
 use Rattle.std.specs.Prelude.{ℕ}
-use Rattle.diagnosis.specs.Bundle.{FourTexts}
+use Rattle.diagnosis.specs.Texts.{FourTexts}
 use Rattle.desk_commands.specs.MadeNetlist.{made_netlist}
 use Rattle.desk_commands.specs.MadeScan.{made_scan}
 use Rattle.desk_commands.specs.MadePatterns.{made_patterns, first_draw}

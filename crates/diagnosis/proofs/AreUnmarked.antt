@@ -1,7 +1,8 @@
 -- Texts of which no line begins with `%`.
 use Rattle.std.specs.Prelude.{◌≡◌, false, All}
 use Rattle.text_parts.specs.Ended.{ended}
-use Rattle.diagnosis.specs.Bundle.{FourTexts, is_mark, pieces}
+use Rattle.diagnosis.specs.Texts.{FourTexts}
+use Rattle.diagnosis.specs.Bundle.{is_mark, pieces}
 
 pub record AreUnmarked (texts : FourTexts) : Type 0 where
   pub netlist : All (λ piece. is_mark piece ≡ false) (pieces (ended texts.netlist))

@@ -11,11 +11,11 @@ use Rattle.scan_model.specs.NetlistText.{circuit_in, third_rule, netlist_reading
 use Rattle.scan_model.specs.ScanText.{scan_rule, chains_of, scan_reading}
 use Rattle.scan_model.specs.PatternText.{PatternFrame, pattern_frame, pattern_rule, patterns_of, pattern_reading}
 use Rattle.text_parts.specs.Ended.{ended}
-use Rattle.diagnosis.specs.declared.section.Section.TheVariants.{Netlist as NetlistText, Scan, Patterns}
-use Rattle.diagnosis.specs.Bundle.{FourTexts, in_section, and_then, texts_reading, with_circuit, with_chains, with_patterns}
+use Rattle.diagnosis.specs.Texts.{FourTexts}
+use Rattle.diagnosis.specs.Bundle.{texts_reading}
 use Rattle.diagnosis.proofs.Ended.{ended_twice}
 use Rattle.diagnosis.proofs.LastLine.{ended_lines}
-use Rattle.diagnosis.proofs.NoFaults.{section_read}
+use Rattle.diagnosis.proofs.AreRead.{are_read, read_whole}
 use Rattle.diagnosis.proofs.Accepted.{netlist_accepted, scan_accepted, patterns_accepted}
 
 -- the texts, each ended
@@ -38,17 +38,15 @@ patterns_ended frame text patterns e =
 
 pub ended_read : (texts : FourTexts) (t : ScanTest) → texts_reading texts ≡ Ok t → texts_reading (ended_texts texts) ≡ Ok t
 ended_read texts t e =
-    let first = section_read NetlistText (netlist_reading texts.netlist) (with_circuit texts) t e in
-    let c : Netlist = first.0 in
-    let netlist : netlist_reading (ended texts.netlist) ≡ Ok c = netlist_ended texts.netlist c first.1 in
-    let second = section_read Scan (scan_reading c.nets texts.scan) (with_chains texts c) t first.2 in
-    let chains : List Chain = second.0 in
-    let scan : scan_reading c.nets (ended texts.scan) ≡ Ok chains = scan_ended c.nets texts.scan chains second.1 in
-    let frame : PatternFrame = pattern_frame c chains in
-    let third = section_read Patterns (pattern_reading frame texts.patterns) (with_patterns texts c chains) t second.2 in
-    let patterns : List Pattern = third.0 in
-    let pattern : pattern_reading frame (ended texts.patterns) ≡ Ok patterns = patterns_ended frame texts.patterns patterns third.1 in
-    ap (λ r. and_then (in_section NetlistText r) (with_circuit (ended_texts texts))) netlist
-    ∙ ap (λ r. and_then (in_section Scan r) (with_chains (ended_texts texts) c)) scan
-    ∙ ap (λ r. and_then (in_section Patterns r) (with_patterns (ended_texts texts) c chains)) pattern
-    ∙ rw (ended_twice texts.neighbours) third.2
+    let r = are_read texts t e in
+    read_whole (ended_texts texts) t (record {
+      c = r.c;
+      chains = r.chains;
+      patterns = r.patterns;
+      pairs = r.pairs;
+      netlist_stands = netlist_ended texts.netlist r.c r.netlist_stands;
+      scan_stands = scan_ended r.c.nets texts.scan r.chains r.scan_stands;
+      patterns_stand = patterns_ended (pattern_frame r.c r.chains) texts.patterns r.patterns r.patterns_stand;
+      neighbours_stand = rw (ended_twice texts.neighbours) r.neighbours_stand;
+      whole = r.whole;
+    })

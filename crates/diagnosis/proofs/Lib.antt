@@ -8,6 +8,8 @@ pub mod NetNames
 pub mod PairPercents
 pub mod AreUnmarked
 pub mod NoFaults
+pub mod AreRead
+pub mod Halting
 pub mod Unmarked
 pub mod WordNames
 pub mod LineEnds

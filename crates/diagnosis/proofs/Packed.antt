@@ -7,7 +7,8 @@ use Rattle.scan_model.specs.ScanTest.{ScanTest}
 use Rattle.scan_model.specs.Lines.{text_lines}
 use Rattle.scan_model.specs.TextFaults.{first_fault}
 use Rattle.text_parts.specs.Ended.{is_ended, ended}
-use Rattle.diagnosis.specs.Bundle.{FourTexts, is_mark, pieces, joined, sections, texts_in, bundle_rule, bundle_fault, bundle_text, texts_reading, refused_or_read, bundle_reading}
+use Rattle.diagnosis.specs.Texts.{FourTexts}
+use Rattle.diagnosis.specs.Bundle.{is_mark, pieces, joined, sections, texts_in, bundle_rule, bundle_fault, bundle_text, texts_reading, refused_or_read, bundle_reading}
 use Rattle.diagnosis.proofs.Ended.{ended-is_ended, lines_behind, pieces_behind, joined_pieces, unmarked_lines}
 use Rattle.diagnosis.proofs.EndedReadings.{ended_texts, ended_read}
 use Rattle.diagnosis.proofs.AreUnmarked.{AreUnmarked}

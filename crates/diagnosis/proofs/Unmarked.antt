@@ -6,7 +6,7 @@ use Rattle.scan_model.specs.declared.parts.Chain.{Chain}
 use Rattle.scan_model.specs.declared.parts.Pattern.{Pattern}
 use Rattle.scan_model.specs.declared.parts.Pairs.{Pairs}
 use Rattle.scan_model.specs.Netlist.{Netlist}
-use Rattle.scan_model.specs.ScanTest.{ScanTest, scan_test}
+use Rattle.scan_model.specs.ScanTest.{ScanTest}
 use Rattle.scan_model.specs.Lines.{text_lines}
 use Rattle.scan_model.specs.TextFaults.{first_fault}
 use Rattle.scan_model.specs.NetlistRules.{first_rule, second_rule, early_fault}
@@ -15,15 +15,16 @@ use Rattle.scan_model.specs.ScanText.{net_names, scan_fault, scan_reading, chain
 use Rattle.scan_model.specs.PatternText.{PatternFrame, pattern_frame, pattern_fault, pattern_reading, patterns_of}
 use Rattle.text_parts.specs.Ended.{ended}
 use Rattle.bridge_pairs.specs.PairText.{records_in, pairs_in, pairs_fault, pairs_reading, parted}
-use Rattle.diagnosis.specs.declared.section.Section.TheVariants.{Netlist as NetlistText, Scan, Patterns, Neighbours}
-use Rattle.diagnosis.specs.Bundle.{FourTexts, is_mark, pieces, with_patterns, with_chains, with_circuit, texts_reading}
+use Rattle.diagnosis.specs.Texts.{FourTexts}
+use Rattle.diagnosis.specs.Bundle.{is_mark, pieces, texts_reading}
 use Rattle.diagnosis.proofs.LineMarks.{unmarked_pieces, plain_pieces}
 use Rattle.diagnosis.proofs.MarkedLines.{unmarked_netlist, unmarked_scan, unmarked_patterns}
 use Rattle.diagnosis.proofs.NetNames.{plain_net_names}
 use Rattle.diagnosis.proofs.PairPercents.{records_in_percent, plain_records}
 use Rattle.diagnosis.proofs.Percents.{some_field}
 use Rattle.diagnosis.proofs.AreUnmarked.{AreUnmarked}
-use Rattle.diagnosis.proofs.NoFaults.{no_fault, neither, section_read}
+use Rattle.diagnosis.proofs.AreRead.{are_read}
+use Rattle.diagnosis.proofs.NoFaults.{no_fault, neither}
 
 -- ---- text by text
 
@@ -57,14 +58,10 @@ neighbours_unmarked netlist bytes c pairs read e =
 
 pub unmarked : (texts : FourTexts) (t : ScanTest) → texts_reading texts ≡ Ok t → AreUnmarked texts
 unmarked texts t e =
-    let circuit = section_read NetlistText (netlist_reading texts.netlist) (with_circuit texts) t e in
-    let c = circuit.0 in
-    let chains = section_read Scan (scan_reading c.nets texts.scan) (with_chains texts c) t circuit.2 in
-    let patterns = section_read Patterns (pattern_reading (pattern_frame c chains.0) texts.patterns) (with_patterns texts c chains.0) t chains.2 in
-    let pairs = section_read Neighbours (pairs_reading c texts.neighbours) (λ p. Ok (scan_test c chains.0 patterns.0 p)) t patterns.2 in
+    let r = are_read texts t e in
     record {
-      netlist = netlist_unmarked texts.netlist c circuit.1;
-      scan = scan_unmarked c.nets texts.scan chains.0 chains.1;
-      patterns = patterns_unmarked (pattern_frame c chains.0) texts.patterns patterns.0 patterns.1;
-      neighbours = neighbours_unmarked texts.netlist texts.neighbours c pairs.0 circuit.1 pairs.1;
+      netlist = netlist_unmarked texts.netlist r.c r.netlist_stands;
+      scan = scan_unmarked r.c.nets texts.scan r.chains r.scan_stands;
+      patterns = patterns_unmarked (pattern_frame r.c r.chains) texts.patterns r.patterns r.patterns_stand;
+      neighbours = neighbours_unmarked texts.netlist texts.neighbours r.c r.pairs r.netlist_stands r.neighbours_stand;
     }

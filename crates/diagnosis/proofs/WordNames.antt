@@ -21,17 +21,16 @@ use Rattle.scan_model.specs.NetlistLines.{Form}
 use Rattle.scan_model.specs.NetlistRules.{forms_of, defined_names, outputs_of, first_rule, second_rule, early_fault}
 use Rattle.scan_model.specs.NetlistText.{net_number, nets_after, circuit_in, circuit_of, third_rule, netlist_fault, netlist_reading}
 use Rattle.scan_model.specs.ScanText.{ChainNames, chain_of, chains, numbered, chains_of, scan_fault, scan_reading}
-use Rattle.scan_model.specs.PatternText.{pattern_frame, pattern_reading}
-use Rattle.bridge_pairs.specs.PairText.{pairs_reading}
 use Rattle.bench_reader.specs.Clean.{AreKnown}
 use Rattle.bench_reader.specs.Kept.{filled_from, first_line, uses_undefined}
 use Rattle.bench_reader.proofs.CircuitOfLines.{names_after, length-nets_after}
 use Rattle.bench_reader.proofs.NamesDiffer.{number_in_range, outputs_all, outputs_none}
 use Rattle.bench_reader.proofs.SecondRound.{two_rounds, all_known}
 use Rattle.diag_report.specs.PredictedLog.{is_word_name, HasWordNames}
-use Rattle.diagnosis.specs.declared.section.Section.TheVariants.{Netlist as NetlistText, Scan, Patterns, Neighbours}
-use Rattle.diagnosis.specs.Bundle.{FourTexts, texts_in, bundle_fault, with_patterns, with_chains, with_circuit, texts_reading, refused_or_read, bundle_reading}
-use Rattle.diagnosis.proofs.NoFaults.{no_fault, neither, section_read}
+use Rattle.diagnosis.specs.Texts.{FourTexts}
+use Rattle.diagnosis.specs.Bundle.{texts_in, bundle_fault, texts_reading, refused_or_read, bundle_reading}
+use Rattle.diagnosis.proofs.AreRead.{are_read}
+use Rattle.diagnosis.proofs.NoFaults.{no_fault, neither}
 use Rattle.diagnosis.proofs.NetNames.{are_words, words_defined}
 
 -- ---- the outputs
@@ -122,12 +121,9 @@ parts_named c cs patterns pairs t whole nets outputs named = subst HasWordNames 
 
 pub word_names : (texts : FourTexts) (t : ScanTest) → texts_reading texts ≡ Ok t → HasWordNames t
 word_names texts t e =
-    let circuit = section_read NetlistText (netlist_reading texts.netlist) (with_circuit texts) t e in
-    let c = circuit.0 in
-    let chains = section_read Scan (scan_reading c.nets texts.scan) (with_chains texts c) t circuit.2 in
-    let patterns = section_read Patterns (pattern_reading (pattern_frame c chains.0) texts.patterns) (with_patterns texts c chains.0) t chains.2 in
-    let pairs = section_read Neighbours (pairs_reading c texts.neighbours) (λ p. Ok (scan_test c chains.0 patterns.0 p)) t patterns.2 in
-    parts_named c chains.0 patterns.0 pairs.0 t (let read = pairs.2 in cc) (netlist_net_names texts.netlist c circuit.1) (netlist_word_names texts.netlist c circuit.1) (scan_word_names c.nets texts.scan chains.0 chains.1)
+    let r = are_read texts t e in
+    parts_named r.c r.chains r.patterns r.pairs t r.whole (netlist_net_names texts.netlist r.c r.netlist_stands) (netlist_word_names texts.netlist r.c r.netlist_stands)
+    (scan_word_names r.c.nets texts.scan r.chains r.scan_stands)
 
 pub bundle_word_names : (bytes : List ℕ) (t : ScanTest) → bundle_reading bytes ≡ Ok t → HasWordNames t
 bundle_word_names bytes t e = go (bundle_fault bytes) e

@@ -2,26 +2,13 @@
 use Rattle.std.specs.Prelude.{ℕ, ◌+◌, ◌==◌, Bool, not, ◌&&◌, ◌||◌, nat_lt, if◌then◌else◌, List, [], ◌∷◌, ◌++◌, length, map, filter, flat_map, take, cond, slice_index_or, codes, Option, Some, None, Result, Ok, Err}
 use Rattle.std.specs.List.{slice_split}
 use Rattle.std.specs.Str.{bytes_eq}
-use Rattle.scan_model.specs.declared.parts.Chain.{Chain}
-use Rattle.scan_model.specs.declared.parts.Pattern.{Pattern}
-use Rattle.scan_model.specs.Netlist.{Netlist}
-use Rattle.scan_model.specs.ScanTest.{ScanTest, scan_test}
+use Rattle.scan_model.specs.ScanTest.{ScanTest}
 use Rattle.scan_model.specs.Lines.{text_lines, line_at}
 use Rattle.scan_model.specs.TextFaults.{first_fault}
-use Rattle.scan_model.specs.NetlistText.{netlist_reading}
-use Rattle.scan_model.specs.ScanText.{scan_reading}
-use Rattle.scan_model.specs.PatternText.{pattern_frame, pattern_reading}
 use Rattle.text_parts.specs.Ended.{ended}
-use Rattle.bridge_pairs.specs.PairText.{pairs_reading}
 use Rattle.diagnosis.specs.declared.section.Section.{Section}
-use Rattle.diagnosis.specs.declared.section.Section.TheVariants.{Bundle, Netlist as NetlistText, Scan, Patterns, Neighbours}
-
--- the four texts of a design
-pub record FourTexts : Type 0 where
-  pub netlist : List ℕ
-  pub scan : List ℕ
-  pub patterns : List ℕ
-  pub neighbours : List ℕ
+use Rattle.diagnosis.specs.declared.section.Section.TheVariants.{Bundle, Netlist, Scan, Patterns, Neighbours}
+use Rattle.diagnosis.specs.Texts.{FourTexts, Place, Source, value, and_then, source_reading}
 
 -- ---- the parts of a bundle
 
@@ -80,31 +67,22 @@ texts_in bytes = record {
 
 -- ---- what the texts stand for
 
--- what a section's text stands for, or the section with its first fault
-abbrev pub in_section : {X : Type 0} → Section → Result X (ℕ × ℕ) → Result X (Section × (ℕ × ℕ))
-in_section section (Ok x) = Ok x
-in_section section (Err fault) = Err (section, fault)
+-- a text in its section
+abbrev pub in_section : Section → List ℕ → Place Section (ℕ × ℕ)
+in_section section text = record { name = section; text = Ok text }
 
--- goes on with what was read, where it was read
-abbrev pub and_then : {X Y : Type 0} → Result X (Section × (ℕ × ℕ)) → (X → Result Y (Section × (ℕ × ℕ))) → Result Y (Section × (ℕ × ℕ))
-and_then (Ok x) next = next x
-and_then (Err fault) next = Err fault
+abbrev pub texts_source : FourTexts → Source Section (ℕ × ℕ)
+texts_source texts = record {
+  netlist = in_section Netlist texts.netlist;
+  scan = in_section Scan texts.scan;
+  patterns = in_section Patterns texts.patterns;
+  neighbours = in_section Neighbours texts.neighbours;
+  rule = λ fault. fault;
+}
 
-module _ (texts : FourTexts) where
-  abbrev pub with_patterns : Netlist → List Chain → List Pattern → Result ScanTest (Section × (ℕ × ℕ))
-  with_patterns c chains patterns =
-      and_then (in_section Neighbours (pairs_reading c texts.neighbours)) (λ pairs. Ok (scan_test c chains patterns pairs))
-
-  abbrev pub with_chains : Netlist → List Chain → Result ScanTest (Section × (ℕ × ℕ))
-  with_chains c chains =
-      and_then (in_section Patterns (pattern_reading (pattern_frame c chains) texts.patterns)) (with_patterns c chains)
-
-  abbrev pub with_circuit : Netlist → Result ScanTest (Section × (ℕ × ℕ))
-  with_circuit c = and_then (in_section Scan (scan_reading c.nets texts.scan)) (with_chains c)
-
-  -- the scan test of the four texts, or the first of them that breaks a rule, with its first fault
-  abbrev pub texts_reading : Result ScanTest (Section × (ℕ × ℕ))
-  texts_reading = and_then (in_section NetlistText (netlist_reading texts.netlist)) with_circuit
+-- the scan test of the four texts, or the first of them that breaks a rule, with its first fault
+abbrev pub texts_reading : FourTexts → Result ScanTest (Section × (ℕ × ℕ))
+texts_reading texts = (and_then (source_reading (texts_source texts)) (λ read. value read.test)).outcome
 
 abbrev pub refused_or_read : Option (ℕ × ℕ) → FourTexts → Result ScanTest (Section × (ℕ × ℕ))
 refused_or_read None texts = texts_reading texts

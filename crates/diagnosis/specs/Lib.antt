@@ -1,3 +1,6 @@
+pub mod Texts
+pub mod Halts
+pub mod Shown
 pub mod Bundle
 pub mod BundleRest
 pub mod Sections

@@ -12,6 +12,7 @@ mod log;
 mod logs;
 mod put;
 mod section;
+mod source;
 mod texts;
 mod view;
 
@@ -22,6 +23,7 @@ pub use design::{Design, design_of, design_with, read_bundle};
 pub use diagnosed::Diagnosis;
 pub use log::{ReadLog, log_of, log_over};
 pub use put::Put;
-pub use section::{BundleFault, Section};
-pub use texts::parts_of;
+pub use section::{BundleFault, DesignText, Section};
+pub use source::TextSource;
+pub use texts::{ReadDesign, parts_of, read_from};
 pub use view::DieView;

@@ -22,6 +22,15 @@ pub enum Section {
     Log,
 }
 
+/// One of the four texts of a design.
+#[derive(Clone, Copy, Debug, PartialEq, Eq)]
+pub enum DesignText {
+    Netlist,
+    Scan,
+    Patterns,
+    Neighbours,
+}
+
 /// Why a bundle wasn't read: the first of its sections that breaks a rule with its first fault, or want of memory.
 #[derive(Debug, Drop, Error)]
 pub enum BundleFault {

@@ -1,119 +1,194 @@
-//! The four texts of a design, each read and judged before the next.
-ghost use Rattle.std.specs.Prelude.{◌≡◌, Ok, IfOk, IfErr};
+//! The four texts of a design, each read and judged before the next is read.
+ghost use Rattle.std.specs.Prelude.{◌≡◌, ◌≤◌, Ok, IfOk, IfErr, true, false};
+ghost use Rattle.desk_outside.specs.Faults.{Rose};
 ghost use Rattle.scan_model.specs.Circuits.{IsCircuit};
 ghost use Rattle.scan_model.specs.ScanTest.{AreChains, ArePatterns, ArePairs, scan_test};
 ghost use Rattle.scan_model.specs.NetlistText.{netlist_reading};
 ghost use Rattle.scan_model.specs.ScanText.{net_names, scan_reading};
 ghost use Rattle.scan_model.specs.PatternText.{pattern_frame, pattern_reading};
 ghost use Rattle.bridge_pairs.specs.PairText.{pairs_reading};
-ghost use Rattle.diagnosis.specs.declared.section.Section.TheVariants as section;
-ghost use Rattle.diagnosis.specs.Bundle.{in_section, texts_reading, with_circuit};
-ghost use Rattle.diagnosis.specs.Sections.{four_texts};
-ghost use Rattle.diagnosis.specs.Reading.{four, RefusedBy, ReadAs, IsIn};
 ghost use Rattle.diag_report.specs.PredictedLog.{HasWordNames};
+ghost use Rattle.diagnosis.specs.Texts.{Source, netlist_text, scan_text, pattern_text, neighbour_text, with_circuit, source_reading};
+ghost use Rattle.diagnosis.specs.Halts.{ComesTo, halt_at, place_of, is_failure, ends_by_failure};
+ghost use Rattle.diagnosis.specs.Shown.{IsJudged, shown_text, shown_over, shown_design};
+ghost use Rattle.diagnosis.specs.Bundle.{texts_reading};
+ghost use Rattle.diagnosis.specs.Sections.{four_texts};
+ghost use Rattle.diagnosis.specs.Reading.{four, RefusedBy};
 
 use crate::bundle::Sections;
-use crate::section::{BundleFault, Section};
+use crate::section::{BundleFault, DesignText};
+use crate::source::TextSource;
 use scan_model::{Chain, Circuit, NoMemory, Pairs, Parts, Pattern, Rows};
 use std::alloc::Global;
 use text_parts::{Names, ReadFault};
 
-// What the reader of a section answered.
-fn in_section<X: Drop>(section: Section, answer: Result<X, ReadFault>) -> Result<X, BundleFault>
-    ensures { IsIn section answer result }
-{
-    match answer {
-        Ok(value) => Ok(value),
-        Err(ReadFault::Text(fault)) => Err(BundleFault::Text { section, fault }),
-        Err(ReadFault::NoMemory) => Err(BundleFault::NoMemory),
+// A text that was read, with what it stands for.
+#[derive(Drop)]
+struct Judged<T, X> {
+    text: T,
+    value: X,
+}
+
+// The texts behind the netlist, over its circuit.
+#[derive(Drop)]
+struct OverCircuit<T> {
+    chains: Judged<T, Rows<Chain>>,
+    patterns: Judged<T, Rows<Pattern>>,
+    pairs: Judged<T, Pairs>,
+}
+
+/// The four texts of a design, and the scan test that they stand for.
+#[derive(Drop)]
+pub struct ReadDesign<T> {
+    pub netlist: T,
+    pub scan: T,
+    pub patterns: T,
+    pub neighbours: T,
+    pub parts: Parts,
+}
+
+impl<T: Drop> ReadDesign<T> {
+    /// The scan test alone.
+    pub fn into_parts(self) -> Parts
+        ensures { result ≡ self.parts }
+    {
+        let ReadDesign { parts, .. } = self;
+        parts
     }
 }
 
-fn read_circuit(alloc: Global, text: &[u8]) -> Result<Circuit, BundleFault>
-    ensures reading { ReadAs (in_section section.Netlist (netlist_reading text.now)) result }
-    ensures fits { IfOk result IsCircuit }
+fn stop_for<O, S: TextSource<O>>(source: &S, part: DesignText, fault: ReadFault) -> S::Stop
+    ensures told { (seen : S.Known) (t : Source S.Name S.Why) → S.tells source.now seen t → S.halt result ≡ halt_at (place_of t part) t.rule fault }
+    ensures sure { is_failure (S.halt result) ≡ false }
 {
-    in_section(Section::Netlist, bench_reader::read_netlist(alloc, text))
+    match fault {
+        ReadFault::Text(fault) => source.stop(part, fault),
+        ReadFault::NoMemory => source.stop_for_memory(),
+    }
 }
 
-// The names of a circuit's nets.
+// A text with what its reader answered, or the stop for its fault.
+fn judge<O, S: TextSource<O>, X: Drop>(
+    source: &S,
+    part: DesignText,
+    text: S::Text,
+    answer: Result<X, ReadFault>,
+) -> Result<Judged<S::Text, X>, S::Stop>
+    ensures judged { (seen : S.Known) (t : Source S.Name S.Why) → S.tells source.now seen t → IsJudged S.halt (halt_at (place_of t part) t.rule) text answer result }
+    ensures value { IfOk result (λ j. (j.text ≡ text) × (answer ≡ Ok j.value)) }
+    ensures sure { ends_by_failure S.halt result ≡ false }
+{
+    match answer {
+        Ok(value) => Ok(Judged { text, value }),
+        Err(fault) => Err(stop_for(source, part, fault)),
+    }
+}
+
+fn read_circuit<O, S: TextSource<O>>(
+    alloc: Global,
+    source: &S,
+    outside: &mut O,
+) -> Result<Judged<S::Text, Circuit>, S::Stop>
+    ensures told { (t : Source S.Name S.Why) → S.tells source.now (S.known outside.old) t → ComesTo S.halt (shown_text S.shows) result (netlist_text t) }
+    ensures stands { IfOk result (λ j. netlist_reading (S.shows j.text) ≡ Ok j.value) }
+    ensures fits { IfOk result (λ j. IsCircuit j.value) }
+    ensures fault { ends_by_failure S.halt result ≡ true → Rose (S.faults outside.old) (S.faults outside.new) }
+    ensures same { S.known outside.new ≡ S.known outside.old }
+    ensures later { S.faults outside.old ≤ S.faults outside.new }
+{
+    let text = source.text(alloc, outside, DesignText::Netlist)?;
+    let answer = bench_reader::read_netlist(alloc, source.bytes(&text));
+    judge(source, DesignText::Netlist, text, answer)
+}
+
+// The names of a circuit's nets, which the texts behind the netlist name.
 fn names_of(alloc: Global, circuit: &Circuit) -> Result<Names<'_>, NoMemory>
     ensures { IfOk result (λ names. names ≡ net_names circuit.now.nets) }
 {
     Ok(Names::of_nets(alloc, circuit.nets().as_slice())?)
 }
 
-fn read_chains(
+fn read_chains<O, S: TextSource<O>>(
     alloc: Global,
+    source: &S,
+    outside: &mut O,
     circuit: &Circuit,
     names: &Names<'_>,
-    text: &[u8],
-) -> Result<Rows<Chain>, BundleFault>
+) -> Result<Judged<S::Text, Rows<Chain>>, S::Stop>
     requires { names.now ≡ net_names circuit.now.nets }
-    ensures reading { ReadAs (in_section section.Scan (scan_reading circuit.now.nets text.now)) result }
-    ensures fits { IfOk result (AreChains circuit.now) }
+    ensures told { (t : Source S.Name S.Why) → S.tells source.now (S.known outside.old) t → ComesTo S.halt (shown_text S.shows) result (scan_text t circuit.now) }
+    ensures stands { IfOk result (λ j. scan_reading circuit.now.nets (S.shows j.text) ≡ Ok j.value) }
+    ensures fits { IfOk result (λ j. AreChains circuit.now j.value) }
+    ensures fault { ends_by_failure S.halt result ≡ true → Rose (S.faults outside.old) (S.faults outside.new) }
+    ensures same { S.known outside.new ≡ S.known outside.old }
+    ensures later { S.faults outside.old ≤ S.faults outside.new }
 {
-    in_section(
-        Section::Scan,
-        scan_text::read_scan_named(alloc, circuit, names, text),
-    )
+    let text = source.text(alloc, outside, DesignText::Scan)?;
+    let answer = scan_text::read_scan_named(alloc, circuit, names, source.bytes(&text));
+    judge(source, DesignText::Scan, text, answer)
 }
 
-fn read_patterns(
+fn read_patterns<O, S: TextSource<O>>(
     alloc: Global,
+    source: &S,
+    outside: &mut O,
     circuit: &Circuit,
     chains: &Rows<Chain>,
-    text: &[u8],
-) -> Result<Rows<Pattern>, BundleFault>
-    ensures reading { ReadAs (in_section section.Patterns (pattern_reading (pattern_frame circuit.now chains.now) text.now)) result }
-    ensures fits { IfOk result (ArePatterns circuit.now chains.now) }
+) -> Result<Judged<S::Text, Rows<Pattern>>, S::Stop>
+    ensures told { (t : Source S.Name S.Why) → S.tells source.now (S.known outside.old) t → ComesTo S.halt (shown_text S.shows) result (pattern_text t circuit.now chains.now) }
+    ensures stands { IfOk result (λ j. pattern_reading (pattern_frame circuit.now chains.now) (S.shows j.text) ≡ Ok j.value) }
+    ensures fits { IfOk result (λ j. ArePatterns circuit.now chains.now j.value) }
+    ensures fault { ends_by_failure S.halt result ≡ true → Rose (S.faults outside.old) (S.faults outside.new) }
+    ensures same { S.known outside.new ≡ S.known outside.old }
+    ensures later { S.faults outside.old ≤ S.faults outside.new }
 {
-    in_section(
-        Section::Patterns,
-        scan_text::read_patterns(alloc, circuit, chains, text),
-    )
+    let text = source.text(alloc, outside, DesignText::Patterns)?;
+    let answer = scan_text::read_patterns(alloc, circuit, chains, source.bytes(&text));
+    judge(source, DesignText::Patterns, text, answer)
 }
 
-fn read_pairs(
+fn read_neighbours<O, S: TextSource<O>>(
     alloc: Global,
+    source: &S,
+    outside: &mut O,
     circuit: &Circuit,
     names: &Names<'_>,
-    text: &[u8],
-) -> Result<Pairs, BundleFault>
+) -> Result<Judged<S::Text, Pairs>, S::Stop>
     requires { names.now ≡ net_names circuit.now.nets }
-    ensures reading { ReadAs (in_section section.Neighbours (pairs_reading circuit.now text.now)) result }
-    ensures fits { IfOk result (ArePairs circuit.now) }
+    ensures told { (t : Source S.Name S.Why) → S.tells source.now (S.known outside.old) t → ComesTo S.halt (shown_text S.shows) result (neighbour_text t circuit.now) }
+    ensures stands { IfOk result (λ j. pairs_reading circuit.now (S.shows j.text) ≡ Ok j.value) }
+    ensures fits { IfOk result (λ j. ArePairs circuit.now j.value) }
+    ensures fault { ends_by_failure S.halt result ≡ true → Rose (S.faults outside.old) (S.faults outside.new) }
+    ensures same { S.known outside.new ≡ S.known outside.old }
+    ensures later { S.faults outside.old ≤ S.faults outside.new }
 {
-    in_section(
-        Section::Neighbours,
-        bridge_pairs::read_pairs_named(alloc, circuit, names, text),
-    )
+    let text = source.text(alloc, outside, DesignText::Neighbours)?;
+    let answer = bridge_pairs::read_pairs_named(alloc, circuit, names, source.bytes(&text));
+    judge(source, DesignText::Neighbours, text, answer)
 }
 
-// What the texts behind the netlist stand for, over its circuit.
-#[derive(Drop)]
-struct OverCircuit {
-    chains: Rows<Chain>,
-    patterns: Rows<Pattern>,
-    pairs: Pairs,
-}
-
-fn read_named(
+// The texts behind the netlist, over its circuit and the names of its nets.
+fn read_named<O, S: TextSource<O>>(
     alloc: Global,
-    texts: &Sections<'_>,
-    circuit: &Circuit,
+    source: &S,
+    outside: &mut O,
+    circuit: &Judged<S::Text, Circuit>,
     names: &Names<'_>,
-) -> Result<OverCircuit, BundleFault>
-    requires { names.now ≡ net_names circuit.now.nets }
-    ensures stands { IfOk result (λ over. with_circuit (four_texts texts.now) circuit.now ≡ Ok (scan_test circuit.now over.chains over.patterns over.pairs)) }
-    ensures chains { IfOk result (λ over. AreChains circuit.now over.chains) }
-    ensures patterns { IfOk result (λ over. ArePatterns circuit.now over.chains over.patterns) }
-    ensures pairs { IfOk result (λ over. ArePairs circuit.now over.pairs) }
-    ensures fault { IfErr result (RefusedBy (with_circuit (four_texts texts.now) circuit.now)) }
+) -> Result<OverCircuit<S::Text>, S::Stop>
+    requires { names.now ≡ net_names circuit.now.value.nets }
+    ensures told { (t : Source S.Name S.Why) → S.tells source.now (S.known outside.old) t
+        → ComesTo S.halt (shown_over S.shows (shown_text S.shows circuit.now)) result (with_circuit t (shown_text S.shows circuit.now)) }
+    ensures chains { IfOk result (λ over. (scan_reading circuit.now.value.nets (S.shows over.chains.text) ≡ Ok over.chains.value) × AreChains circuit.now.value over.chains.value) }
+    ensures patterns { IfOk result (λ over. (pattern_reading (pattern_frame circuit.now.value over.chains.value) (S.shows over.patterns.text) ≡ Ok over.patterns.value)
+        × ArePatterns circuit.now.value over.chains.value over.patterns.value) }
+    ensures pairs { IfOk result (λ over. (pairs_reading circuit.now.value (S.shows over.pairs.text) ≡ Ok over.pairs.value) × ArePairs circuit.now.value over.pairs.value) }
+    ensures fault { ends_by_failure S.halt result ≡ true → Rose (S.faults outside.old) (S.faults outside.new) }
+    ensures same { S.known outside.new ≡ S.known outside.old }
+    ensures later { S.faults outside.old ≤ S.faults outside.new }
 {
-    let chains = read_chains(alloc, circuit, names, texts.scan)?;
-    let patterns = read_patterns(alloc, circuit, &chains, texts.patterns)?;
-    let pairs = read_pairs(alloc, circuit, names, texts.neighbours)?;
+    let chains = read_chains(alloc, source, outside, &circuit.value, names)?;
+    let patterns = read_patterns(alloc, source, outside, &circuit.value, &chains.value)?;
+    let pairs = read_neighbours(alloc, source, outside, &circuit.value, names)?;
     Ok(OverCircuit {
         chains,
         patterns,
@@ -121,19 +196,82 @@ fn read_named(
     })
 }
 
-fn read_over(
+// The same, with the names taken together once.
+fn read_over<O, S: TextSource<O>>(
     alloc: Global,
-    texts: &Sections<'_>,
-    circuit: &Circuit,
-) -> Result<OverCircuit, BundleFault>
-    ensures stands { IfOk result (λ over. with_circuit (four_texts texts.now) circuit.now ≡ Ok (scan_test circuit.now over.chains over.patterns over.pairs)) }
-    ensures chains { IfOk result (λ over. AreChains circuit.now over.chains) }
-    ensures patterns { IfOk result (λ over. ArePatterns circuit.now over.chains over.patterns) }
-    ensures pairs { IfOk result (λ over. ArePairs circuit.now over.pairs) }
-    ensures fault { IfErr result (RefusedBy (with_circuit (four_texts texts.now) circuit.now)) }
+    source: &S,
+    outside: &mut O,
+    circuit: &Judged<S::Text, Circuit>,
+) -> Result<OverCircuit<S::Text>, S::Stop>
+    ensures told { (t : Source S.Name S.Why) → S.tells source.now (S.known outside.old) t
+        → ComesTo S.halt (shown_over S.shows (shown_text S.shows circuit.now)) result (with_circuit t (shown_text S.shows circuit.now)) }
+    ensures chains { IfOk result (λ over. (scan_reading circuit.now.value.nets (S.shows over.chains.text) ≡ Ok over.chains.value) × AreChains circuit.now.value over.chains.value) }
+    ensures patterns { IfOk result (λ over. (pattern_reading (pattern_frame circuit.now.value over.chains.value) (S.shows over.patterns.text) ≡ Ok over.patterns.value)
+        × ArePatterns circuit.now.value over.chains.value over.patterns.value) }
+    ensures pairs { IfOk result (λ over. (pairs_reading circuit.now.value (S.shows over.pairs.text) ≡ Ok over.pairs.value) × ArePairs circuit.now.value over.pairs.value) }
+    ensures fault { ends_by_failure S.halt result ≡ true → Rose (S.faults outside.old) (S.faults outside.new) }
+    ensures same { S.known outside.new ≡ S.known outside.old }
+    ensures later { S.faults outside.old ≤ S.faults outside.new }
 {
-    let names = names_of(alloc, circuit)?;
-    read_named(alloc, texts, circuit, &names)
+    match names_of(alloc, &circuit.value) {
+        Ok(names) => read_named(alloc, source, outside, circuit, &names),
+        Err(NoMemory) => Err(source.stop_for_memory()),
+    }
+}
+
+// The design of a netlist and of the texts that were read over its circuit.
+fn whole<T: Drop>(
+    alloc: Global,
+    circuit: Judged<T, Circuit>,
+    over: OverCircuit<T>,
+) -> Result<ReadDesign<T>, NoMemory>
+    requires circuit { IsCircuit circuit.value }
+    requires chains { AreChains circuit.value over.chains.value }
+    requires patterns { ArePatterns circuit.value over.chains.value over.patterns.value }
+    requires pairs { ArePairs circuit.value over.pairs.value }
+    ensures texts { IfOk result (λ d. (d.netlist ≡ circuit.text) × (d.scan ≡ over.chains.text) × (d.patterns ≡ over.patterns.text) × (d.neighbours ≡ over.pairs.text)) }
+    ensures parts { IfOk result (λ d. d.parts ≡ scan_test circuit.value over.chains.value over.patterns.value over.pairs.value) }
+{
+    let OverCircuit {
+        chains,
+        patterns,
+        pairs,
+    } = over;
+    let parts = Parts::make(
+        alloc,
+        circuit.value,
+        chains.value,
+        patterns.value,
+        pairs.value,
+    )?;
+    Ok(ReadDesign {
+        netlist: circuit.text,
+        scan: chains.text,
+        patterns: patterns.text,
+        neighbours: pairs.text,
+        parts,
+    })
+}
+
+/// The design of the texts that a source gives: the circuit of the netlist, then its chains, patterns for both, and the
+/// neighbours of its nets.
+pub fn read_from<O, S: TextSource<O>>(
+    alloc: Global,
+    source: &S,
+    outside: &mut O,
+) -> Result<ReadDesign<S::Text>, S::Stop>
+    ensures told { (t : Source S.Name S.Why) → S.tells source.now (S.known outside.old) t → ComesTo S.halt (shown_design S.shows) result (source_reading t) }
+    ensures stands { IfOk result (λ d. texts_reading (shown_design S.shows d).texts ≡ Ok d.parts) }
+    ensures fault { ends_by_failure S.halt result ≡ true → Rose (S.faults outside.old) (S.faults outside.new) }
+    ensures same { S.known outside.new ≡ S.known outside.old }
+    ensures later { S.faults outside.old ≤ S.faults outside.new }
+{
+    let circuit = read_circuit(alloc, source, outside)?;
+    let over = read_over(alloc, source, outside, &circuit)?;
+    match whole(alloc, circuit, over) {
+        Ok(design) => Ok(design),
+        Err(NoMemory) => Err(source.stop_for_memory()),
+    }
 }
 
 /// The parts that four texts stand for, or the first fault of the first of them that breaks a rule.
@@ -141,13 +279,8 @@ pub fn read_texts(alloc: Global, texts: &Sections<'_>) -> Result<Parts, BundleFa
     ensures stands { IfOk result (λ parts. texts_reading (four_texts texts.now) ≡ Ok parts) }
     ensures fault { IfErr result (RefusedBy (texts_reading (four_texts texts.now))) }
 {
-    let circuit = read_circuit(alloc, texts.netlist)?;
-    let OverCircuit {
-        chains,
-        patterns,
-        pairs,
-    } = read_over(alloc, texts, &circuit)?;
-    Ok(Parts::make(alloc, circuit, chains, patterns, pairs)?)
+    let design = read_from(alloc, texts, &mut ())?;
+    Ok(design.into_parts())
 }
 
 /// The same, of four texts one by one. The nets and the chains of the parts have names that a log can name.
