@@ -1,5 +1,5 @@
 -- The lowest rule of the first round, where none of those that look at the line alone is broken.
-use Rattle.std.proofs.Common.{◌≡◌, ℕ, Bool, true, false, not, List, [], ◌∷◌, length, Option, None, refl, sym, ap, ◌∙◌}
+use Rattle.std.proofs.Common.{◌≡◌, ℕ, Bool, true, false, not, List, [], ◌∷◌, None, refl, sym, ap, ◌∙◌}
 use Rattle.scan_model.specs.Lines.{has_refused_byte}
 use Rattle.scan_model.specs.TextFaults.{lowest}
 use Rattle.scan_model.specs.NetlistLines.{Form, form_of}

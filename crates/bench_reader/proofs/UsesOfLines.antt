@@ -1,7 +1,7 @@
 -- The uses and the inputs of lines: how many they are, and their nets.
-use Rattle.std.proofs.Common.{◌≡◌, ℕ, ◌+◌, ◌≤◌, Bool, true, false, cond, not, ◌||◌, List, [], ◌∷◌, ◌++◌, length, map, fold, Option, Some, None, option_map, Ok, refl, sym, ap, subst, ◌∙◌, arith, append_assoc, append-nil}
+use Rattle.std.proofs.Common.{◌≡◌, ℕ, ◌+◌, ◌≤◌, Bool, true, false, cond, not, List, [], ◌∷◌, ◌++◌, length, map, fold, Option, Some, None, option_map, Ok, refl, sym, ap, subst, ◌∙◌, arith, append_assoc, append-nil}
 use Rattle.std.specs.Prelude.{flat_map}
-use Rattle.std.specs.List.{list_any, enumerate_from, AllByRecursion, IsDistinct}
+use Rattle.std.specs.List.{enumerate_from, AllByRecursion, IsDistinct}
 use Rattle.std.specs.Str.{bytes_eq}
 use Rattle.std.proofs.lemmas.List.{length-map, length-append, map-append}
 use Rattle.std.proofs.lemmas.Simd.{map-map}
@@ -14,7 +14,7 @@ use Rattle.scan_model.specs.Netlist.{netlist}
 use Rattle.scan_model.specs.Words.{has_word}
 use Rattle.scan_model.specs.TextFaults.{first_fault, refused_or}
 use Rattle.scan_model.specs.NetlistLines.{Form, nothing, input, output, definition, no_form}
-use Rattle.scan_model.specs.NetlistRules.{nets_of, uses_of, new_output, outputs_of, pins_of, pins_after, defined_names, forms_of, first_rule, early_fault}
+use Rattle.scan_model.specs.NetlistRules.{nets_of, new_output, outputs_of, pins_of, pins_after, defined_names, forms_of, first_rule, early_fault}
 use Rattle.scan_model.specs.NetlistText.{net_number, line_nets, nets_after, line_pins, line_pins_after, inputs_of, circuit_in}
 use Rattle.bench_reader.specs.declared.first.Lines.{Lines}
 use Rattle.bench_reader.specs.Uses.{NamedUse, operand_use, operand_pin, use_views, line_uses, uses_after, inputs_after, use_pin, undefined_use}

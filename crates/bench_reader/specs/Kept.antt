@@ -1,11 +1,11 @@
 -- What the reader keeps of the lines so far.
-use Rattle.std.specs.Prelude.{ℕ, ◌≡◌, ◌+◌, ◌≤◌, Bool, not, if◌then◌else◌, List, [], ◌∷◌, ◌++◌, length, map, filter, flat_map, Option, Some, None}
+use Rattle.std.specs.Prelude.{ℕ, ◌≡◌, ◌≤◌, Bool, not, if◌then◌else◌, List, [], ◌∷◌, ◌++◌, length, map, filter, flat_map, Option, Some, None}
 use Rattle.std.specs.List.{list_any, enumerate_from}
 use Rattle.scan_model.specs.declared.circuit.Driver.{Driver}
 use Rattle.scan_model.specs.declared.circuit.Driver.TheVariants.{Input}
 use Rattle.scan_model.specs.Words.{has_word}
 use Rattle.scan_model.specs.NetlistLines.{Form}
-use Rattle.scan_model.specs.NetlistRules.{nets_of, uses_of, new_output, pins_of, defined_names, outputs_of, pins_after, net_limit, pin_limit}
+use Rattle.scan_model.specs.NetlistRules.{nets_of, uses_of, new_output, defined_names, outputs_of, pins_after, net_limit, pin_limit}
 use Rattle.scan_model.specs.NetlistText.{line_nets, nets_after, inputs_of}
 use Rattle.bench_reader.specs.Lines.{is_nothing}
 use Rattle.bench_reader.specs.Uses.{use_views, operand_use, line_uses, uses_after, inputs_after}

@@ -1,5 +1,5 @@
 -- The uses of nets, in the order of the pins that they make.
-use Rattle.std.specs.Prelude.{ℕ, ◌≡◌, ◌+◌, Bool, not, if◌then◌else◌, List, [], ◌∷◌, ◌++◌, length, map, Option, Some, None}
+use Rattle.std.specs.Prelude.{ℕ, ◌≡◌, ◌+◌, if◌then◌else◌, List, [], ◌∷◌, ◌++◌, length, map, Option, Some, None}
 use Rattle.std.specs.List.{enumerate_from}
 use Rattle.text_parts.specs.declared.fault.ReadFault.{ReadFault}
 use Rattle.text_parts.specs.declared.fault.ReadFault.TheVariants.{Text, NoMemory}

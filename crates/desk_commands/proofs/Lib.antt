@@ -1,5 +1,4 @@
-pub mod Chain
-pub mod Designs
+pub mod FilePlaces
 pub mod DemoLines
 pub mod DemoLog
 pub mod DemoOutput

@@ -1,6 +1,5 @@
 -- Logs that are read one after another and added to a die.
-use Rattle.std.proofs.Common.{◌≡◌, ◌∙◌, ◌<◌, ◌≤◌, ◌+◌, ℕ, true, false, nat_le, List, [], ◌∷◌, ◌++◌, All, Contains, Option, Some, None, IsSomeAnd, Result, Ok, Err, IfOk, IfErr, get_or, refl, sym, ap, subst, map, length, drop, Bor, arith}
-use Rattle.std.proofs.lemmas.Bool.Decides.{nat_tests}
+use Rattle.std.proofs.Common.{◌≡◌, ◌∙◌, ◌<◌, ◌≤◌, ◌+◌, ℕ, true, List, [], ◌∷◌, ◌++◌, All, Contains, Some, Result, Ok, Err, IfOk, IfErr, get_or, refl, sym, ap, subst, map, length, drop, Bor}
 use Rattle.std.proofs.lemmas.List.{drop-map, drop_more, map-append}
 use Rattle.std.proofs.lemmas.List.Elements.{All-nil, All-push, All-weaker, Contains-append_left, Contains-push}
 use Rattle.std.proofs.lemmas.Map.Views.{Contains-from_any}
@@ -17,17 +16,18 @@ use Rattle.scan_model.specs.LogText.{LogFrame, log_frame, log_reading}
 use Rattle.scan_model.specs.DieReport.{die_report}
 use Rattle.diagnosis.specs.declared.put.Put.{Put}
 use Rattle.diagnosis.specs.declared.put.Put.TheVariants.{Created, Same}
+use Rattle.diagnosis.specs.Texts.{ReadTexts, at_name, value, by_rules}
+use Rattle.diagnosis.proofs.Halting.{text_halts, at_halt, comes_after}
 use Rattle.diagnosis.specs.Designs.{ReadLogFacts, HaveSameTexts, texts_of}
 use Rattle.diagnosis.specs.Cases.{CaseFacts, AddedAmong, IsTextAdded, log_in, with_logs}
 use Rattle.desk_commands.specs.declared.files.Stop.{Stop}
 use Rattle.desk_commands.specs.declared.files.Stop.TheVariants.{Refused, Fault, NoMemory}
-use Rattle.desk_commands.specs.declared.files.Refusal.TheVariants.{Absent, TooLong, Rule}
 use Rattle.desk_commands.specs.Words.{Request}
-use Rattle.desk_commands.specs.Reading.{Reading, file_limit, file_value, at_name, value}
-use Rattle.desk_commands.specs.Stops.{Follows, StopsAt, StopsFor, IsNamed}
-use Rattle.desk_commands.specs.Work.{ReadDesign, by_rules, in_place_of, log_file, logs_after, logs_reading, with_design}
+use Rattle.desk_commands.specs.Reading.{Reading, file_limit, file_place, for_fault}
+use Rattle.desk_commands.specs.Stops.{Follows, StopsAt, StopsFor, IsNamed, halt_of}
+use Rattle.desk_commands.specs.Work.{in_place_of, log_file, logs_after, logs_reading, with_design}
 use Rattle.desk_commands.specs.Logs.{GoesOn, AreRead, IsFileAdded, FileFollows}
-use Rattle.desk_commands.proofs.Chain.{at_stop, after_serving}
+use Rattle.desk_commands.proofs.FilePlaces.{halts_at, serves_as}
 
 -- the next of the names that are left
 pub next_name : (names : List (Bor (List ℕ))) (i : ℕ) (d : Bor (List ℕ)) → i < length names
@@ -65,27 +65,16 @@ one_added (Same number) log old new others added same =
 
 -- ---- a file
 
--- the name of a file that is read alone
-is_alone : (name n : List ℕ) → n ≡ name → Contains (name ∷ []) n
-is_alone name n is = subst (Contains (name ∷ [])) (sym is) (Contains-push [] name)
-
 module _ (files : List File) (frame : LogFrame) (name : List ℕ) where
-  too_long : (text : Option (List ℕ)) → IsSomeAnd text (λ t. file_limit < length t) → file_value (λ text. in_place_of (by_rules (log_reading frame text)) text) text ≡ Err TooLong
-  too_long None long = absurd long
-  too_long (Some text) long = let over : nat_le (length text) file_limit ≡ false = grind (arith, nat_tests) in rw over refl
-
   -- a file that doesn't serve
   pub file_stops : (stop : Stop) → StopsAt (text_of files name) name stop → Follows {X = List ℕ} (Err stop) (log_file files frame name)
-  file_stops (Refused n Absent) is = rw (is.1, is.0) refl
-  file_stops (Refused n TooLong) is = ap (at_name name) (too_long (text_of files name) is.1) ∙ ap (λ (x : List ℕ). Err (x, TooLong)) (sym is.0)
-  file_stops (Refused n (Rule fault)) is = absurd is.1
-  file_stops (Fault n) is = is_alone name n.now is
-  file_stops NoMemory is = tt
+  file_stops stop is =
+      text_halts (file_place files name) (λ text. in_place_of (by_rules for_fault (log_reading frame text)) text) (halt_of stop) (halts_at files name stop is)
 
   module _ (text : List ℕ) (held : text_of files name ≡ Some text) (within : length text ≤ file_limit) where
     -- what its text comes to
-    outcome_is : (log_file files frame name).outcome ≡ at_name name (in_place_of (by_rules (log_reading frame text)) text)
-    outcome_is = let fits : nat_le (length text) file_limit ≡ true = grind (arith, nat_tests) in rw (held, fits) refl
+    outcome_is : (log_file files frame name).outcome ≡ at_name name (in_place_of (by_rules for_fault (log_reading frame text)) text)
+    outcome_is = rw (serves_as files name text held within) refl
 
     refuses : (fault : ReadFault) (stop : Stop) → Fails fault (log_reading frame text) → StopsFor name fault stop → Follows {X = List ℕ} (Err stop) (log_file files frame name)
     refuses (read_fault.Text f) (Refused n refusal) fails is = outcome_is ∙ rw (fails, is.0, is.1) refl
@@ -132,14 +121,14 @@ module _ (files : List File) (frame : LogFrame) (names : List (List ℕ)) where
     one_more put k new are file = record {
       texts = before.texts ++ file.text ∷ [];
       goes_on = λ result follows.
-          before.goes_on result (rw next (after_serving (log_file files frame name) (λ t. logs_after files frame (before.texts ++ t ∷ []) rest) file.text result file.serves follows));
+          before.goes_on result (rw next (comes_after (log_file files frame name) (λ t. logs_after files frame (before.texts ++ t ∷ []) rest) halt_of (λ x. x) file.text result file.serves follows));
       same = one_added put (log_in k file.text file.added.facts) k.logs new before.texts file.added.added (rw are before.same);
     }
 
     -- a log that doesn't serve stops them all
     pub one_stops : (stop : Stop) → Follows {X = List ℕ} (Err stop) (log_file files frame name) → Follows {X = List (List ℕ)} (Err stop) (logs_reading files frame names)
     one_stops stop follows =
-        before.goes_on (Err stop) (rw next (at_stop (log_file files frame name) (λ t. logs_after files frame (before.texts ++ t ∷ []) rest) stop follows))
+        before.goes_on (Err stop) (rw next (at_halt (log_file files frame name) (λ t. logs_after files frame (before.texts ++ t ∷ []) rest) (halt_of stop) follows))
 
   -- where no name is left, the logs are read
   pub none_left : (left : List (List ℕ)) (logs : List ReadLogFacts) → AreReadBefore files frame names left logs → left ≡ [] → AreRead (logs_reading files frame names) logs
@@ -151,7 +140,7 @@ module _ (files : List File) (frame : LogFrame) (names : List (List ℕ)) where
 
 -- ---- the report
 
-module _ (files : List File) (r : Request) (d : ReadDesign) (k : CaseFacts) (names : List (List ℕ)) (test : k.test ≡ d.test) (design : k.design ≡ r.design) (die : k.die ≡ r.die) (logs : names ≡ r.logs) where
+module _ (files : List File) (r : Request) (d : ReadTexts) (k : CaseFacts) (names : List (List ℕ)) (test : k.test ≡ d.test) (design : k.design ≡ r.design) (die : k.die ≡ r.die) (logs : names ≡ r.logs) where
   -- what the logs come to over a case, and what they come to in the request
   abbrev over_case : Reading (List (List ℕ))
   over_case = logs_reading files (log_frame k.test k.design k.die) names
@@ -167,7 +156,7 @@ module _ (files : List File) (r : Request) (d : ReadDesign) (k : CaseFacts) (nam
 
   pub no_report : (stop : Stop) → Follows {X = List (List ℕ)} (Err stop) over_case → Follows {X = List ℕ} (Err stop) (with_design files r d)
   no_report stop is =
-      at_stop in_request report_with stop (subst (λ (reading : Reading (List (List ℕ))). Follows {X = List (List ℕ)} (Err stop) reading) same_logs is)
+      at_halt in_request report_with (halt_of stop) (subst (λ (reading : Reading (List (List ℕ))). Follows {X = List (List ℕ)} (Err stop) reading) same_logs is)
 
   same_report : (new : CaseFacts) (texts : List (List ℕ)) → new ≡ with_logs k new.logs → die_report new.test new.design new.die texts ≡ die_report d.test r.design r.die texts
   same_report new texts kept =
@@ -180,5 +169,5 @@ module _ (files : List File) (r : Request) (d : ReadDesign) (k : CaseFacts) (nam
   pub report_follows : (new : CaseFacts) (text report : List ℕ) → new ≡ with_logs k new.logs → AreRead over_case new.logs
       → ((texts : List (List ℕ)) → HaveSameTexts (texts_of new.logs) texts → text ≡ die_report new.test new.design new.die texts) → report ≡ text → Follows (Ok report) (with_design files r d)
   report_follows new text report kept read any_order is =
-      after_serving in_request report_with read.texts (Ok report) (ap (λ (reading : Reading (List (List ℕ))). reading.outcome) (sym same_logs) ∙ read.serve)
+      comes_after in_request report_with halt_of (λ x. x) read.texts (Ok report) (ap (λ (reading : Reading (List (List ℕ))). reading.outcome) (sym same_logs) ∙ read.serve)
       (ap Ok (sym (is ∙ any_order read.texts read.same ∙ same_report new read.texts kept)))

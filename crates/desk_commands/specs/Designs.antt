@@ -1,22 +1,17 @@
 -- Designs as the program reads them.
-use Rattle.std.specs.Prelude.{ℕ, List}
-use Rattle.scan_model.specs.Netlist.{Netlist}
-use Rattle.scan_model.specs.ScanTest.{scan_test}
-use Rattle.diagnosis.specs.Reading.{four}
-use Rattle.desk_commands.specs.declared.design.FileText.{FileText}
-use Rattle.desk_commands.specs.declared.design.OverCircuit.{OverCircuit}
-use Rattle.desk_commands.specs.declared.design.ReadDesign.{ReadDesign}
-use Rattle.desk_commands.specs.Work.{ReadDesign as DesignOfFiles}
+use Rattle.std.specs.Prelude.{◌≡◌, ℕ, List, Option, Some}
+use Rattle.desk_outside.specs.declared.shelf.File.{File}
+use Rattle.diagnosis.specs.declared.texts.ReadDesign.{ReadDesign}
+use Rattle.diagnosis.specs.Texts.{ReadTexts, Source}
+use Rattle.diagnosis.specs.Shown as of_texts
+use Rattle.desk_commands.specs.declared.command.DesignFiles.{DesignFiles}
+use Rattle.desk_commands.specs.declared.files.Refusal.{Refusal}
+use Rattle.desk_commands.specs.Reading.{files_source}
+use Rattle.desk_commands.specs.Requests.{named_files}
 
-abbrev pub shown_file : {X : Type 0} → FileText X → List ℕ × X
-shown_file file = (file.text, file.value)
+abbrev pub shown_design : ReadDesign (List ℕ) → ReadTexts
+shown_design d = of_texts.shown_design (λ text. text) d
 
--- the design of a netlist with its circuit, and of the files that were read over it
-abbrev pub shown_over : List ℕ × Netlist → OverCircuit → DesignOfFiles
-shown_over c over = record {
-  texts = four c.0 over.chains.text over.patterns.text over.pairs.text;
-  test = scan_test c.1 over.chains.value over.patterns.value over.pairs.value;
-}
-
-abbrev pub shown_design : ReadDesign → DesignOfFiles
-shown_design d = record { texts = four d.netlist d.scan d.patterns d.neighbours; test = d.parts }
+-- the texts are those of the files of these names, which the shelf tells
+abbrev pub AreFilesOf : DesignFiles → Option (List File) → Source (List ℕ) Refusal → Type 0
+AreFilesOf files seen source = (held : List File) × (seen ≡ Some held) × (source ≡ files_source held (named_files files))

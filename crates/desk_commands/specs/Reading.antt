@@ -1,45 +1,47 @@
 -- Files that are read one after another, up to the first that doesn't serve.
-use Rattle.std.specs.Prelude.{ℕ, List, [], ◌∷◌, ◌++◌, length, nat_le, if◌then◌else◌, Option, None, Some, Result, Ok, Err}
+use Rattle.std.specs.Prelude.{ℕ, List, length, nat_le, if◌then◌else◌, Option, None, Some, Result, Ok, Err}
 use Rattle.desk_outside.specs.declared.shelf.File.{File}
 use Rattle.desk_outside.specs.Files.{text_of}
+use Rattle.diagnosis.specs.declared.section.DesignText.{DesignText}
+use Rattle.diagnosis.specs.declared.section.DesignText.TheVariants.{Netlist, Scan, Patterns, Neighbours}
+use Rattle.diagnosis.specs.Texts as texts
 use Rattle.desk_commands.specs.declared.files.Refusal.{Refusal}
-use Rattle.desk_commands.specs.declared.files.Refusal.TheVariants.{Absent, TooLong}
+use Rattle.desk_commands.specs.declared.files.Refusal.TheVariants.{Absent, TooLong, Rule}
+use Rattle.desk_commands.specs.Words.{DesignNames}
 
 -- the longest file that is read, in bytes
 abbrev pub file_limit : ℕ
 file_limit = 16777216
 
--- what files come to: a value, or the first that is refused; and the names of those that are read, in their order
-pub record Reading (X : Type 0) : Type 0 where
-  pub outcome : Result X (List ℕ × Refusal)
-  pub read : List (List ℕ)
+-- what files come to: a value, or the name of the first that is refused and why; and the names of those that are read, in their order
+abbrev pub Reading : Type 0 → Type 0
+Reading X = texts.Reading (List ℕ) Refusal X
 
--- a value for which no file is read
-abbrev pub value : {X : Type 0} → X → Reading X
-value x = record { outcome = Ok x; read = [] }
+-- the text of a file, where it serves
+abbrev pub served : Option (List ℕ) → Result (List ℕ) Refusal
+served None = Err Absent
+served (Some text) = if nat_le (length text) file_limit then Ok text else Err TooLong
 
--- what a file stands for, where `reads` says what its text stands for
-abbrev pub file_value : {X : Type 0} → (List ℕ → Result X Refusal) → Option (List ℕ) → Result X Refusal
-file_value reads None = Err Absent
-file_value reads (Some text) = if nat_le (length text) file_limit then reads text else Err TooLong
+abbrev pub file_place : List File → List ℕ → texts.Place (List ℕ) Refusal
+file_place files name = record { name = name; text = served (text_of files name) }
 
--- a refusal with the name of its file
-abbrev pub at_name : {X : Type 0} → List ℕ → Result X Refusal → Result X (List ℕ × Refusal)
-at_name name (Ok x) = Ok x
-at_name name (Err refusal) = Err (name, refusal)
+-- why a file is refused for the first fault of its text, a line and a rule
+abbrev pub for_fault : ℕ × ℕ → Refusal
+for_fault fault = Rule (record { line = fault.0; rule = fault.1 })
 
--- one file is read
-abbrev pub one_file : {X : Type 0} → List File → List ℕ → (List ℕ → Result X Refusal) → Reading X
-one_file files name reads = record { outcome = at_name name (file_value reads (text_of files name)); read = name ∷ [] }
+-- the files of a design
+abbrev pub files_source : List File → DesignNames → texts.Source (List ℕ) Refusal
+files_source files names = record {
+  netlist = file_place files names.netlist;
+  scan = file_place files names.scan;
+  patterns = file_place files names.patterns;
+  neighbours = file_place files names.neighbours;
+  rule = for_fault;
+}
 
--- more files, after those of these names
-abbrev pub after_names : {X : Type 0} → List (List ℕ) → Reading X → Reading X
-after_names names more = record { outcome = more.outcome; read = names ++ more.read }
-
-abbrev pub go_on : {X Y : Type 0} → Result X (List ℕ × Refusal) → List (List ℕ) → (X → Reading Y) → Reading Y
-go_on (Ok x) names next = after_names names (next x)
-go_on (Err refused) names next = record { outcome = Err refused; read = names }
-
--- goes on with what the files stand for, where all of them serve
-abbrev pub and_then : {X Y : Type 0} → Reading X → (X → Reading Y) → Reading Y
-and_then reading next = go_on reading.outcome reading.read next
+-- the name of one of them
+abbrev pub name_of : DesignNames → DesignText → List ℕ
+name_of names Netlist = names.netlist
+name_of names Scan = names.scan
+name_of names Patterns = names.patterns
+name_of names Neighbours = names.neighbours

@@ -1,8 +1,9 @@
 -- Why a command has no report, and what reading says of it.
-use Rattle.std.specs.Prelude.{◌≡◌, ◌<◌, ℕ, Bool, true, false, List, ◌++◌, codes, length, Option, None, IsSomeAnd, Result, Ok, Err, Contains}
+use Rattle.std.specs.Prelude.{◌≡◌, ◌<◌, ℕ, Bool, List, ◌++◌, codes, length, Option, None, IsSomeAnd, Result, Ok, Err}
 use Rattle.text_parts.specs.declared.fault.ReadFault.{ReadFault}
 use Rattle.text_parts.specs.declared.fault.ReadFault.TheVariants as answer
 use Rattle.text_parts.specs.declared.fault.TextFault.{TextFault}
+use Rattle.diagnosis.specs.Halts.{Halt, refused, failed, no_memory, is_failure, ends_by_failure, ComesTo}
 use Rattle.desk_commands.specs.declared.files.Refusal.{Refusal}
 use Rattle.desk_commands.specs.declared.files.Refusal.TheVariants.{Absent, TooLong, Rule}
 use Rattle.desk_commands.specs.declared.files.Stop.{Stop}
@@ -40,27 +41,22 @@ IsNamed name (Err fault) (Err stop) = StopsFor name fault stop
 IsNamed name (Ok x) (Err stop) = ⊥
 IsNamed name (Err fault) (Ok y) = ⊥
 
+-- a stop as reading speaks of it
+abbrev pub halt_of : Stop → Halt (List ℕ) Refusal
+halt_of (Refused n refusal) = refused n.now refusal
+halt_of (Fault n) = failed n.now
+halt_of NoMemory = no_memory
+
 -- the answer is what reading comes to, up to a failure at a file that is read, and want of memory
 abbrev pub Follows : {X : Type 0} → Result X Stop → Reading X → Type 0
-Follows (Ok x) reading = reading.outcome ≡ Ok x
-Follows (Err (Refused n refusal)) reading = reading.outcome ≡ Err (n.now, refusal)
-Follows (Err (Fault n)) reading = Contains reading.read n.now
-Follows (Err NoMemory) reading = Unit {0}
-
--- an answer, with what the view shows in place of its value
-abbrev pub shown : {X Y : Type 0} → (X → Y) → Result X Stop → Result Y Stop
-shown view (Ok x) = Ok (view x)
-shown view (Err stop) = Err stop
+Follows result reading = ComesTo halt_of (λ x. x) result reading
 
 -- the shelf failed
 abbrev pub is_fault : Stop → Bool
-is_fault (Refused n refusal) = false
-is_fault (Fault n) = true
-is_fault NoMemory = false
+is_fault stop = is_failure (halt_of stop)
 
 abbrev pub ends_by_fault : {X : Type 0} → Result X Stop → Bool
-ends_by_fault (Ok x) = false
-ends_by_fault (Err stop) = is_fault stop
+ends_by_fault result = ends_by_failure halt_of result
 
 -- the status and the line of a stop, which is none for want of memory
 abbrev pub IsPageOf : Stop → ℕ → List ℕ → Type 0

@@ -2,73 +2,20 @@
 use Rattle.std.specs.Prelude.{ℕ, List, [], ◌∷◌, ◌++◌, codes, Result, Ok, Err}
 use Rattle.std.specs.Fmt.{decimal}
 use Rattle.desk_outside.specs.declared.shelf.File.{File}
-use Rattle.scan_model.specs.declared.parts.Chain.{Chain}
-use Rattle.scan_model.specs.declared.parts.Pattern.{Pattern}
-use Rattle.scan_model.specs.declared.parts.Pairs.{Pairs}
-use Rattle.scan_model.specs.Netlist.{Netlist}
-use Rattle.scan_model.specs.ScanTest.{ScanTest, scan_test}
-use Rattle.scan_model.specs.NetlistText.{netlist_reading}
-use Rattle.scan_model.specs.ScanText.{scan_reading}
-use Rattle.scan_model.specs.PatternText.{pattern_frame, pattern_reading}
-use Rattle.bridge_pairs.specs.PairText.{pairs_reading}
 use Rattle.scan_model.specs.LogText.{LogFrame, log_frame, log_reading}
 use Rattle.scan_model.specs.DieReport.{die_report}
 use Rattle.diag_report.specs.Summary.{summary_text}
-use Rattle.diagnosis.specs.Texts.{FourTexts}
+use Rattle.diagnosis.specs.Texts.{ReadTexts, value, one_text, and_then, by_rules, source_reading}
 use Rattle.diagnosis.specs.Bundle.{bundle_text}
-use Rattle.diagnosis.specs.Reading.{four}
 use Rattle.desk_commands.specs.declared.files.Refusal.{Refusal}
 use Rattle.desk_commands.specs.declared.files.Refusal.TheVariants.{Absent, TooLong, Rule}
 use Rattle.desk_commands.specs.Words.{DesignNames, Request}
-use Rattle.desk_commands.specs.Reading.{Reading, value, one_file, and_then}
-
--- what a text stands for by rules, of which the first fault has a line and a rule
-abbrev pub by_rules : {X : Type 0} → Result X (ℕ × ℕ) → Result X Refusal
-by_rules (Ok x) = Ok x
-by_rules (Err fault) = Err (Rule (record { line = fault.0; rule = fault.1 }))
-
--- a text before what it stands for
-abbrev pub beside : {X : Type 0} → List ℕ → Result X Refusal → Result (List ℕ × X) Refusal
-beside text (Ok x) = Ok (text, x)
-beside text (Err refusal) = Err refusal
-
--- a file's text and what it stands for
-abbrev pub read_file : {X : Type 0} → List File → List ℕ → (List ℕ → Result X (ℕ × ℕ)) → Reading (List ℕ × X)
-read_file files name reads = one_file files name (λ text. beside text (by_rules (reads text)))
-
--- the four texts of a design, and the scan test that they stand for
-pub record ReadDesign : Type 0 where
-  pub texts : FourTexts
-  pub test : ScanTest
+use Rattle.desk_commands.specs.Reading.{Reading, file_place, for_fault, files_source}
 
 module _ (files : List File) (names : DesignNames) where
-  -- the circuit, then its chains, patterns for both, and the neighbours of the circuit's nets
-  abbrev pub netlist_file : Reading (List ℕ × Netlist)
-  netlist_file = read_file files names.netlist netlist_reading
-
-  abbrev pub scan_file : Netlist → Reading (List ℕ × List Chain)
-  scan_file c = read_file files names.scan (scan_reading c.nets)
-
-  abbrev pub pattern_file : Netlist → List Chain → Reading (List ℕ × List Pattern)
-  pattern_file c chains = read_file files names.patterns (pattern_reading (pattern_frame c chains))
-
-  abbrev pub neighbour_file : Netlist → Reading (List ℕ × Pairs)
-  neighbour_file c = read_file files names.neighbours (pairs_reading c)
-
-  -- the design, after the files before the neighbours, before the patterns, and before the chains
-  abbrev pub with_patterns : List ℕ × Netlist → List ℕ × List Chain → List ℕ × List Pattern → Reading ReadDesign
-  with_patterns c chains patterns = and_then (neighbour_file c.1)
-      (λ pairs. value (record { texts = four c.0 chains.0 patterns.0 pairs.0; test = scan_test c.1 chains.1 patterns.1 pairs.1 }))
-
-  abbrev pub with_chains : List ℕ × Netlist → List ℕ × List Chain → Reading ReadDesign
-  with_chains c chains = and_then (pattern_file c.1 chains.1) (with_patterns c chains)
-
-  abbrev pub with_circuit : List ℕ × Netlist → Reading ReadDesign
-  with_circuit c = and_then (scan_file c.1) (with_chains c)
-
   -- the design of the four files, each read and judged before the next is read
-  abbrev pub design_reading : Reading ReadDesign
-  design_reading = and_then netlist_file with_circuit
+  abbrev pub design_reading : Reading ReadTexts
+  design_reading = source_reading (files_source files names)
 
   -- the summary of the design
   abbrev pub check_reading : Reading (List ℕ)
@@ -86,7 +33,7 @@ in_place_of (Err refusal) y = Err refusal
 module _ (files : List File) (frame : LogFrame) where
   -- the text of a log, where it breaks no rule
   abbrev pub log_file : List ℕ → Reading (List ℕ)
-  log_file name = one_file files name (λ text. in_place_of (by_rules (log_reading frame text)) text)
+  log_file name = one_text (file_place files name) (λ text. in_place_of (by_rules for_fault (log_reading frame text)) text)
 
   -- the texts of logs, after those that are read before them
   abbrev pub logs_after : List (List ℕ) → List (List ℕ) → Reading (List (List ℕ))
@@ -98,7 +45,7 @@ module _ (files : List File) (frame : LogFrame) where
   logs_reading names = logs_after [] names
 
 -- the report of the logs of a request, over its scan test
-abbrev pub with_design : List File → Request → ReadDesign → Reading (List ℕ)
+abbrev pub with_design : List File → Request → ReadTexts → Reading (List ℕ)
 with_design files r d =
     and_then (logs_reading files (log_frame d.test r.design r.die) r.logs) (λ texts. value (die_report d.test r.design r.die texts))
 

@@ -3,20 +3,21 @@ ghost use Rattle.std.specs.Prelude.{◌≡◌, ◌≤◌, List, Some, true, fals
 ghost use Rattle.desk_outside.specs.declared.shelf.File.{File};
 ghost use Rattle.desk_outside.specs.Faults.{Rose};
 ghost use Rattle.diag_report.specs.Summary.{summary_text};
-ghost use Rattle.desk_commands.specs.Reading.{value};
+ghost use Rattle.diagnosis.specs.Texts.{value};
 ghost use Rattle.desk_commands.specs.Work.{check_reading};
 ghost use Rattle.desk_commands.specs.Requests.{named_files};
 ghost use Rattle.desk_commands.specs.Stops.{Follows, ends_by_fault};
 
 use crate::command::DesignFiles;
-use crate::design::{ReadDesign, read_design};
+use crate::design::read_design;
 use crate::files::Stop;
 use desk_outside::Shelf;
 use diag_report::summary_text;
+use diagnosis::ReadDesign;
 use scan_model::Name;
 use std::alloc::Global;
 
-fn summary_over<'a>(alloc: Global, design: &ReadDesign) -> Result<Name, Stop<'a>>
+fn summary_over<'a>(alloc: Global, design: &ReadDesign<Name>) -> Result<Name, Stop<'a>>
     ensures told { Follows result (value (summary_text design.now.parts)) }
     ensures fault { ends_by_fault result ≡ false }
 {

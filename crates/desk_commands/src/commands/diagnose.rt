@@ -5,18 +5,19 @@ ghost use Rattle.std.specs.Prelude.{◌≡◌, ◌≤◌, List, [], Some, map, t
 ghost use Rattle.desk_outside.specs.declared.shelf.File.{File};
 ghost use Rattle.desk_outside.specs.Faults.{Rose};
 ghost use Rattle.scan_model.specs.Words.{is_tag};
+ghost use Rattle.diagnosis.specs.Texts.{ReadTexts};
 ghost use Rattle.desk_commands.specs.Designs.{shown_design};
 ghost use Rattle.desk_commands.specs.Words.{Request};
-ghost use Rattle.desk_commands.specs.Work.{ReadDesign as DesignOfFiles, with_design, report_reading};
+ghost use Rattle.desk_commands.specs.Work.{with_design, report_reading};
 ghost use Rattle.desk_commands.specs.Requests.{said};
 ghost use Rattle.desk_commands.specs.Stops.{Follows, ends_by_fault};
 
 use crate::command::Diagnose;
 use crate::commands::diagnose::logs::add_logs;
-use crate::design::{ReadDesign, read_design};
+use crate::design::read_design;
 use crate::files::Stop;
 use desk_outside::Shelf;
-use diagnosis::{Case, case_report};
+use diagnosis::{Case, ReadDesign, case_report};
 use scan_model::Name;
 use std::alloc::Global;
 use std::thread::Threads;
@@ -30,7 +31,7 @@ fn report_of_case<'a, R: Threads + Sync, F: Shelf>(
     names: &[&'a str],
 ) -> Result<Name, Stop<'a>>
     requires { case.old.logs ≡ [] }
-    ensures told { (held : List File) (r : Request) (d : DesignOfFiles) → case.old.test ≡ d.test → case.old.design ≡ r.design → case.old.die ≡ r.die
+    ensures told { (held : List File) (r : Request) (d : ReadTexts) → case.old.test ≡ d.test → case.old.design ≡ r.design → case.old.die ≡ r.die
         → map (λ name. name.now) names.now ≡ r.logs → F.files shelf.old ≡ Some held → Follows result (with_design held r d) }
     ensures fault { ends_by_fault result ≡ true → Rose (F.faults shelf.old) (F.faults shelf.new) }
     ensures later { F.faults shelf.old ≤ F.faults shelf.new }
@@ -46,7 +47,7 @@ fn report_over<'a, R: Threads + Sync, F: Shelf>(
     alloc: Global,
     shelf: &mut F,
     command: &Diagnose<'a>,
-    read: ReadDesign,
+    read: ReadDesign<Name>,
 ) -> Result<Name, Stop<'a>>
     requires design { is_tag command.now.design.now ≡ true }
     requires die { is_tag command.now.die.now ≡ true }

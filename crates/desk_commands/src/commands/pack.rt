@@ -2,22 +2,22 @@
 ghost use Rattle.std.specs.Prelude.{◌≡◌, ◌≤◌, List, Some, true, false};
 ghost use Rattle.desk_outside.specs.declared.shelf.File.{File};
 ghost use Rattle.desk_outside.specs.Faults.{Rose};
+ghost use Rattle.diagnosis.specs.Texts.{value};
 ghost use Rattle.diagnosis.specs.Bundle.{bundle_text};
 ghost use Rattle.desk_commands.specs.Designs.{shown_design};
-ghost use Rattle.desk_commands.specs.Reading.{value};
 ghost use Rattle.desk_commands.specs.Work.{pack_reading};
 ghost use Rattle.desk_commands.specs.Requests.{named_files};
 ghost use Rattle.desk_commands.specs.Stops.{Follows, ends_by_fault};
 
 use crate::command::DesignFiles;
-use crate::design::{ReadDesign, read_design};
+use crate::design::read_design;
 use crate::files::Stop;
 use desk_outside::Shelf;
-use diagnosis::{Sections, bundle_text};
+use diagnosis::{ReadDesign, Sections, bundle_text};
 use scan_model::Name;
 use std::alloc::Global;
 
-fn bundle_over<'a>(alloc: Global, design: &ReadDesign) -> Result<Name, Stop<'a>>
+fn bundle_over<'a>(alloc: Global, design: &ReadDesign<Name>) -> Result<Name, Stop<'a>>
     ensures told { Follows result (value (bundle_text (shown_design design.now).texts)) }
     ensures fault { ends_by_fault result ≡ false }
 {

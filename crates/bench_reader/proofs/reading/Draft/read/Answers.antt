@@ -3,7 +3,7 @@ use Rattle.scan_model.specs.Lines.{text_lines}
 use Rattle.scan_model.specs.TextFaults.{refused_or}
 use Rattle.scan_model.specs.NetlistRules.{forms_of, early_fault, defined_names, pins_after, net_limit, pin_limit}
 use Rattle.scan_model.specs.NetlistText.{circuit_of, net_number}
-use Rattle.bench_reader.specs.Uses.{use_views, use_pin, undefined_use}
+use Rattle.bench_reader.specs.Uses.{use_views, undefined_use}
 use Rattle.bench_reader.proofs.SecondRound.{second_fails}
 use Rattle.bench_reader.proofs.UsesOfLines.{early_is, all_known, lists_are}
 use Rattle.bench_reader.proofs.CircuitOfLines.{circuit_is_sound}

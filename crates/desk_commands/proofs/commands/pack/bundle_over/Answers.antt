@@ -1,7 +1,7 @@
 use Rattle.std.proofs.Common.{◌∙◌, ap, sym, Ok}
 use Rattle.std.proofs.lemmas.Result.{err_from_is_err_and}
 use Rattle.diagnosis.specs.Bundle.{bundle_text}
-use Rattle.desk_commands.proofs.Designs.{same_four}
+use Rattle.desk_commands.proofs.FilePlaces.{same_four}
 use Rattle.desk_commands.proofs.commands.pack.bundle_over.Goals as goal
 
 pub returns-in_err-bundle_text-clause-told : goal.returns-in_err-bundle_text-clause-told
