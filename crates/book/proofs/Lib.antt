@@ -4,12 +4,14 @@ pub mod Noted
 pub mod Growing
 pub mod Keys
 pub mod NotedDies
+pub mod SameDies
 pub mod Found
 pub mod NewName
 pub mod Written
 pub mod FoundDie
 pub mod OfDies
 pub mod Keeping
+pub mod Readying
 pub mod OneMore
 pub mod Changing
 pub mod FirstThat

@@ -1,12 +1,12 @@
 -- Dies that stand at the places that are noted for their names.
-use Rattle.std.proofs.Common.{◌≡◌, ◌∙◌, sym, ap, subst, suc, zero, ℕ, List, [], ◌∷◌, ◌++◌, Bool, true, false, cond, not, Option, Some, None, Vec, BTreeMap, refl, length, get_or, arith}
+use Rattle.std.proofs.Common.{◌≡◌, ◌<◌, ◌∙◌, sym, ap, subst, suc, zero, ℕ, List, [], ◌∷◌, ◌++◌, Bool, true, false, cond, not, Option, Some, None, Vec, BTreeMap, refl, length, get_or, arith}
 use Rattle.std.specs.Prelude.{if◌then◌else◌, slice_get, slice_set}
 use Rattle.std.specs.List.{position, find}
 use Rattle.std.specs.Str.{bytes_eq}
 use Rattle.std.specs.Cmp.Lexicographic.{bytes_decides}
 use Rattle.std.specs.declared.alloc.Global.{Global}
 use Rattle.std.proofs.lemmas.Bool.Decides.{nat_tests}
-use Rattle.std.proofs.lemmas.Option.{get_or_from_slice_get}
+use Rattle.std.proofs.lemmas.Option.{get_or_from_slice_get, slice_get-get_or}
 use Rattle.std.proofs.lemmas.List.{length_push}
 use Rattle.std.proofs.lemmas.List.Sums.{prefix_len-le-length}
 use Rattle.std.proofs.lemmas.List.Folds.{position_or_len_push}
@@ -26,7 +26,26 @@ get_of_set P (z ∷ zs) zero y old new (suc i) k e = old (suc i) k e
 get_of_set P (z ∷ zs) (suc j) y old new zero k e = old zero k e
 get_of_set P (z ∷ zs) (suc j) y old new (suc i) k e = get_of_set (λ v n. P v (suc n)) zs j y (λ n v at. old (suc n) v at) (λ x at. new x at) i k e
 
+-- a die that was written over one of the same names
+pub AreNotedDies-set : (places : BTreeMap (Vec ℕ Global) ℕ) (dies : List DieFacts) (j : ℕ) (k l : DieFacts) → AreNotedDies places dies → slice_get dies j ≡ Some k → l.design ≡ k.design → l.die ≡ k.die
+    → AreNotedDies places (slice_set dies j l)
+AreNotedDies-set places dies j k l noted at design die =
+    get_of_set (λ m i. IsNotedDie places i m) dies j l noted
+    (λ m here. record {
+      noted = ap (λ n. place_of places (die_key n l.die)) design ∙ ap (λ n. place_of places (die_key k.design n)) die ∙ (noted j k at).noted;
+      tag = ap is_tag design ∙ (noted j k at).tag;
+    })
+
+-- what stands where it was written
+pub set_here : {X : Type 0} (xs : List X) (i : ℕ) (y k : X) → slice_get (slice_set xs i y) i ≡ Some k → y ≡ k
+set_here [] i y k e = absurd cc
+set_here (z ∷ zs) zero y k e = cc
+set_here (z ∷ zs) (suc i) y k e = set_here zs i y k e
+
 -- the element that was lent
+pub lent_at : {X : Type 0} (xs : List X) (i : ℕ) (x : X) → x ≡ get_or xs i x → i < length xs → slice_get xs i ≡ Some x
+lent_at xs i x e within = slice_get-get_or xs i x within ∙ ap (λ y. Some y) (sym e)
+
 pub lent_is : {X : Type 0} (xs : List X) (i : ℕ) (x k : X) → x ≡ get_or xs i x → slice_get xs i ≡ Some k → x ≡ k
 lent_is xs i x k e at = e ∙ get_or_from_slice_get xs i k x at
 

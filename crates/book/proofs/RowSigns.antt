@@ -1,5 +1,5 @@
 -- A row that signs a report.
-use Rattle.std.proofs.Common.{◌≡◌, ℕ, zero, suc, ◌≤◌, true, false, ◌&&◌, nat_le, List, [], ◌∷◌, length, take, All, Some, None, refl, sym, ap, ◌∙◌, subst, arith}
+use Rattle.std.proofs.Common.{◌≡◌, ℕ, zero, suc, ◌<◌, ◌≤◌, true, false, ◌&&◌, nat_le, List, [], ◌∷◌, length, take, All, Some, None, refl, sym, ap, ◌∙◌, subst, arith}
 use Rattle.std.specs.Arc.{arc_value}
 use Rattle.std.specs.declared.alloc.Global.{Global}
 use Rattle.std.specs.declared.sync.Arc.{Arc}
@@ -49,16 +49,19 @@ take_own zero xs = refl
 take_own (suc n) [] = refl
 take_own (suc n) (x ∷ xs) = ap (λ ys. x ∷ ys) (take_own n xs)
 
+pub part_some : (logs : List (Arc ReadLogFacts Global)) (revision : ℕ) → 0 < revision → revision ≤ length logs → 0 < length (arc_values (take revision logs))
+part_some logs revision low high =
+    let count : length (arc_values (take revision logs)) ≡ revision = length-map (take revision logs) (λ (l : Arc ReadLogFacts Global). arc_value l) ∙ length-take-le revision logs high in
+    omega (arith, count)
+
 -- the digest of the report that is made
-pub checked_right : (deeds : List Deed) (d : DesignFacts) (asked x : List ℕ) (logs part from : List (Arc ReadLogFacts Global)) (signs : List SignOff) (revision : ℕ) (view checked : ViewFacts) (digest : List ℕ) → IsShown deeds d x logs part signs
-    → d.name ≡ asked → from ≡ logs → part ≡ take revision from → revision ≤ length logs → view ≡ record { design = d; die = x; logs = arc_values part } → checked ≡ view → digest ≡ sha256 (view_report checked)
-    → digest ≡ sha256 (report_at deeds asked x revision)
-checked_right deeds d asked x logs part from signs revision view checked digest shown named same cut high is made value =
+pub shown_right : (deeds : List Deed) (d : DesignFacts) (asked x : List ℕ) (logs part : List (Arc ReadLogFacts Global)) (signs : List SignOff) (revision : ℕ) (digest : List ℕ) → IsShown deeds d x logs part signs
+    → d.name ≡ asked → part ≡ take revision logs → revision ≤ length logs → digest ≡ sha256 (view_report (record { design = d; die = x; logs = arc_values part })) → digest ≡ sha256 (report_at deeds asked x revision)
+shown_right deeds d asked x logs part signs revision digest shown named cut high value =
     let v : ViewFacts = record { design = d; die = x; logs = arc_values part } in
     let count : length (arc_values part) ≡ revision =
-    length-map part (λ (l : Arc ReadLogFacts Global). arc_value l) ∙ ap length cut ∙ ap (λ (ls : List (Arc ReadLogFacts Global)). length (take revision ls)) same ∙ length-take-le revision logs high in
+    length-map part (λ (l : Arc ReadLogFacts Global). arc_value l) ∙ ap length cut ∙ length-take-le revision logs high in
     value
-    ∙ ap (λ (w : ViewFacts). sha256 (view_report w)) (made ∙ is)
     ∙ ap sha256 (report_in deeds v shown.design (view_in deeds d x part logs shown.named shown.found.texts shown.cut))
     ∙ ap (λ (n : List ℕ). sha256 (report_at deeds n x (length (arc_values part)))) named
     ∙ ap (λ (r : ℕ). sha256 (report_at deeds asked x r)) count

@@ -19,7 +19,7 @@ use Rattle.diagnosis.specs.Adding.{Added, with_log}
 use Rattle.diagnosis.specs.Designs.{DesignFacts, ReadLogFacts, ViewFacts, IsDesign, IsLogOf, texts_of}
 use Rattle.book.specs.Deeds.{design_text, design_test, test_of_text, test_of_reading, die_logs}
 use Rattle.book.specs.Legal.{each_fits}
-use Rattle.book.specs.Finding.{IsLogIn, IsDieIn}
+use Rattle.book.specs.Finding.{IsLogIn, IsDieIn, IsShowable}
 use Rattle.book.specs.Kinds.{arc_values}
 use Rattle.book.proofs.Sound.{sound}
 
@@ -144,4 +144,12 @@ is_shown kept deeds inner d name asked x logs from part signs seen legal same de
   named = subst (λ (n : List ℕ). design_text deeds n ≡ Some d.text) (sym is_asked) text;
   found = die_as_named kept deeds name d.name x (arc_values logs) signs seen (of_inner ∙ ap (λ (v : DesignFacts). v.name) same) found;
   cut = subst (λ (ls : List Log). part ≡ take (length part) ls) of_logs cut;
+}
+
+pub showable : (deeds : List Deed) (d : DesignFacts) (x : List ℕ) (logs part : List Log) (signs : List SignOff) → IsShown deeds d x logs part signs → 0 < length (arc_values part) → IsShowable d x (arc_values part)
+showable deeds d x logs part signs shown some = record {
+  tag = die_tagged deeds d.name x (arc_values logs) signs shown.legal shown.found;
+  some = some;
+  each = part_stands deeds d x logs part signs shown.design shown.named shown.found shown.cut;
+  differ = part_differs deeds d.name x logs part signs shown.legal shown.found shown.cut;
 }

@@ -7,6 +7,7 @@ use Rattle.diagnosis.specs.Designs.{DesignFacts, ReadLogFacts, texts_of}
 use Rattle.book.specs.Deeds.{designs, design_text, die_logs, die_signs}
 use Rattle.book.specs.Legal.{each_fits}
 use Rattle.book.specs.Kinds.{named}
+use Rattle.book.specs.Places.{DesignsFacts}
 use Rattle.book.specs.Finding.{IsLogIn}
 use Rattle.book.specs.Dies.{DieFacts, kept_logs, kept_signs}
 
@@ -26,3 +27,15 @@ pub record IsKept (deeds : List Deed) (kept : List DesignFacts) (dies : List Die
   pub designs : map named kept ≡ designs deeds
   pub tags : (name text : List ℕ) → design_text deeds name ≡ Some text → is_tag name ≡ true
   pub each_die : (design die : List ℕ) → AreOfDie deeds design die (kept_logs dies design die) (kept_signs dies design die)
+
+-- deeds, and for how many more there is room
+pub record DeedsFacts : Type 0 where
+  pub list : List Deed
+  pub room : ℕ
+
+-- the deeds, for how many more there is room, and the designs and dies that come from them
+pub record KeptFacts : Type 0 where
+  pub deeds : List Deed
+  pub room : ℕ
+  pub designs : DesignsFacts
+  pub dies : List DieFacts

@@ -7,5 +7,6 @@ pub mod Finding
 pub mod Places
 pub mod Dies
 pub mod Kept
+pub mod Ready
 pub mod Putting
 pub mod Rows

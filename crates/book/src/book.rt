@@ -14,6 +14,7 @@ ghost use Rattle.book.specs.Kinds.{design_deed, log_deed, sign_deed, arc_values}
 
 use crate::answers::PutFault;
 use crate::kept::{Found, Kept};
+use crate::recording::{record_design, record_log, record_sign};
 use crate::sign::Sign;
 use desk_outside::Keeper;
 use diagnosis::{Checked, Design, Put, ReadLog};
@@ -38,9 +39,9 @@ impl<K: Keeper> Model for Book<K> {
 
     ghost Value = { BookFacts };
 
-    ghost view = { λ b. record { deeds = b.kept; limit = b.limit; rows = K.rows b.keeper; faults = K.faults b.keeper } };
+    ghost view = { λ b. record { deeds = b.kept.deeds; limit = b.limit; rows = K.rows b.keeper; faults = K.faults b.keeper } };
 
-    ghost invariant = { λ b. IsBook (record { deeds = b.kept; limit = b.limit; rows = K.rows b.keeper; faults = K.faults b.keeper }) };
+    ghost invariant = { λ b. IsBook (record { deeds = b.kept.deeds; limit = b.limit; rows = K.rows b.keeper; faults = K.faults b.keeper }) };
 }
 
 pub(crate) fn is_same_digest(digest: &Digest, other: &Digest) -> bool
@@ -168,7 +169,7 @@ impl<K: Keeper> Book<K> {
         }
         self.has_room()?;
         let number = self.kept.designs() + 1;
-        self.kept.add_design(&mut self.keeper, by, design)?;
+        record_design(&mut self.kept, &mut self.keeper, by, design)?;
         Ok(Put::Created { number })
     }
 
@@ -187,7 +188,7 @@ impl<K: Keeper> Book<K> {
             same => return Ok(same),
         };
         self.has_room()?;
-        self.kept.add_log(&mut self.keeper, by, log)?;
+        record_log(&mut self.kept, &mut self.keeper, by, log)?;
         Ok(Put::Created { number })
     }
 
@@ -224,7 +225,7 @@ impl<K: Keeper> Book<K> {
             signer: Name::copy_of(self.alloc, signer.as_slice())?,
             digest: *digest,
         };
-        self.kept.add_sign(&mut self.keeper, by, design, die, sign)?;
+        record_sign(&mut self.kept, &mut self.keeper, by, design, die, sign)?;
         Ok(Put::Created { number })
     }
 }

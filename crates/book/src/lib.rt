@@ -7,6 +7,7 @@ mod dies;
 mod kept;
 mod looks;
 mod opening;
+mod recording;
 mod row;
 mod sign;
 

@@ -73,10 +73,10 @@ fn read_rows<K: Keeper, R: Threads + Sync>(
     kept: &mut Kept,
     limit: u32,
 ) -> Result<(), StartFault>
-    requires { kept.old ≡ [] }
-    ensures fit { OnOk result (each_fits [] kept.new ≡ true) }
-    ensures few { OnOk result (length kept.new ≤ limit) }
-    ensures rows { (rows : List Deed) → K.rows keeper.old ≡ Some rows → OnOk result (kept.new ≡ rows) }
+    requires { kept.old.deeds ≡ [] }
+    ensures fit { OnOk result (each_fits [] kept.new.deeds ≡ true) }
+    ensures few { OnOk result (length kept.new.deeds ≤ limit) }
+    ensures rows { (rows : List Deed) → K.rows keeper.old ≡ Some rows → OnOk result (kept.new.deeds ≡ rows) }
     ensures spoiled { (rows : List Deed) (row : ℕ) → K.rows keeper.old ≡ Some rows → IsErrOf result (StartFault.Spoiled row) → spoiled_row limit rows ≡ Some row }
     ensures same { K.rows keeper.new ≡ K.rows keeper.old }
     ensures later { K.faults keeper.old ≤ K.faults keeper.new }

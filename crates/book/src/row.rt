@@ -9,44 +9,22 @@ ghost use Rattle.scan_model.specs.Words.{is_tag, has_word};
 ghost use Rattle.book.specs.Deeds.{report_at, die_logs, die_signs, is_signed_by};
 ghost use Rattle.book.specs.Legal.{fits, each_fits};
 ghost use Rattle.book.specs.Changes.{StandsIn};
-ghost use Rattle.book.specs.Kinds.{sign_deed};
+ghost use Rattle.diagnosis.specs.Designs.{view_report};
+ghost use Rattle.book.specs.Finding.{IsShowable};
+ghost use Rattle.book.specs.Kinds.{sign_deed, arc_values};
 ghost use Rattle.book.specs.Rows.{added_if};
 
 use crate::book::{is_same_digest, put_sign, put_text};
 use crate::dies::view_of;
 use crate::kept::Kept;
 use crate::sign::Sign;
-use desk_outside::{Deed, DeedKind, KeepFault, Keeper};
+use desk_outside::{Deed, DeedKind};
 use diagnosis::{BundleFault, Design, Put, ReadLog, check_report, log_of, read_bundle};
 use scan_model::{Digest, NoMemory};
 use std::alloc::Global;
 use std::sync::Arc;
 use std::thread::Threads;
 use text_parts::{ReadFault, is_tag};
-
-// The keeper of deeds that are kept already.
-#[derive(Drop)]
-struct Past;
-
-impl Keeper for Past {
-    ghost use Rattle.std.specs.Prelude.{None};
-
-    ghost rows = { λ _. None };
-
-    ghost faults = { λ _. 0 };
-
-    fn append(&mut self, _deed: &Deed) -> Result<(), KeepFault> {
-        Ok(())
-    }
-
-    fn row(&mut self, _i: u64) -> Result<Option<Deed>, KeepFault> {
-        Ok(None)
-    }
-
-    fn count(&self) -> u64 {
-        0
-    }
-}
 
 // The design that the row puts, where it fits.
 fn design_of_row(
@@ -55,7 +33,7 @@ fn design_of_row(
     name: &[u8],
     text: &[u8],
 ) -> Result<Option<Arc<Design>>, NoMemory>
-    ensures judged { IfOk result (λ r. fits kept.now (deed_kind.Design name.now text.now) ≡ is_some r) }
+    ensures judged { IfOk result (λ r. fits kept.now.deeds (deed_kind.Design name.now text.now) ≡ is_some r) }
     ensures name { IfOk result (λ r. IfSome r (λ design. (arc_value design).name ≡ name.now)) }
     ensures text { IfOk result (λ r. IfSome r (λ design. (arc_value design).text ≡ text.now)) }
 {
@@ -70,7 +48,7 @@ fn design_of_row(
 }
 
 fn has_text(kept: &Kept, design: &[u8], die: &[u8], text: &[u8]) -> Result<bool, NoMemory>
-    ensures { IfOk result (λ r. r ≡ has_word (die_logs kept.now design.now die.now) text.now) }
+    ensures { IfOk result (λ r. r ≡ has_word (die_logs kept.now.deeds design.now die.now) text.now) }
 {
     match kept.die(design, die)? {
         Some(found) => Ok(matches!(put_text(found.logs(), text), Put::Same { .. })),
@@ -86,8 +64,8 @@ fn log_of_row(
     die: &[u8],
     text: &[u8],
 ) -> Result<Option<Arc<ReadLog>>, NoMemory>
-    ensures judged { IfOk result (λ r. fits kept.now (deed_kind.Log design.now die.now text.now) ≡ is_some r) }
-    ensures stands { IfOk result (λ r. IfSome r (λ log. StandsIn kept.now (arc_value log))) }
+    ensures judged { IfOk result (λ r. fits kept.now.deeds (deed_kind.Log design.now die.now text.now) ≡ is_some r) }
+    ensures stands { IfOk result (λ r. IfSome r (λ log. StandsIn kept.now.deeds (arc_value log))) }
     ensures design { IfOk result (λ r. IfSome r (λ log. (arc_value log).design ≡ design.now)) }
     ensures die { IfOk result (λ r. IfSome r (λ log. (arc_value log).die ≡ die.now)) }
     ensures text { IfOk result (λ r. IfSome r (λ log. (arc_value log).text ≡ text.now)) }
@@ -120,6 +98,22 @@ fn known_digest(signs: &[Sign], revision: u64) -> Option<Digest>
     None
 }
 
+// The digest of the report of a die with these logs.
+fn digest_of<R: Threads + Sync>(
+    rt: &R,
+    alloc: Global,
+    design: &Arc<Design>,
+    die: &[u8],
+    logs: &[Arc<ReadLog>],
+) -> Result<Digest, NoMemory>
+    requires { IsShowable (arc_value design.now) die.now (arc_values logs.now) }
+    ensures { IfOk result (λ digest. digest ≡ sha256 (view_report (record { design = arc_value design.now; die = die.now; logs = arc_values logs.now }))) }
+{
+    let view = view_of(alloc, design, die, logs)?;
+    let checked = check_report(rt, alloc, &view)?;
+    Ok(*checked.digest())
+}
+
 // The digest of the report of a die at a revision, where it has that revision.
 fn right_digest<R: Threads + Sync>(
     rt: &R,
@@ -129,9 +123,9 @@ fn right_digest<R: Threads + Sync>(
     die: &[u8],
     revision: u64,
 ) -> Result<Option<Digest>, NoMemory>
-    requires { each_fits [] kept.now ≡ true }
-    ensures right { IfOk result (λ r. IfSome r (λ digest. digest ≡ sha256 (report_at kept.now design.now die.now revision))) }
-    ensures within { IfOk result (λ r. is_some r ≡ (nat_le 1 revision && nat_le revision (length (die_logs kept.now design.now die.now)))) }
+    requires { each_fits [] kept.now.deeds ≡ true }
+    ensures right { IfOk result (λ r. IfSome r (λ digest. digest ≡ sha256 (report_at kept.now.deeds design.now die.now revision))) }
+    ensures within { IfOk result (λ r. is_some r ≡ (nat_le 1 revision && nat_le revision (length (die_logs kept.now.deeds design.now die.now)))) }
 {
     let Some(found) = kept.design(design) else {
         return Ok(None);
@@ -146,8 +140,8 @@ fn right_digest<R: Threads + Sync>(
     if let Some(digest) = known_digest(die_found.signs(), revision) {
         return Ok(Some(digest));
     }
-    let view = view_of(alloc, found.design, die, &logs[..revision as usize])?;
-    Ok(Some(*check_report(rt, alloc, &view)?.digest()))
+    let right = digest_of(rt, alloc, found.design, die, &logs[..revision as usize])?;
+    Ok(Some(right))
 }
 
 fn is_signed(
@@ -157,7 +151,7 @@ fn is_signed(
     revision: u64,
     signer: &[u8],
 ) -> Result<bool, NoMemory>
-    ensures { IfOk result (λ r. r ≡ list_any (is_signed_by revision signer.now) (die_signs kept.now design.now die.now)) }
+    ensures { IfOk result (λ r. r ≡ list_any (is_signed_by revision signer.now) (die_signs kept.now.deeds design.now die.now)) }
 {
     match kept.die(design, die)? {
         Some(found) => Ok(matches!(put_sign(found.signs(), revision, signer), Put::Same { .. })),
@@ -174,8 +168,8 @@ fn sign_fits<R: Threads + Sync>(
     die: &[u8],
     sign: &Sign,
 ) -> Result<bool, NoMemory>
-    requires { each_fits [] kept.now ≡ true }
-    ensures { IfOk result (λ r. fits kept.now (deed_kind.Sign design.now die.now sign.now.revision sign.now.signer sign.now.digest) ≡ r) }
+    requires { each_fits [] kept.now.deeds ≡ true }
+    ensures { IfOk result (λ r. fits kept.now.deeds (deed_kind.Sign design.now die.now sign.now.revision sign.now.signer sign.now.digest) ≡ r) }
 {
     let signer = sign.signer.as_slice();
     if !is_tag(signer) || is_signed(kept, design, die, sign.revision, signer)? {
@@ -194,16 +188,15 @@ fn add_design_row(
     name: &[u8],
     text: &[u8],
 ) -> Result<bool, NoMemory>
-    ensures judged { IfOk result (λ r. fits kept.old (deed_kind.Design name.now text.now) ≡ r) }
-    ensures deeds { IfOk result (λ r. kept.new ≡ added_if r kept.old (record { by = by; what = deed_kind.Design name.now text.now })) }
+    ensures judged { IfOk result (λ r. fits kept.old.deeds (deed_kind.Design name.now text.now) ≡ r) }
+    ensures deeds { IfOk result (λ r. kept.new.deeds ≡ added_if r kept.old.deeds (record { by = by; what = deed_kind.Design name.now text.now })) }
 {
     let Some(design) = design_of_row(alloc, kept, name, text)? else {
         return Ok(false);
     };
-    match kept.add_design(&mut Past, by, &design) {
-        Ok(()) => Ok(true),
-        Err(_) => Err(NoMemory),
-    }
+    let ready = kept.ready_design(by, &design)?;
+    kept.add_design(ready);
+    Ok(true)
 }
 
 fn add_log_row(
@@ -214,16 +207,15 @@ fn add_log_row(
     die: &[u8],
     text: &[u8],
 ) -> Result<bool, NoMemory>
-    ensures judged { IfOk result (λ r. fits kept.old (deed_kind.Log design.now die.now text.now) ≡ r) }
-    ensures deeds { IfOk result (λ r. kept.new ≡ added_if r kept.old (record { by = by; what = deed_kind.Log design.now die.now text.now })) }
+    ensures judged { IfOk result (λ r. fits kept.old.deeds (deed_kind.Log design.now die.now text.now) ≡ r) }
+    ensures deeds { IfOk result (λ r. kept.new.deeds ≡ added_if r kept.old.deeds (record { by = by; what = deed_kind.Log design.now die.now text.now })) }
 {
     let Some(log) = log_of_row(alloc, kept, design, die, text)? else {
         return Ok(false);
     };
-    match kept.add_log(&mut Past, by, &log) {
-        Ok(()) => Ok(true),
-        Err(_) => Err(NoMemory),
-    }
+    let ready = kept.ready_log(by, &log)?;
+    kept.add_log(ready);
+    Ok(true)
 }
 
 fn add_sign_row<R: Threads + Sync>(
@@ -235,17 +227,16 @@ fn add_sign_row<R: Threads + Sync>(
     die: &[u8],
     sign: Sign,
 ) -> Result<bool, NoMemory>
-    requires { each_fits [] kept.old ≡ true }
-    ensures judged { IfOk result (λ r. fits kept.old (deed_kind.Sign design.now die.now sign.revision sign.signer sign.digest) ≡ r) }
-    ensures deeds { IfOk result (λ r. kept.new ≡ added_if r kept.old (sign_deed by design.now die.now sign)) }
+    requires { each_fits [] kept.old.deeds ≡ true }
+    ensures judged { IfOk result (λ r. fits kept.old.deeds (deed_kind.Sign design.now die.now sign.revision sign.signer sign.digest) ≡ r) }
+    ensures deeds { IfOk result (λ r. kept.new.deeds ≡ added_if r kept.old.deeds (sign_deed by design.now die.now sign)) }
 {
     if !sign_fits(rt, alloc, kept, design, die, &sign)? {
         return Ok(false);
     }
-    match kept.add_sign(&mut Past, by, design, die, sign) {
-        Ok(()) => Ok(true),
-        Err(_) => Err(NoMemory),
-    }
+    let ready = kept.ready_sign(by, design, die, sign)?;
+    kept.add_sign(ready);
+    Ok(true)
 }
 
 /// Adds the deed of a row to those before it, if it fits them.
@@ -255,9 +246,9 @@ pub fn add_row<R: Threads + Sync>(
     kept: &mut Kept,
     row: Deed,
 ) -> Result<bool, NoMemory>
-    requires { each_fits [] kept.old ≡ true }
-    ensures judged { IfOk result (λ r. fits kept.old row.what ≡ r) }
-    ensures deeds { IfOk result (λ r. kept.new ≡ added_if r kept.old row) }
+    requires { each_fits [] kept.old.deeds ≡ true }
+    ensures judged { IfOk result (λ r. fits kept.old.deeds row.what ≡ r) }
+    ensures deeds { IfOk result (λ r. kept.new.deeds ≡ added_if r kept.old.deeds row) }
 {
     let Deed { by, what } = row;
     match what {

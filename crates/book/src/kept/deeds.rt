@@ -1,33 +1,30 @@
 //! The list of deeds, for contracts alone.
-ghost use Rattle.std.specs.Prelude.{◌≡◌, ◌≤◌, [], length, IsErrOf};
-ghost use Rattle.std.specs.Option.{option_map};
-ghost use Rattle.desk_outside.specs.declared.keeper.KeepFault.{KeepFault};
-ghost use Rattle.desk_outside.specs.Faults.{Rose};
-ghost use Rattle.book.specs.Kinds.{appended};
+ghost use Rattle.std.specs.Prelude.{◌≡◌, ◌<◌, ◌∷◌, ◌++◌, [], length, OnOk};
 
-use desk_outside::{Deed, KeepFault, Keeper};
+use desk_outside::Deed;
+use scan_model::NoMemory;
 use std::alloc::Global;
 use std::marker::Model;
 use std::snapshot::Snapshot;
 
-/// Deeds of which no byte is kept, but their number.
+/// Deeds of which no byte is kept, but their number. Contracts also see for how many more there is room.
 #[derive(Drop)]
 pub(super) struct Deeds {
     list: Vec<Snapshot<Deed>>,
 }
 
 impl Model for Deeds {
-    ghost use Rattle.std.specs.Prelude.{List, map};
-    ghost use Rattle.desk_outside.specs.declared.deed.Deed.{Deed};
+    ghost use Rattle.std.specs.Prelude.{◌-◌, map, vec_len, vec_capacity};
+    ghost use Rattle.book.specs.Kept.{DeedsFacts};
 
-    ghost Value = { List Deed };
+    ghost Value = { DeedsFacts };
 
-    ghost view = { λ d. map (λ deed. deed.value) d.list.items };
+    ghost view = { λ d. record { list = map (λ deed. deed.value) d.list.items; room = vec_capacity d.list - vec_len d.list } };
 }
 
 impl Deeds {
     pub(super) fn new(alloc: Global) -> Deeds
-        ensures { result ≡ [] }
+        ensures { result.list ≡ [] }
     {
         Deeds {
             list: Vec::new(alloc),
@@ -35,23 +32,24 @@ impl Deeds {
     }
 
     pub(super) fn len(&self) -> usize
-        ensures { result ≡ length self.now }
+        ensures { result ≡ length self.now.list }
     {
         self.list.len()
     }
 
-    /// Adds a deed after it went to the keeper.
-    pub(super) fn record<K: Keeper>(&mut self, keeper: &mut K, deed: &Deed) -> Result<(), KeepFault>
-        ensures deeds { self.new ≡ appended result self.old deed.now }
-        ensures rows { K.rows keeper.new ≡ option_map (λ rows. appended result rows deed.now) (K.rows keeper.old) }
-        ensures later { K.faults keeper.old ≤ K.faults keeper.new }
-        ensures failed { IsErrOf result KeepFault.Failed → Rose (K.faults keeper.old) (K.faults keeper.new) }
+    /// Makes room for one more.
+    pub(super) fn reserve(&mut self) -> Result<(), NoMemory>
+        ensures list { self.new.list ≡ self.old.list }
+        ensures room { OnOk result (0 < self.new.room) }
     {
-        if self.list.reserve(1).is_err() {
-            return Err(KeepFault::NoMemory);
-        }
-        keeper.append(deed)?;
+        Ok(self.list.reserve(1)?)
+    }
+
+    /// Adds a deed.
+    pub(super) fn add(&mut self, deed: &Deed)
+        requires { 0 < self.old.room }
+        ensures { self.new.list ≡ self.old.list ++ deed.now ∷ [] }
+    {
         self.list.push_reserved(Snapshot::of(deed));
-        Ok(())
     }
 }

@@ -1,43 +1,40 @@
 //! The designs of a book, found by their names.
-ghost use Rattle.std.specs.Prelude.{◌≡◌, ◌≤◌, ◌<◌, ◌+◌, ◌^◌, ℕ, List, [], length, Some, None, false, position, OnOk, IfOk, IfSome, IsErrOf, vec_len, vec_capacity, slice_get};
-ghost use Rattle.std.specs.Option.{option_map};
+ghost use Rattle.std.specs.Prelude.{◌≡◌, ◌<◌, ◌+◌, ◌^◌, ◌∷◌, ◌++◌, ℕ, List, [], length, Some, None, false, position, OnOk, IfOk, IfSome, vec_len, vec_capacity, slice_get};
 ghost use Rattle.std.specs.Str.{bytes_eq};
 ghost use Rattle.std.specs.Arc.{arc_value};
-ghost use Rattle.desk_outside.specs.declared.keeper.KeepFault.{KeepFault};
-ghost use Rattle.desk_outside.specs.Faults.{Rose};
-ghost use Rattle.book.specs.Kinds.{appended, arc_values};
 ghost use Rattle.book.specs.Places.{place_of};
 
-use super::deeds::Deeds;
 use super::places::note;
-use desk_outside::{Deed, KeepFault, Keeper};
 use diagnosis::Design;
 use scan_model::NoMemory;
 use std::alloc::Global;
 use std::collections::BTreeMap;
 use std::marker::Model;
+use std::snapshot::Snapshot;
 use std::sync::Arc;
 
-/// Designs of different names, in the order of their deeds.
+/// Designs of different names, in the order of their deeds. Contracts also see the design that may be added.
 #[derive(Drop)]
 pub(super) struct Designs {
     alloc: Global,
     list: Vec<Arc<Design>>,
     // Also has notes of designs whose deeds failed: a place is believed only where the name stands.
     places: BTreeMap<Vec<u8>, usize>,
+    // For contracts alone: the design whose place at the end is noted and has room.
+    next: Option<Snapshot<Arc<Design>>>,
 }
 
 impl Model for Designs {
-    ghost use Rattle.std.specs.Prelude.{List};
-    ghost use Rattle.diagnosis.specs.Designs.{DesignFacts};
     ghost use Rattle.book.specs.Kinds.{arc_values};
-    ghost use Rattle.book.specs.Places.{AreNoted};
+    ghost use Rattle.std.specs.Arc.{arc_value};
+    ghost use Rattle.std.specs.Option.{option_map};
+    ghost use Rattle.book.specs.Places.{DesignsFacts, AreIndexed};
 
-    ghost Value = { List DesignFacts };
+    ghost Value = { DesignsFacts };
 
-    ghost view = { λ d. arc_values d.list.items };
+    ghost view = { λ d. record { list = arc_values d.list.items; next = option_map (λ s. arc_value s.value) d.next } };
 
-    ghost invariant = { λ d. AreNoted d.places (arc_values d.list.items) };
+    ghost invariant = { λ d. AreIndexed d.places d.list (option_map (λ s. arc_value s.value) d.next) };
 }
 
 // Notes the place of one more design, makes room for it, and makes the reference that will stand there.
@@ -60,25 +57,26 @@ fn ready(
 
 impl Designs {
     pub(super) fn new(alloc: Global) -> Designs
-        ensures { result ≡ [] }
+        ensures { result.list ≡ [] }
     {
         Designs {
             alloc,
             list: Vec::new(alloc),
             places: BTreeMap::new(alloc),
+            next: None,
         }
     }
 
     pub(super) fn len(&self) -> usize
-        ensures { result ≡ length self.now }
+        ensures { result ≡ length self.now.list }
     {
         self.list.len()
     }
 
     /// The place of the design of that name.
     pub(super) fn place(&self, name: &[u8]) -> Option<usize>
-        ensures value { result ≡ position (λ d. bytes_eq d.name name.now) self.now }
-        ensures within { IfSome result (λ i. i < length self.now) }
+        ensures value { result ≡ position (λ d. bytes_eq d.name name.now) self.now.list }
+        ensures within { IfSome result (λ i. i < length self.now.list) }
         ensures fit { IfSome result (λ i. i + 1 < 2 ^ 64) }
     {
         let place = self.places.get(name).copied()?;
@@ -92,32 +90,32 @@ impl Designs {
 
     /// The design at a place.
     pub(super) fn at(&self, place: usize) -> &Arc<Design>
-        requires { place < length self.now }
-        ensures { slice_get self.now place ≡ Some (arc_value result.now) }
+        requires { place < length self.now.list }
+        ensures { slice_get self.now.list place ≡ Some (arc_value result.now) }
     {
         &self.list[place]
     }
 
-    /// Adds a design of a new name after its deed went to the keeper.
-    pub(super) fn add<K: Keeper>(
-        &mut self,
-        deeds: &mut Deeds,
-        keeper: &mut K,
-        deed: &Deed,
-        design: &Arc<Design>,
-    ) -> Result<(), KeepFault>
-        requires { position (λ d. bytes_eq d.name (arc_value design.now).name) self.old ≡ None }
-        ensures designs { self.new ≡ appended result self.old (arc_value design.now) }
-        ensures deeds { deeds.new ≡ appended result deeds.old deed.now }
-        ensures rows { K.rows keeper.new ≡ option_map (λ rows. appended result rows deed.now) (K.rows keeper.old) }
-        ensures later { K.faults keeper.old ≤ K.faults keeper.new }
-        ensures failed { IsErrOf result KeepFault.Failed → Rose (K.faults keeper.old) (K.faults keeper.new) }
+    /// Notes the place of one more design, makes room for it, and makes the reference that will stand there.
+    pub(super) fn ready(&mut self, design: &Arc<Design>) -> Result<Arc<Design>, NoMemory>
+        requires { position (λ d. bytes_eq d.name (arc_value design.now).name) self.old.list ≡ None }
+        ensures list { self.new.list ≡ self.old.list }
+        ensures next { OnOk result (self.new.next ≡ Some (arc_value design.now)) }
+        ensures same { IfOk result (λ kept. arc_value kept ≡ arc_value design.now) }
     {
-        let Ok(kept) = ready(self.alloc, &mut self.list, &mut self.places, design) else {
-            return Err(KeepFault::NoMemory);
-        };
-        deeds.record(keeper, deed)?;
-        self.list.push_reserved(kept);
-        Ok(())
+        self.next = None;
+        let kept = ready(self.alloc, &mut self.list, &mut self.places, design)?;
+        self.next = Some(Snapshot::of(&kept));
+        Ok(kept)
+    }
+
+    /// Adds the design for which all is ready.
+    pub(super) fn add(&mut self, design: Arc<Design>)
+        requires next { self.old.next ≡ Some (arc_value design) }
+        requires new { position (λ d. bytes_eq d.name (arc_value design).name) self.old.list ≡ None }
+        ensures { self.new.list ≡ self.old.list ++ arc_value design ∷ [] }
+    {
+        self.next = None;
+        self.list.push_reserved(design);
     }
 }

@@ -1,22 +1,18 @@
 //! A die with its logs and sign-offs.
-ghost use Rattle.std.specs.Prelude.{◌≡◌, ◌≤◌, IfOk, IsErrOf};
-ghost use Rattle.std.specs.Option.{option_map};
+ghost use Rattle.std.specs.Prelude.{◌≡◌, ◌<◌, IfOk, OnOk};
 ghost use Rattle.std.specs.Arc.{arc_value};
-ghost use Rattle.desk_outside.specs.declared.keeper.KeepFault.{KeepFault};
-ghost use Rattle.desk_outside.specs.Faults.{Rose};
-ghost use Rattle.book.specs.Kinds.{appended, arc_values};
-ghost use Rattle.book.specs.Dies.{bare_die, is_die, with_log, with_sign};
+ghost use Rattle.book.specs.Kinds.{arc_values};
+ghost use Rattle.book.specs.Dies.{IsSameDie, bare_die, is_die, with_log, with_sign};
 
-use super::deeds::Deeds;
 use crate::sign::Sign;
-use desk_outside::{Deed, KeepFault, Keeper};
 use diagnosis::ReadLog;
 use scan_model::{Name, NoMemory};
 use std::alloc::Global;
 use std::marker::Model;
 use std::sync::Arc;
 
-/// A die of a design, with its logs and its sign-offs in the order of their deeds.
+/// A die of a design, with its logs and its sign-offs in the order of their deeds. Contracts also see for how many more there is
+/// room.
 #[derive(Drop)]
 pub struct Die {
     design: Name,
@@ -26,12 +22,20 @@ pub struct Die {
 }
 
 impl Model for Die {
+    ghost use Rattle.std.specs.Prelude.{◌-◌, vec_len, vec_capacity};
     ghost use Rattle.book.specs.Kinds.{arc_values};
     ghost use Rattle.book.specs.Dies.{DieFacts};
 
     ghost Value = { DieFacts };
 
-    ghost view = { λ k. record { design = k.design; die = k.die; logs = arc_values k.logs.items; signs = k.signs.items } };
+    ghost view = { λ k. record {
+      design = k.design;
+      die = k.die;
+      logs = arc_values k.logs.items;
+      signs = k.signs.items;
+      log_room = vec_capacity k.logs - vec_len k.logs;
+      sign_room = vec_capacity k.signs - vec_len k.signs;
+    } };
 }
 
 impl Die {
@@ -66,50 +70,35 @@ impl Die {
         &self.signs
     }
 
-    /// Adds a log after its deed went to the keeper.
-    pub(super) fn add_log<K: Keeper>(
-        &mut self,
-        deeds: &mut Deeds,
-        keeper: &mut K,
-        deed: &Deed,
-        log: &Arc<ReadLog>,
-    ) -> Result<(), KeepFault>
-        ensures die { self.new ≡ with_log result self.old (arc_value log.now) }
-        ensures deeds { deeds.new ≡ appended result deeds.old deed.now }
-        ensures rows { K.rows keeper.new ≡ option_map (λ rows. appended result rows deed.now) (K.rows keeper.old) }
-        ensures later { K.faults keeper.old ≤ K.faults keeper.new }
-        ensures failed { IsErrOf result KeepFault.Failed → Rose (K.faults keeper.old) (K.faults keeper.new) }
+    /// Makes room for one more log.
+    pub(super) fn reserve_log(&mut self) -> Result<(), NoMemory>
+        ensures same { IsSameDie self.old self.new }
+        ensures room { OnOk result (0 < self.new.log_room) }
     {
-        let Ok(kept) = Arc::try_clone(log) else {
-            return Err(KeepFault::NoMemory);
-        };
-        if self.logs.reserve(1).is_err() {
-            return Err(KeepFault::NoMemory);
-        }
-        deeds.record(keeper, deed)?;
-        self.logs.push_reserved(kept);
-        Ok(())
+        Ok(self.logs.reserve(1)?)
     }
 
-    /// Adds a sign-off after its deed went to the keeper.
-    pub(super) fn add_sign<K: Keeper>(
-        &mut self,
-        deeds: &mut Deeds,
-        keeper: &mut K,
-        deed: &Deed,
-        sign: Sign,
-    ) -> Result<(), KeepFault>
-        ensures die { self.new ≡ with_sign result self.old sign }
-        ensures deeds { deeds.new ≡ appended result deeds.old deed.now }
-        ensures rows { K.rows keeper.new ≡ option_map (λ rows. appended result rows deed.now) (K.rows keeper.old) }
-        ensures later { K.faults keeper.old ≤ K.faults keeper.new }
-        ensures failed { IsErrOf result KeepFault.Failed → Rose (K.faults keeper.old) (K.faults keeper.new) }
+    /// Makes room for one more sign-off.
+    pub(super) fn reserve_sign(&mut self) -> Result<(), NoMemory>
+        ensures same { IsSameDie self.old self.new }
+        ensures room { OnOk result (0 < self.new.sign_room) }
     {
-        if self.signs.reserve(1).is_err() {
-            return Err(KeepFault::NoMemory);
-        }
-        deeds.record(keeper, deed)?;
+        Ok(self.signs.reserve(1)?)
+    }
+
+    /// Adds a log.
+    pub(super) fn add_log(&mut self, log: Arc<ReadLog>)
+        requires { 0 < self.old.log_room }
+        ensures { self.new ≡ with_log self.old (arc_value log) }
+    {
+        self.logs.push_reserved(log);
+    }
+
+    /// Adds a sign-off.
+    pub(super) fn add_sign(&mut self, sign: Sign)
+        requires { 0 < self.old.sign_room }
+        ensures { self.new ≡ with_sign self.old sign }
+    {
         self.signs.push_reserved(sign);
-        Ok(())
     }
 }

@@ -1,18 +1,12 @@
 //! The dies of a book, found by their names.
-ghost use Rattle.std.specs.Prelude.{◌≡◌, ◌≤◌, ◌<◌, ◌∷◌, ◌++◌, ℕ, List, [], length, true, Some, position, None, IfOk, OnOk, OnErr, IsErrOf, slice_get, slice_set};
-ghost use Rattle.std.specs.Option.{option_map};
+ghost use Rattle.std.specs.Prelude.{◌≡◌, ◌<◌, ◌∷◌, ◌++◌, ℕ, List, [], length, true, Some, position, None, IfOk, OnOk, OnErr, slice_get, slice_set};
 ghost use Rattle.std.specs.Arc.{arc_value};
-ghost use Rattle.desk_outside.specs.declared.keeper.KeepFault.{KeepFault};
-ghost use Rattle.desk_outside.specs.Faults.{Rose};
 ghost use Rattle.scan_model.specs.Words.{is_tag};
-ghost use Rattle.book.specs.Kinds.{appended};
-ghost use Rattle.book.specs.Dies.{DieFacts, bare_die, die_key, is_die, kept_logs, kept_signs, with_log, with_sign};
+ghost use Rattle.book.specs.Dies.{AreSameDies, DieFacts, bare_die, die_key, is_die, kept_logs, kept_signs, with_log, with_sign};
 
-use super::deeds::Deeds;
 use super::die::Die;
 use super::places::note;
 use crate::sign::Sign;
-use desk_outside::{Deed, KeepFault, Keeper};
 use diagnosis::ReadLog;
 use scan_model::NoMemory;
 use std::alloc::Global;
@@ -122,41 +116,39 @@ impl Dies {
         Ok(place)
     }
 
-    /// Adds a log to the die at a place after its deed went to the keeper.
-    pub(super) fn add_log<K: Keeper>(
-        &mut self,
-        place: usize,
-        deeds: &mut Deeds,
-        keeper: &mut K,
-        deed: &Deed,
-        log: &Arc<ReadLog>,
-    ) -> Result<(), KeepFault>
+    /// Makes room for one more log of the die at a place.
+    pub(super) fn reserve_log(&mut self, place: usize) -> Result<(), NoMemory>
         requires { place < length self.old }
-        ensures dies { (k : DieFacts) → slice_get self.old place ≡ Some k → self.new ≡ slice_set self.old place (with_log result k (arc_value log.now)) }
-        ensures deeds { deeds.new ≡ appended result deeds.old deed.now }
-        ensures rows { K.rows keeper.new ≡ option_map (λ rows. appended result rows deed.now) (K.rows keeper.old) }
-        ensures later { K.faults keeper.old ≤ K.faults keeper.new }
-        ensures failed { IsErrOf result KeepFault.Failed → Rose (K.faults keeper.old) (K.faults keeper.new) }
+        ensures same { AreSameDies self.old self.new }
+        ensures room { OnOk result ((k : DieFacts) → slice_get self.new place ≡ Some k → 0 < k.log_room) }
     {
-        self.list[place].add_log(deeds, keeper, deed, log)
+        self.list[place].reserve_log()
     }
 
-    /// Adds a sign-off to the die at a place after its deed went to the keeper.
-    pub(super) fn add_sign<K: Keeper>(
-        &mut self,
-        place: usize,
-        deeds: &mut Deeds,
-        keeper: &mut K,
-        deed: &Deed,
-        sign: Sign,
-    ) -> Result<(), KeepFault>
+    /// Makes room for one more sign-off of the die at a place.
+    pub(super) fn reserve_sign(&mut self, place: usize) -> Result<(), NoMemory>
         requires { place < length self.old }
-        ensures dies { (k : DieFacts) → slice_get self.old place ≡ Some k → self.new ≡ slice_set self.old place (with_sign result k sign) }
-        ensures deeds { deeds.new ≡ appended result deeds.old deed.now }
-        ensures rows { K.rows keeper.new ≡ option_map (λ rows. appended result rows deed.now) (K.rows keeper.old) }
-        ensures later { K.faults keeper.old ≤ K.faults keeper.new }
-        ensures failed { IsErrOf result KeepFault.Failed → Rose (K.faults keeper.old) (K.faults keeper.new) }
+        ensures same { AreSameDies self.old self.new }
+        ensures room { OnOk result ((k : DieFacts) → slice_get self.new place ≡ Some k → 0 < k.sign_room) }
     {
-        self.list[place].add_sign(deeds, keeper, deed, sign)
+        self.list[place].reserve_sign()
+    }
+
+    /// Adds a log to the die at a place.
+    pub(super) fn add_log(&mut self, place: usize, log: Arc<ReadLog>)
+        requires within { place < length self.old }
+        requires room { (k : DieFacts) → slice_get self.old place ≡ Some k → 0 < k.log_room }
+        ensures { (k : DieFacts) → slice_get self.old place ≡ Some k → self.new ≡ slice_set self.old place (with_log k (arc_value log)) }
+    {
+        self.list[place].add_log(log);
+    }
+
+    /// Adds a sign-off to the die at a place.
+    pub(super) fn add_sign(&mut self, place: usize, sign: Sign)
+        requires within { place < length self.old }
+        requires room { (k : DieFacts) → slice_get self.old place ≡ Some k → 0 < k.sign_room }
+        ensures { (k : DieFacts) → slice_get self.old place ≡ Some k → self.new ≡ slice_set self.old place (with_sign k sign) }
+    {
+        self.list[place].add_sign(sign);
     }
 }

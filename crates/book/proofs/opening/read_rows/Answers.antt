@@ -10,25 +10,25 @@ use Rattle.book.proofs.opening.read_rows.Goals as goal
 
 pub returns-in_default-clause-rows : goal.returns-in_default-clause-rows
 returns-in_default-clause-rows g c = λ rows is.
-    kept_all rows c.loop-row.kept c.loop-row.row (c.loop-row.invariant.rows rows is) (sym (c.in_ok-deed.ensures.told rows (c.loop-row.invariant.same ∙ is)) ∙ (search rules))
+    kept_all rows c.loop-row.kept.deeds c.loop-row.row (c.loop-row.invariant.rows rows is) (sym (c.in_ok-deed.ensures.told rows (c.loop-row.invariant.same ∙ is)) ∙ (search rules))
 
 pub returns-then-not-branch-clause-spoiled : goal.returns-then-not-branch-clause-spoiled
 returns-then-not-branch-clause-spoiled g c = λ rows row is err.
     let inv = c.loop-row.invariant in
     let few : c.loop-row.row ≤ c.args.limit = omega arith in
-    let spoiled = row_spoiled c.args.limit rows c.loop-row.kept c.loop-row.row c.in-Some.deed inv.fit (inv.rows rows is) inv.count few
+    let spoiled = row_spoiled c.args.limit rows c.loop-row.kept.deeds c.loop-row.row c.in-Some.deed inv.fit (inv.rows rows is) inv.count few
     (sym (c.in_ok-deed.ensures.told rows (inv.same ∙ is)) ∙ c.in-Some.is) (no_fit _ _ (c.in_ok-add_row.ensures.judged ∙ c.if-not-branch.true)) in
     cc
 
 pub loop-row-preserved : goal.loop-row-preserved
 loop-row-preserved g c =
     let inv = c.loop-row.invariant in
-    let deeds : c.add_row.new.kept ≡ c.loop-row.kept ++ c.in-Some.deed ∷ [] = c.in_ok-add_row.ensures.deeds ∙ ap (λ (b : Bool). added_if b c.loop-row.kept c.in-Some.deed) c.if-not-branch.false in
-    let long : length c.add_row.new.kept ≡ length c.loop-row.kept + 1 = ap length deeds ∙ length-append c.loop-row.kept (c.in-Some.deed ∷ []) in
+    let deeds : c.add_row.new.kept.deeds ≡ c.loop-row.kept.deeds ++ c.in-Some.deed ∷ [] = c.in_ok-add_row.ensures.deeds ∙ ap (λ (b : Bool). added_if b c.loop-row.kept.deeds c.in-Some.deed) c.if-not-branch.false in
+    let long : length c.add_row.new.kept.deeds ≡ length c.loop-row.kept.deeds + 1 = ap length deeds ∙ length-append c.loop-row.kept.deeds (c.in-Some.deed ∷ []) in
     record {
-      fit = subst (λ (ds : List Deed). each_fits [] ds ≡ true) (sym deeds) (each_fits-push [] c.loop-row.kept c.in-Some.deed inv.fit (c.in_ok-add_row.ensures.judged ∙ c.if-not-branch.false));
+      fit = subst (λ (ds : List Deed). each_fits [] ds ≡ true) (sym deeds) (each_fits-push [] c.loop-row.kept.deeds c.in-Some.deed inv.fit (c.in_ok-add_row.ensures.judged ∙ c.if-not-branch.false));
       count = long ∙ ap (λ (n : ℕ). n + 1) inv.count;
-      rows = λ rows is. deeds ∙ kept_more rows c.loop-row.kept c.loop-row.row c.in-Some.deed (inv.rows rows is) (sym (c.in_ok-deed.ensures.told rows (inv.same ∙ is)) ∙ c.in-Some.is);
+      rows = λ rows is. deeds ∙ kept_more rows c.loop-row.kept.deeds c.loop-row.row c.in-Some.deed (inv.rows rows is) (sym (c.in_ok-deed.ensures.told rows (inv.same ∙ is)) ∙ c.in-Some.is);
       same = c.in_ok-deed.ensures.same ∙ inv.same;
       later = omega (arith, inv.later, c.in_ok-deed.ensures.later);
     }
@@ -38,7 +38,7 @@ returns-clause-rows g c = λ rows is.
     let inv = c.loop-row.invariant in
     let end : c.from-end.result ≡ c.loop-row.row = omega arith in
     on_ok_then c.is_past_end.result _ _ c.is_past_end.ensures.none
-    (λ none. kept_all rows c.loop-row.kept c.loop-row.row (inv.rows rows is) (subst (λ (n : ℕ). slice_get rows n ≡ None) end (sym (c.in_ok-past.ensures.told rows (inv.same ∙ is)) ∙ none)))
+    (λ none. kept_all rows c.loop-row.kept.deeds c.loop-row.row (inv.rows rows is) (subst (λ (n : ℕ). slice_get rows n ≡ None) end (sym (c.in_ok-past.ensures.told rows (inv.same ∙ is)) ∙ none)))
 
 pub returns-clause-spoiled : goal.returns-clause-spoiled
 returns-clause-spoiled g c = λ rows row is err.
@@ -47,6 +47,6 @@ returns-clause-spoiled g c = λ rows row is err.
     let past = past_end c.is_past_end.result c.from-end.result row c.in_ok-past.past c.is_past_end.ensures.some err in
     let few : c.loop-row.row ≤ c.args.limit = omega arith in
     let full : c.args.limit ≤ c.loop-row.row = omega arith in
-    row_spoiled c.args.limit rows c.loop-row.kept c.loop-row.row past.1.0 inv.fit (inv.rows rows is) inv.count few
+    row_spoiled c.args.limit rows c.loop-row.kept.deeds c.loop-row.row past.1.0 inv.fit (inv.rows rows is) inv.count few
     (subst (λ (n : ℕ). slice_get rows n ≡ Some past.1.0) end (sym (c.in_ok-past.ensures.told rows (inv.same ∙ is)) ∙ past.1.1)) (no_room _ full)
     ∙ ap Some (sym end ∙ past.0)

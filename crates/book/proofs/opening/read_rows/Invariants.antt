@@ -5,9 +5,9 @@ use Rattle.book.proofs.opening.read_rows.Given as goal
 
 abbrev pub invariant-loop-row : goal.invariant-loop-row
 invariant-loop-row g l = record {
-  fit : each_fits [] l.kept ≡ true;
-  count : length l.kept ≡ l.row;
-  rows : (rows : List Deed) → g.K.Keeper.rows l.fn.keeper ≡ Some rows → l.kept ≡ take l.row rows;
+  fit : each_fits [] l.kept.deeds ≡ true;
+  count : length l.kept.deeds ≡ l.row;
+  rows : (rows : List Deed) → g.K.Keeper.rows l.fn.keeper ≡ Some rows → l.kept.deeds ≡ take l.row rows;
   same : g.K.Keeper.rows l.keeper ≡ g.K.Keeper.rows l.fn.keeper;
   later : g.K.Keeper.faults l.fn.keeper ≤ g.K.Keeper.faults l.keeper;
 }

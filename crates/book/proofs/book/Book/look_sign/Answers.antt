@@ -17,7 +17,7 @@ returns-clause-right g c =
     let deeds = c.args.self.now.deeds in
     let book : IsBook c.args.self.now = subst IsBook c.self.view_is c.self.invariant in
     let found : IsDieIn deeds c.args.design.now c.args.die.now c.in-Some.kept.now.logs c.in-Some.kept.now.signs =
-    die_as_named c.self.inside.kept deeds c.name.result.now c.args.design.now c.args.die.now c.in-Some.kept.now.logs c.in-Some.kept.now.signs (ap (λ (b : BookFacts). b.deeds) c.self.view_is)
+    die_as_named c.self.inside.kept.deeds deeds c.name.result.now c.args.design.now c.args.die.now c.in-Some.kept.now.logs c.in-Some.kept.now.signs (ap (λ (b : BookFacts). b.deeds) c.self.view_is)
     (c.name.ensures.value ∙ ap (λ (v : DesignFacts). v.name) c.deref.ensures ∙ c.in_ok-found.ensures.name) (some_is _ _ _ c.in-Some.is c.in_ok-kept.ensures.some) in
     let looked : Looked (λ sign. sign) (sign_look deeds c.args.design.now c.args.die.now c.args.number) c.sign_of.result =
     subst (λ a. Looked (λ sign. sign) a c.sign_of.result) (sym (sign_looked deeds c.args.design.now c.args.die.now (arc_value c.in_ok-found.found).text c.args.number c.in-Some.kept.now.logs c.in-Some.kept.now.signs (design_there deeds c.args.design.now (arc_value c.in_ok-found.found).text c.in_ok-found.ensures.looked) found))
@@ -30,7 +30,7 @@ returns-clause-stays g c =
     let deeds = c.args.self.now.deeds in
     let book : IsBook c.args.self.now = subst IsBook c.self.view_is c.self.invariant in
     let found : IsDieIn deeds c.args.design.now c.args.die.now c.in-Some.kept.now.logs c.in-Some.kept.now.signs =
-    die_as_named c.self.inside.kept deeds c.name.result.now c.args.design.now c.args.die.now c.in-Some.kept.now.logs c.in-Some.kept.now.signs (ap (λ (b : BookFacts). b.deeds) c.self.view_is)
+    die_as_named c.self.inside.kept.deeds deeds c.name.result.now c.args.design.now c.args.die.now c.in-Some.kept.now.logs c.in-Some.kept.now.signs (ap (λ (b : BookFacts). b.deeds) c.self.view_is)
     (c.name.ensures.value ∙ ap (λ (v : DesignFacts). v.name) c.deref.ensures ∙ c.in_ok-found.ensures.name) (some_is _ _ _ c.in-Some.is c.in_ok-kept.ensures.some) in
     let looked : Looked (λ sign. sign) (sign_look deeds c.args.design.now c.args.die.now c.args.number) c.sign_of.result =
     subst (λ a. Looked (λ sign. sign) a c.sign_of.result) (sym (sign_looked deeds c.args.design.now c.args.die.now (arc_value c.in_ok-found.found).text c.args.number c.in-Some.kept.now.logs c.in-Some.kept.now.signs (design_there deeds c.args.design.now (arc_value c.in_ok-found.found).text c.in_ok-found.ensures.looked) found))

@@ -16,13 +16,13 @@ returns-then-not-is_same_digest g c =
     unchanged _ _ _ c.args.self.now (subst IsBook c.self.view_is c.self.invariant)
     (digest_differs c.args.self.now.limit c.args.self.now.deeds v.design.name v.die (length v.logs) (sha256 (view_report v)) c.digest.result.now c.args.signer.now c.args.digest.now c.digest.ensures.value (sym c.is_same_digest.ensures ∙ c.if-not-is_same_digest.true)) refl
 
-pub add_sign-requires : goal.add_sign-requires
-add_sign-requires g c =
+pub record_sign-requires : goal.record_sign-requires
+record_sign-requires g c =
     let design : IsDesign c.args.checked.now.design =
     subst IsDesign (c.deref.ensures ∙ c.design.ensures ∙ ap (λ (v : ViewFacts). v.design) c.view-view.ensures) c.name-design.ensures.design in
     record {
       fits =
-          sign_fits_at c.self.inside.kept c.args.self.now.deeds c.args.checked.now c.name-design.result.now c.die-die.result.now c.in_ok-copy_of.field-0 c.as_slice.result.now c.args.digest.now c.revision-revision.result c.in_ok-place.place c.in-Created.number
+          sign_fits_at c.self.inside.kept.deeds c.args.self.now.deeds c.args.checked.now c.name-design.result.now c.die-die.result.now c.in_ok-copy_of.field-0 c.as_slice.result.now c.args.digest.now c.revision-revision.result c.in_ok-place.place c.in-Created.number
           design c.requires.view c.digest.ensures.some (search rules) (subst (λ (r : List ℕ). bytes_eq c.args.digest.now r ≡ true) c.digest.ensures.value (sym c.is_same_digest.ensures ∙ c.if-not-is_same_digest.false)) (sym (ap (λ (b : BookFacts). b.deeds) c.self.view_is))
           (search rules) (search rules) (search rules) (search rules) c.in_ok-place.ensures c.in-Created.is;
     }
@@ -31,9 +31,9 @@ pub invariant_of-self-2 : goal.invariant_of-self-2
 invariant_of-self-2 g c =
     let design : IsDesign c.args.checked.now.design =
     subst IsDesign (c.deref.ensures ∙ c.design.ensures ∙ ap (λ (v : ViewFacts). v.design) c.view-view.ensures) c.name-design.ensures.design in
-    let one : fits c.self.inside.kept (Sign c.name-design.result.now c.die-die.result.now c.revision-revision.result c.in_ok-copy_of.field-0 c.args.digest.now) ≡ true =
-    sign_fits_at c.self.inside.kept c.args.self.now.deeds c.args.checked.now c.name-design.result.now c.die-die.result.now c.in_ok-copy_of.field-0 c.as_slice.result.now c.args.digest.now c.revision-revision.result c.in_ok-place.place c.in-Created.number
+    let one : fits c.self.inside.kept.deeds (Sign c.name-design.result.now c.die-die.result.now c.revision-revision.result c.in_ok-copy_of.field-0 c.args.digest.now) ≡ true =
+    sign_fits_at c.self.inside.kept.deeds c.args.self.now.deeds c.args.checked.now c.name-design.result.now c.die-die.result.now c.in_ok-copy_of.field-0 c.as_slice.result.now c.args.digest.now c.revision-revision.result c.in_ok-place.place c.in-Created.number
     design c.requires.view c.digest.ensures.some (search rules) (subst (λ (r : List ℕ). bytes_eq c.args.digest.now r ≡ true) c.digest.ensures.value (sym c.is_same_digest.ensures ∙ c.if-not-is_same_digest.false)) (sym (ap (λ (b : BookFacts). b.deeds) c.self.view_is))
     (search rules) (search rules) (search rules) (search rules) c.in_ok-place.ensures c.in-Created.is in
-    let room : length c.self.inside.kept < c.self.inside.limit = subst (λ (b : BookFacts). length b.deeds < b.limit) (sym c.self.view_is) c.in_ok-has_room.ensures.room in
-    book_after c.add_sign.result (sign_deed c.args.by c.name-design.result.now c.die-die.result.now (record { revision = c.revision-revision.result; signer = c.in_ok-copy_of.field-0; digest = c.args.digest.now })) _ _ c.self.invariant room one c.add_sign.ensures.deeds refl c.add_sign.ensures.rows
+    let room : length c.self.inside.kept.deeds < c.self.inside.limit = subst (λ (b : BookFacts). length b.deeds < b.limit) (sym c.self.view_is) c.in_ok-has_room.ensures.room in
+    book_after c.record_sign.result (sign_deed c.args.by c.name-design.result.now c.die-die.result.now (record { revision = c.revision-revision.result; signer = c.in_ok-copy_of.field-0; digest = c.args.digest.now })) _ _ c.self.invariant room one c.record_sign.ensures.deeds refl c.record_sign.ensures.rows

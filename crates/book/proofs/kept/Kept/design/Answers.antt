@@ -5,17 +5,18 @@ use Rattle.std.specs.Arc.{arc_value}
 use Rattle.book.specs.Deeds.{design_text}
 use Rattle.book.specs.Finding.{IsFound}
 use Rattle.book.proofs.Found.{found_design, found_none}
+use Rattle.book.specs.Kept.{KeptFacts}
 use Rattle.book.proofs.kept.Kept.design.Goals as goal
 
 pub returns-in_err-place-clause-none : goal.returns-in_err-place-clause-none
 returns-in_err-place-clause-none c =
-    let absent : position (λ e. bytes_eq e.name c.args.name.now) c.self.inside.designs ≡ None = sym c.in_err-place.ensures.value in
-    let none : design_text c.args.self.now c.args.name.now ≡ None =
-    subst (λ deeds. design_text deeds c.args.name.now ≡ None) c.self.view_is (found_none c.self.inside.deeds c.self.inside.designs c.args.name.now c.self.invariant.designs absent) in
+    let absent : position (λ e. bytes_eq e.name c.args.name.now) c.self.inside.designs.list ≡ None = sym c.in_err-place.ensures.value in
+    let none : design_text c.args.self.now.deeds c.args.name.now ≡ None =
+    subst (λ (k : KeptFacts). design_text k.deeds c.args.name.now ≡ None) c.self.view_is (found_none c.self.inside.deeds.list c.self.inside.designs.list c.args.name.now c.self.invariant.designs absent) in
     rw c.from_residual.ensures none
 
 pub returns-clause-some : goal.returns-clause-some
 returns-clause-some c =
-    let place : position (λ e. bytes_eq e.name c.args.name.now) c.self.inside.designs ≡ Some c.in_ok-place.place = sym c.in_ok-place.ensures.value in
-    subst (λ deeds. IsFound deeds c.args.name.now (c.in_ok-place.place + 1) (arc_value c.at.result.now)) c.self.view_is
-    (found_design c.self.inside.deeds c.self.inside.designs c.args.name.now c.self.invariant.designs c.in_ok-place.place (arc_value c.at.result.now) place c.at.ensures)
+    let place : position (λ e. bytes_eq e.name c.args.name.now) c.self.inside.designs.list ≡ Some c.in_ok-place.place = sym c.in_ok-place.ensures.value in
+    subst (λ (k : KeptFacts). IsFound k.deeds c.args.name.now (c.in_ok-place.place + 1) (arc_value c.at.result.now)) c.self.view_is
+    (found_design c.self.inside.deeds.list c.self.inside.designs.list c.args.name.now c.self.invariant.designs c.in_ok-place.place (arc_value c.at.result.now) place c.at.ensures)
