@@ -1,6 +1,6 @@
 use super::circuits::c17;
 use super::refusal::stops_at;
-use bench_reader::read_netlist;
+use bench_reader::{read_netlist, read_netlist_named};
 use scan_model::{Circuit, NoMemory, Rows};
 use std::alloc::{AllocError, Global};
 use text_parts::ReadFault;
@@ -87,4 +87,19 @@ fn cones_back_to_inputs(rt: HostRuntime) {
 #[test]
 fn a_cone_to_both_outputs(rt: HostRuntime) {
     assert!(rt; matches!(reaches_both_outputs(rt.alloc()), Ok(true)));
+}
+
+// The place of a name among those by which c17 was read.
+fn named_place(alloc: Global, name: &[u8]) -> Option<usize> {
+    match read_netlist_named(alloc, c17().as_bytes()) {
+        Ok(named) => named.names.place(name),
+        Err(_) => None,
+    }
+}
+
+#[test]
+fn names_come_with_their_circuit(rt: HostRuntime) {
+    assert_eq!(rt; named_place(rt.alloc(), b"11"), Some(6));
+    assert_eq!(rt; named_place(rt.alloc(), b"23"), Some(10));
+    assert_eq!(rt; named_place(rt.alloc(), b"99"), None);
 }
