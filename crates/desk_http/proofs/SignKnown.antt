@@ -10,17 +10,17 @@ use Rattle.scan_model.specs.Words.{is_tag}
 use Rattle.serde_json.specs.Data.{unsigned, negative, float, Data, null, boolean, number, string, array, object, Members}
 use Rattle.serde_json.specs.Find.{get_member}
 use Rattle.serde_json.specs.Read.{read}
-use Rattle.desk_http.specs.declared.answers.signoff.SignBody.{SignBody}
+use Rattle.book.specs.declared.sign.Sign.{Sign}
 use Rattle.desk_http.specs.SignBodies.{members_len, IsSign, IsSignBody}
 use Rattle.desk_http.specs.Answering.{ReadsSign}
 
 -- the sign-off that a value stands for, or that it stands for none
-abbrev ReadsValue : Data → Option SignBody → Type 0
+abbrev ReadsValue : Data → Option Sign → Type 0
 ReadsValue value (Some sign) = IsSign value sign
-ReadsValue value None = (sign : SignBody) → ¬ (IsSign value sign)
+ReadsValue value None = (sign : Sign) → ¬ (IsSign value sign)
 
 abbrev Known : Data → Type 0
-Known value = (sign : Option SignBody) × ReadsValue value sign
+Known value = (sign : Option Sign) × ReadsValue value sign
 
 -- ---- members
 
@@ -120,17 +120,17 @@ of_value (object ms) = of_members ms
 
 -- ---- a text
 
-same_value : (text : List ℕ) (value : Data) (sign : SignBody) → read text ≡ Some value → IsSignBody text sign → IsSign value sign
+same_value : (text : List ℕ) (value : Data) (sign : Sign) → read text ≡ Some value → IsSignBody text sign → IsSign value sign
 same_value text value sign e is =
     let read_is = is.read_is in
     let same : is.value ≡ value = cc in
     subst (λ (v : Data). IsSign v sign) same is.sign
 
-of_known : (text : List ℕ) (value : Data) → IsUtf8 text → read text ≡ Some value → (sign : Option SignBody) → ReadsValue value sign → ReadsSign text sign
+of_known : (text : List ℕ) (value : Data) → IsUtf8 text → read text ≡ Some value → (sign : Option Sign) → ReadsValue value sign → ReadsSign text sign
 of_known text value utf8 e (Some sign) is = record { value = value; utf8 = utf8; read_is = e; sign = is }
 of_known text value utf8 e None none = λ sign is. none sign (same_value text value sign e is)
 
-of_read : (text : List ℕ) (valid : Bool) → is_utf8 text ≡ valid → (found : Option Data) → read text ≡ found → (sign : Option SignBody) × ReadsSign text sign
+of_read : (text : List ℕ) (valid : Bool) → is_utf8 text ≡ valid → (found : Option Data) → read text ≡ found → (sign : Option Sign) × ReadsSign text sign
 of_read text true valid (Some value) e =
     let known = of_value value in
     (known.0, of_known text value (IsUtf8-from_is_utf8 text valid) e known.0 known.1)
@@ -138,5 +138,5 @@ of_read text true valid None e = (None, λ sign is. let read_is = is.read_is in 
 of_read text false valid found e = (None, λ sign is. let right = is_utf8-from_IsUtf8 text is.utf8 in absurd cc)
 
 -- a body is that of a sign-off, or it isn't
-pub sign_known : (text : List ℕ) → (sign : Option SignBody) × ReadsSign text sign
+pub sign_known : (text : List ℕ) → (sign : Option Sign) × ReadsSign text sign
 sign_known text = of_read text (is_utf8 text) refl (read text) refl

@@ -12,6 +12,7 @@ use Rattle.desk_outside.specs.declared.deed.DeedKind.TheVariants as deed
 use Rattle.diag_report.specs.Summary.{summary_text}
 use Rattle.diag_report.specs.PredictedLog.{predicted_log, fault_of}
 use Rattle.diagnosis.specs.declared.section.Section.{Section}
+use Rattle.diagnosis.specs.declared.section.Section.TheVariants as section
 use Rattle.diagnosis.specs.Bundle.{bundle_reading}
 use Rattle.book.specs.Deeds.{test_of_text}
 use Rattle.book.specs.Answers.{design_answer, log_answer, sign_answer, design_look, die_look, sign_look}
@@ -22,11 +23,11 @@ use Rattle.desk_replies.specs.declared.bodies.TextKind.TheVariants as kind
 use Rattle.desk_replies.specs.declared.bodies.Refusal.TheVariants as refusal
 use Rattle.desk_http.specs.declared.routes.resource.Resource.{Resource}
 use Rattle.desk_http.specs.declared.routes.resource.Resource.TheVariants as resource
-use Rattle.desk_http.specs.declared.answers.signoff.SignBody.{SignBody}
+use Rattle.book.specs.declared.sign.Sign.{Sign}
 use Rattle.desk_replies.specs.Methods.{allows}
 use Rattle.desk_http.specs.Resources.{methods_of}
 use Rattle.desk_replies.specs.Bodies.{design_body, log_body, sign_off_line, sign_off_body, design_head, unknown_fault_body, unknown_line_body}
-use Rattle.desk_replies.specs.Answers.{Answer, plain, refused, other_method, unprocessable, kind_of, put, look}
+use Rattle.desk_replies.specs.Answers.{Answer, plain, refused, other_method, unprocessable, put, look}
 
 -- ---- designs that are there
 
@@ -84,7 +85,7 @@ module _ (limit : ℕ) (deeds : List Deed) where
   -- a bundle is put under a name, once it was read
   abbrev pub design_read : Result ScanTest (Section × (ℕ × ℕ)) → List ℕ → List ℕ → Answer
   design_read (Ok t) name text = put (λ n. design_body name (sha256 text)) (deed.Design name text) (design_answer limit deeds name text)
-  design_read (Err (section, fault)) name text = unprocessable (kind_of section) fault
+  design_read (Err (section, fault)) name text = unprocessable (kind.Section section) fault
 
   abbrev pub design_put : List ℕ → List ℕ → Answer
   design_put name text = design_read (bundle_reading text) name text
@@ -92,14 +93,14 @@ module _ (limit : ℕ) (deeds : List Deed) where
   -- a log is posted, once it was read
   abbrev pub log_read : Result LogFacts (ℕ × ℕ) → List ℕ → List ℕ → List ℕ → Answer
   log_read (Ok facts) design die text = put log_body (deed.Log design die text) (log_answer limit deeds design die text)
-  log_read (Err fault) design die text = unprocessable kind.Log fault
+  log_read (Err fault) design die text = unprocessable (kind.Section section.Log) fault
 
   -- its design is found first
   abbrev pub log_post : List ℕ → List ℕ → List ℕ → Answer
   log_post design die text = with_design deeds design (λ bundle t. log_read (log_reading (log_frame t design die) text) design die text)
 
   -- a report is signed: the body is read, then the die is found at the revision, then the digest is compared
-  abbrev pub sign_post : List ℕ → List ℕ → Option SignBody → Answer
+  abbrev pub sign_post : List ℕ → List ℕ → Option Sign → Answer
   sign_post design die None = unprocessable kind.SignOff (1, 91)
   sign_post design die (Some sign) =
       with_die deeds design die (Some sign.revision) (λ t texts.
@@ -113,7 +114,7 @@ abbrev pub predicted : List ℕ
 predicted = codes "predicted"
 
 -- what is answered at a resource to one of its methods; a sign-off is given as its body reads
-abbrev pub answer_at : ℕ → List Deed → Resource → Method → List ℕ → Option SignBody → Answer
+abbrev pub answer_at : ℕ → List Deed → Resource → Method → List ℕ → Option Sign → Answer
 answer_at limit deeds (resource.Design design) method.Put body sign = design_put limit deeds design body
 answer_at limit deeds (resource.Design design) _ body sign = design_get deeds design
 answer_at limit deeds (resource.Fails design fault) _ body sign = fails_get deeds predicted design fault
@@ -124,6 +125,6 @@ answer_at limit deeds (resource.Page design die revision line) _ body sign = pag
 answer_at limit deeds (resource.Signs design die) _ body sign = sign_post limit deeds design die sign
 answer_at limit deeds (resource.Sign design die number) _ body sign = sign_get deeds design die number
 
-abbrev pub routed : ℕ → List Deed → Option Resource → Method → List ℕ → Option SignBody → Answer
+abbrev pub routed : ℕ → List Deed → Option Resource → Method → List ℕ → Option Sign → Answer
 routed limit deeds None m body sign = refused refusal.NoRoute
 routed limit deeds (Some r) m body sign = if allows (methods_of r) m then answer_at limit deeds r m body sign else other_method (methods_of r)

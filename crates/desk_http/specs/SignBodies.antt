@@ -5,7 +5,7 @@ use Rattle.serde_json.specs.Data.{Data, number, unsigned, string, object, Member
 use Rattle.serde_json.specs.Find.{get_member}
 use Rattle.serde_json.specs.Read.{read}
 use Rattle.scan_model.specs.Words.{is_tag}
-use Rattle.desk_http.specs.declared.answers.signoff.SignBody.{SignBody}
+use Rattle.book.specs.declared.sign.Sign.{Sign}
 
 abbrev pub members_len : Members → ℕ
 members_len no_members = 0
@@ -22,14 +22,14 @@ pub record HasParts (value : Data) (revision : ℕ) (signer digest : List ℕ) :
   pub digest_is : get_member (codes "digest") members ≡ Some (string digest)
 
 -- those of a sign-off: the signer is a tag, and the digest is written in 64 hexadecimal digits of either case
-pub record IsSign (value : Data) (body : SignBody) : Type 0 where
+pub record IsSign (value : Data) (body : Sign) : Type 0 where
   pub digits : List ℕ
   pub parts : HasParts value body.revision body.signer digits
   pub tag : is_tag body.signer ≡ true
   pub digest : decode_sized digits 32 ≡ Ok body.digest
 
 -- the text is UTF-8, and what serde_json reads of it is such an object
-pub record IsSignBody (text : List ℕ) (body : SignBody) : Type 0 where
+pub record IsSignBody (text : List ℕ) (body : Sign) : Type 0 where
   pub value : Data
   pub utf8 : IsUtf8 text
   pub read_is : read text ≡ Some value

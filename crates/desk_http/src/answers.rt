@@ -2,12 +2,16 @@
 
 pub(crate) mod signoff;
 
-ghost use Rattle.std.specs.Prelude.{List};
+ghost use Rattle.std.specs.Prelude.{◌≡◌, [], List, true, Some, None, IfOk};
 ghost use Rattle.std.specs.Str.{IsAscii};
 ghost use Rattle.desk_outside.specs.declared.deed.Deed.{Deed};
 ghost use Rattle.report_cache.specs.Truth.{IsTrueFor};
-ghost use Rattle.desk_http.specs.Seats.{IsPrefix};
-ghost use Rattle.desk_http.specs.Resources.{HasTags};
+ghost use Rattle.desk_heads.specs.declared.head.method.Method.TheVariants as method;
+ghost use Rattle.desk_replies.specs.Methods.{allows};
+ghost use Rattle.desk_replies.specs.Responses.{response_of};
+ghost use Rattle.desk_http.specs.Seats.{IsPrefix, Did};
+ghost use Rattle.desk_http.specs.Resources.{HasTags, methods_of, resource_of};
+ghost use Rattle.desk_http.specs.RouteAnswers.{answer_at};
 ghost use Rattle.desk_http.specs.Answering.{IsAnswer, IsAnswerAt, Answered};
 
 use self::designs::{get_design, get_fails, put_design};
@@ -25,8 +29,17 @@ use desk_heads::Method;
 use desk_outside::Gate;
 use desk_replies::{Refusal, Response, Unanswered};
 use report_cache::ReportCache;
+use scan_model::NoMemory;
 use std::alloc::Global;
 use std::thread::Threads;
+
+/// What is asked for: the method, the target and the bytes of the body.
+#[derive(Clone, Copy)]
+pub struct Request<'a> {
+    pub method: Method,
+    pub target: &'a str,
+    pub body: &'a [u8],
+}
 
 /// What a request is answered over a seat, at some deeds that begin with those that it had seen. What is done carries its
 /// number. The response takes no memory once it was done.
@@ -38,28 +51,23 @@ pub fn answer<R: Threads + Sync, D, S: SeatAt<R, D>, G: Gate>(
     seat: &mut S,
     cache: &mut ReportCache,
     gate: &mut G,
-    target: &str,
-    method: Method,
-    body: &[u8],
+    request: &Request<'_>,
 ) -> Result<Response, Unanswered>
-    requires ascii { IsAscii target.now }
+    requires ascii { IsAscii request.now.target.now }
     requires belongs { S.belongs seat.old desk.now }
     requires cache { IsTrueFor cache.old (S.facts seat.old desk.now).seen }
     ensures stays { S.belongs seat.new desk.now }
     ensures cache { (later : List Deed) → IsPrefix (S.facts seat.new desk.now).seen later → IsTrueFor cache.old later → IsTrueFor cache.new later }
     ensures answered { let s = S.facts seat.old desk.now in
-        Answered (λ deeds answer. IsAnswer s.limit deeds target.now method body.now answer) result s (S.facts seat.new desk.now) }
+        Answered (λ deeds answer. IsAnswer s.limit deeds request.now.target.now request.now.method request.now.body.now answer) result s (S.facts seat.new desk.now) }
 {
-    let Some(resource) = routes.resource(alloc, target)? else {
+    let Some(resource) = routes.resource(alloc, request.target)? else {
         return Ok(Response::refused(Refusal::NoRoute));
     };
-    if !resource.methods().allows(method) {
-        return Ok(Response::other_method(resource.methods()));
-    }
-    answer_at(rt, alloc, desk, seat, cache, gate, &resource, method, body)
+    answer_at(rt, alloc, desk, seat, cache, gate, &resource, request)
 }
 
-// What it is answered at a resource that has the method.
+// What it is answered at the resource that its target names.
 fn answer_at<R: Threads + Sync, D, S: SeatAt<R, D>, G: Gate>(
     rt: &R,
     alloc: Global,
@@ -68,32 +76,52 @@ fn answer_at<R: Threads + Sync, D, S: SeatAt<R, D>, G: Gate>(
     cache: &mut ReportCache,
     gate: &mut G,
     resource: &Resource,
-    method: Method,
-    body: &[u8],
+    request: &Request<'_>,
 ) -> Result<Response, Unanswered>
-    requires tags { HasTags resource.now }
+    requires named { resource_of request.now.target.now ≡ Some resource.now }
     requires belongs { S.belongs seat.old desk.now }
     requires cache { IsTrueFor cache.old (S.facts seat.old desk.now).seen }
     ensures stays { S.belongs seat.new desk.now }
     ensures cache { (later : List Deed) → IsPrefix (S.facts seat.new desk.now).seen later → IsTrueFor cache.old later → IsTrueFor cache.new later }
     ensures answered { let s = S.facts seat.old desk.now in
-        Answered (λ deeds answer. IsAnswerAt s.limit deeds resource.now method body.now answer) result s (S.facts seat.new desk.now) }
+        Answered (λ deeds answer. IsAnswer s.limit deeds request.now.target.now request.now.method request.now.body.now answer) result s (S.facts seat.new desk.now) }
+{
+    let methods = resource.methods();
+    if !methods.allows(request.method) {
+        return Ok(Response::other_method(methods));
+    }
+    match request.method {
+        Method::Get => Ok(get_at(rt, alloc, desk, seat, cache, resource)?),
+        _ => change_at(rt, alloc, desk, seat, cache, gate, resource, request),
+    }
+}
+
+// What is got at a resource.
+fn get_at<R: Threads + Sync, D, S: SeatAt<R, D>>(
+    rt: &R,
+    alloc: Global,
+    desk: &D,
+    seat: &mut S,
+    cache: &mut ReportCache,
+    resource: &Resource,
+) -> Result<Response, NoMemory>
+    requires tags { HasTags resource.now }
+    requires got { allows (methods_of resource.now) method.Get ≡ true }
+    requires belongs { S.belongs seat.old desk.now }
+    requires cache { IsTrueFor cache.old (S.facts seat.old desk.now).seen }
+    ensures stays { S.belongs seat.new desk.now }
+    ensures cache { (later : List Deed) → IsPrefix (S.facts seat.new desk.now).seen later → IsTrueFor cache.old later → IsTrueFor cache.new later }
+    ensures did { Did [] 0 (S.facts seat.old desk.now) (S.facts seat.new desk.now) }
+    ensures made { IfOk result (λ r. r ≡ response_of (answer_at 0 (S.facts seat.new desk.now).seen resource.now method.Get [] None)) }
 {
     match resource {
-        Resource::Design { design } => match method {
-            Method::Put => put_design(rt, alloc, desk, seat, gate, design.as_slice(), body),
-            _ => Ok(get_design(rt, alloc, desk, seat, design.as_slice())?),
-        },
+        Resource::Design { design } => get_design(rt, alloc, desk, seat, design.as_slice()),
         Resource::Fails { design, fault } => {
-            Ok(get_fails(rt, alloc, desk, seat, design.as_slice(), *fault)?)
-        }
-        Resource::Logs { design, die } => {
-            let (design, die) = (design.as_slice(), die.as_slice());
-            post_log(rt, alloc, desk, seat, gate, design, die, body)
+            get_fails(rt, alloc, desk, seat, design.as_slice(), *fault)
         }
         Resource::LastReport { design, die } => {
             let (design, die) = (design.as_slice(), die.as_slice());
-            Ok(get_report(rt, alloc, desk, seat, cache, design, die, None)?)
+            get_report(rt, alloc, desk, seat, cache, design, die, None)
         }
         Resource::Report {
             design,
@@ -102,7 +130,7 @@ fn answer_at<R: Threads + Sync, D, S: SeatAt<R, D>, G: Gate>(
         } => {
             let revision = Some(u64::from(*revision));
             let (design, die) = (design.as_slice(), die.as_slice());
-            Ok(get_report(rt, alloc, desk, seat, cache, design, die, revision)?)
+            get_report(rt, alloc, desk, seat, cache, design, die, revision)
         }
         Resource::Page {
             design,
@@ -112,11 +140,7 @@ fn answer_at<R: Threads + Sync, D, S: SeatAt<R, D>, G: Gate>(
         } => {
             let (revision, line) = (u64::from(*revision), u64::from(*line));
             let (design, die) = (design.as_slice(), die.as_slice());
-            Ok(get_page(rt, alloc, desk, seat, cache, design, die, revision, line)?)
-        }
-        Resource::Signs { design, die } => {
-            let (design, die) = (design.as_slice(), die.as_slice());
-            post_sign(rt, alloc, desk, seat, cache, gate, design, die, body)
+            get_page(rt, alloc, desk, seat, cache, design, die, revision, line)
         }
         Resource::Sign {
             design,
@@ -124,7 +148,46 @@ fn answer_at<R: Threads + Sync, D, S: SeatAt<R, D>, G: Gate>(
             number,
         } => {
             let number = u64::from(*number);
-            Ok(get_sign(rt, desk, seat, design.as_slice(), die.as_slice(), number)?)
+            get_sign(rt, desk, seat, design.as_slice(), die.as_slice(), number)
         }
+        Resource::Logs { .. } | Resource::Signs { .. } => unreachable!(),
+    }
+}
+
+// What is put or posted there.
+fn change_at<R: Threads + Sync, D, S: SeatAt<R, D>, G: Gate>(
+    rt: &R,
+    alloc: Global,
+    desk: &D,
+    seat: &mut S,
+    cache: &mut ReportCache,
+    gate: &mut G,
+    resource: &Resource,
+    request: &Request<'_>,
+) -> Result<Response, Unanswered>
+    requires tags { HasTags resource.now }
+    requires allowed { allows (methods_of resource.now) request.now.method ≡ true }
+    requires changes { ¬ (request.now.method ≡ method.Get) }
+    requires belongs { S.belongs seat.old desk.now }
+    requires cache { IsTrueFor cache.old (S.facts seat.old desk.now).seen }
+    ensures stays { S.belongs seat.new desk.now }
+    ensures cache { (later : List Deed) → IsPrefix (S.facts seat.new desk.now).seen later → IsTrueFor cache.old later → IsTrueFor cache.new later }
+    ensures answered { let s = S.facts seat.old desk.now in
+        Answered (λ deeds answer. IsAnswerAt s.limit deeds resource.now request.now.method request.now.body.now answer) result s (S.facts seat.new desk.now) }
+{
+    let body = request.body;
+    match resource {
+        Resource::Design { design } => {
+            put_design(rt, alloc, desk, seat, gate, design.as_slice(), body)
+        }
+        Resource::Logs { design, die } => {
+            let (design, die) = (design.as_slice(), die.as_slice());
+            post_log(rt, alloc, desk, seat, gate, design, die, body)
+        }
+        Resource::Signs { design, die } => {
+            let (design, die) = (design.as_slice(), die.as_slice());
+            post_sign(rt, alloc, desk, seat, cache, gate, design, die, body)
+        }
+        _ => unreachable!(),
     }
 }

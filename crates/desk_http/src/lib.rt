@@ -5,8 +5,8 @@ mod answers;
 mod routes;
 mod sessions;
 
-pub use answers::answer;
-pub use answers::signoff::{BodyFault, SignBody, sign_body};
+pub use answers::signoff::{BodyFault, sign_body};
+pub use answers::{Request, answer};
 pub use desk_heads::{
     BodyRead, Head, HeadFault, HeadRead, HeadSeen, Inbox, Method, read_head, read_to,
 };

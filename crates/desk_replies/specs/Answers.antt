@@ -1,8 +1,6 @@
 -- What may be answered to a request.
 use Rattle.std.specs.Prelude.{ℕ, List, Option, Some, None, Result, Ok, Err}
 use Rattle.desk_outside.specs.declared.deed.DeedKind.{DeedKind}
-use Rattle.diagnosis.specs.declared.section.Section.{Section}
-use Rattle.diagnosis.specs.declared.section.Section.TheVariants as section
 use Rattle.diagnosis.specs.declared.put.Put.{Put}
 use Rattle.diagnosis.specs.declared.put.Put.TheVariants.{Created, Same}
 use Rattle.book.specs.declared.answers.PutFault.{PutFault}
@@ -13,7 +11,6 @@ use Rattle.desk_replies.specs.declared.status.Status.{Status}
 use Rattle.desk_replies.specs.declared.status.Status.TheVariants as status
 use Rattle.desk_replies.specs.declared.methods.Methods.{Methods}
 use Rattle.desk_replies.specs.declared.bodies.TextKind.{TextKind}
-use Rattle.desk_replies.specs.declared.bodies.TextKind.TheVariants as kind
 use Rattle.desk_replies.specs.declared.bodies.Refusal.{Refusal}
 use Rattle.desk_replies.specs.declared.bodies.Refusal.TheVariants as refusal
 use Rattle.desk_replies.specs.Statuses.{refusal_status}
@@ -40,14 +37,6 @@ other_method methods = record { status = status.MethodNotAllowed; methods = Some
 -- a text breaks a rule at a line
 abbrev pub unprocessable : TextKind → ℕ × ℕ → Answer
 unprocessable kind fault = plain status.UnprocessableContent (text_fault_body kind (record { line = fault.0; rule = fault.1 }))
-
-abbrev pub kind_of : Section → TextKind
-kind_of section.Bundle = kind.Bundle
-kind_of section.Netlist = kind.Netlist
-kind_of section.Scan = kind.Scan
-kind_of section.Patterns = kind.Patterns
-kind_of section.Neighbours = kind.Neighbours
-kind_of section.Log = kind.Log
 
 -- ---- changes and looks
 

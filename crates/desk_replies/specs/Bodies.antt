@@ -3,10 +3,14 @@ use Rattle.std.specs.Prelude.{ℕ, List, [], ◌∷◌, ◌++◌, decimal, codes
 use Rattle.hex.specs.Hex.{encode_lower}
 use Rattle.scan_model.specs.ReportText.{line}
 use Rattle.text_parts.specs.declared.fault.TextFault.{TextFault}
+use Rattle.diagnosis.specs.declared.section.Section.TheVariants as section
+use Rattle.desk_heads.specs.declared.head.HeadFault.TheVariants as head
 use Rattle.desk_replies.specs.declared.bodies.TextKind.{TextKind}
 use Rattle.desk_replies.specs.declared.bodies.TextKind.TheVariants as kind
 use Rattle.desk_replies.specs.declared.bodies.Refusal.{Refusal}
 use Rattle.desk_replies.specs.declared.bodies.Refusal.TheVariants as refusal
+use Rattle.desk_replies.specs.declared.bodies.Entry.{Entry}
+use Rattle.desk_replies.specs.declared.bodies.Entry.TheVariants as entry
 
 -- a line of words and a number
 abbrev pub number_line : List ℕ → ℕ → List ℕ
@@ -29,6 +33,12 @@ log_body n = number_line (codes "log") n
 abbrev pub sign_off_line : ℕ → List ℕ
 sign_off_line n = number_line (codes "signoff") n
 
+-- an entry that was put, by its number
+abbrev pub entry_body : Entry → ℕ → List ℕ
+entry_body (entry.Design text) n = text
+entry_body entry.Log n = log_body n
+entry_body entry.SignOff n = sign_off_line n
+
 -- a sign-off that is read: its number, revision, signer and digest
 abbrev pub sign_off_body : ℕ → ℕ → List ℕ → List ℕ → List ℕ
 sign_off_body n revision signer digest =
@@ -44,13 +54,13 @@ design_head name digest = line (codes "design" ∷ name ∷ []) ++ digest_line (
 -- ---- refusals
 
 abbrev pub refusal_body : Refusal → List ℕ
-refusal_body refusal.BadRequest = codes "bad request\n"
+refusal_body (refusal.Head head.BadRequest) = codes "bad request\n"
+refusal_body (refusal.Head head.LengthRequired) = codes "length required\n"
+refusal_body (refusal.Head head.TooLarge) = codes "too large\n"
+refusal_body (refusal.Head head.HeadTooLarge) = codes "head too large\n"
+refusal_body (refusal.Head head.TransferEncoding) = codes "transfer encoding\n"
 refusal_body refusal.NoRoute = codes "no route\n"
 refusal_body refusal.MethodNotAllowed = codes "method not allowed\n"
-refusal_body refusal.LengthRequired = codes "length required\n"
-refusal_body refusal.TooLarge = codes "too large\n"
-refusal_body refusal.HeadTooLarge = codes "head too large\n"
-refusal_body refusal.TransferEncoding = codes "transfer encoding\n"
 refusal_body refusal.UnknownDesign = codes "rule 83\n"
 refusal_body refusal.UnknownDie = codes "rule 84\n"
 
@@ -87,12 +97,12 @@ abbrev pub no_memory_body : List ℕ
 no_memory_body = codes "memory\n"
 
 abbrev pub kind_word : TextKind → List ℕ
-kind_word kind.Bundle = codes "bundle"
-kind_word kind.Netlist = codes "netlist"
-kind_word kind.Scan = codes "scan"
-kind_word kind.Patterns = codes "patterns"
-kind_word kind.Neighbours = codes "neighbours"
-kind_word kind.Log = codes "log"
+kind_word (kind.Section section.Bundle) = codes "bundle"
+kind_word (kind.Section section.Netlist) = codes "netlist"
+kind_word (kind.Section section.Scan) = codes "scan"
+kind_word (kind.Section section.Patterns) = codes "patterns"
+kind_word (kind.Section section.Neighbours) = codes "neighbours"
+kind_word (kind.Section section.Log) = codes "log"
 kind_word kind.SignOff = codes "signoff"
 
 -- the first fault of a text

@@ -1,13 +1,15 @@
 -- The responses of answers, and what a look or a change is answered that is refused.
-use Rattle.std.specs.Prelude.{◌≡◌, Result, Ok, Err, ⊤}
+use Rattle.std.specs.Prelude.{◌≡◌, ℕ, List, Result, Ok, Err, ⊤}
 use Rattle.scan_model.specs.declared.rows.NoMemory.{NoMemory}
+use Rattle.desk_outside.specs.declared.deed.DeedKind.{DeedKind}
+use Rattle.diagnosis.specs.declared.put.Put.{Put}
 use Rattle.book.specs.declared.answers.PutFault.{PutFault}
 use Rattle.book.specs.declared.answers.PutFault.TheVariants as put_fault
 use Rattle.book.specs.declared.answers.LookFault.{LookFault}
 use Rattle.desk_replies.specs.declared.response.Response.{Response}
 use Rattle.desk_replies.specs.declared.response.Unanswered.{Unanswered}
 use Rattle.desk_replies.specs.declared.response.Unanswered.TheVariants as unanswered
-use Rattle.desk_replies.specs.Answers.{Answer, look_refused, put_refused}
+use Rattle.desk_replies.specs.Answers.{Answer, look_refused, put, put_refused}
 
 -- the response of an answer
 abbrev pub response_of : Answer → Response
@@ -23,3 +25,10 @@ abbrev pub RefusedPut : PutFault → Result Response Unanswered → Type 0
 RefusedPut fault (Ok response) = response ≡ response_of (put_refused fault)
 RefusedPut fault (Err unanswered.KeeperFault) = fault ≡ put_fault.Failed
 RefusedPut fault (Err unanswered.NoMemory) = fault ≡ put_fault.NoMemory
+
+-- what a change is answered, by the body for its number; the keeper may have failed, or memory have run out
+abbrev pub PutAnswered : (ℕ → List ℕ) → Result Put PutFault → Result Response Unanswered → Type 0
+PutAnswered body result (Ok response) =
+    ((what : DeedKind) → response ≡ response_of (put body what result)) × (¬ (result ≡ Err put_fault.Failed)) × (¬ (result ≡ Err put_fault.NoMemory))
+PutAnswered body result (Err unanswered.KeeperFault) = result ≡ Err put_fault.Failed
+PutAnswered body result (Err unanswered.NoMemory) = result ≡ Err put_fault.NoMemory

@@ -1,5 +1,6 @@
 -- The statuses of replies: RFC 9110, section 15, with 431 of RFC 6585 and 507 of RFC 4918.
 use Rattle.std.specs.Prelude.{ℕ, List, codes}
+use Rattle.desk_heads.specs.declared.head.HeadFault.TheVariants as head
 use Rattle.desk_replies.specs.declared.status.Status.{Status}
 use Rattle.desk_replies.specs.declared.status.Status.TheVariants as status
 use Rattle.desk_replies.specs.declared.bodies.Refusal.{Refusal}
@@ -37,12 +38,12 @@ phrase status.NoMemory = codes "Insufficient Storage"
 
 -- the status of a refusal whose body is fixed
 abbrev pub refusal_status : Refusal → Status
-refusal_status refusal.BadRequest = status.BadRequest
+refusal_status (refusal.Head head.BadRequest) = status.BadRequest
+refusal_status (refusal.Head head.LengthRequired) = status.LengthRequired
+refusal_status (refusal.Head head.TooLarge) = status.ContentTooLarge
+refusal_status (refusal.Head head.HeadTooLarge) = status.HeadTooLarge
+refusal_status (refusal.Head head.TransferEncoding) = status.NotImplemented
 refusal_status refusal.NoRoute = status.NotFound
 refusal_status refusal.MethodNotAllowed = status.MethodNotAllowed
-refusal_status refusal.LengthRequired = status.LengthRequired
-refusal_status refusal.TooLarge = status.ContentTooLarge
-refusal_status refusal.HeadTooLarge = status.HeadTooLarge
-refusal_status refusal.TransferEncoding = status.NotImplemented
 refusal_status refusal.UnknownDesign = status.NotFound
 refusal_status refusal.UnknownDie = status.NotFound

@@ -5,26 +5,20 @@ ghost use Rattle.desk_replies.specs.Bodies as body;
 
 use crate::short::Short;
 use crate::status::Status;
+use book::Section;
+use desk_heads::HeadFault;
 use scan_model::Digest;
 use text_parts::TextFault;
 
 /// A refusal whose body is fixed.
 #[derive(Clone, Copy, Debug, PartialEq, Eq)]
 pub enum Refusal {
-    /// The head isn't that of a request.
-    BadRequest,
+    /// The head is refused.
+    Head(HeadFault),
     /// No route has the target.
     NoRoute,
     /// The route hasn't the method.
     MethodNotAllowed,
-    /// The length of the body isn't given.
-    LengthRequired,
-    /// The body is too long.
-    TooLarge,
-    /// The head is too long.
-    HeadTooLarge,
-    /// The body is in a transfer coding.
-    TransferEncoding,
     /// Rule 83: no design has the name.
     UnknownDesign,
     /// Rule 84: the die has no log.
@@ -37,13 +31,13 @@ impl Refusal {
         ensures { result ≡ refusal_status self.now }
     {
         match self {
-            Refusal::BadRequest => Status::BadRequest,
+            Refusal::Head(HeadFault::BadRequest) => Status::BadRequest,
+            Refusal::Head(HeadFault::LengthRequired) => Status::LengthRequired,
+            Refusal::Head(HeadFault::TooLarge) => Status::ContentTooLarge,
+            Refusal::Head(HeadFault::HeadTooLarge) => Status::HeadTooLarge,
+            Refusal::Head(HeadFault::TransferEncoding) => Status::NotImplemented,
             Refusal::NoRoute | Refusal::UnknownDesign | Refusal::UnknownDie => Status::NotFound,
             Refusal::MethodNotAllowed => Status::MethodNotAllowed,
-            Refusal::LengthRequired => Status::LengthRequired,
-            Refusal::TooLarge => Status::ContentTooLarge,
-            Refusal::HeadTooLarge => Status::HeadTooLarge,
-            Refusal::TransferEncoding => Status::NotImplemented,
         }
     }
 
@@ -52,34 +46,24 @@ impl Refusal {
         ensures { result.now ≡ body.refusal_body self.now }
     {
         match self {
-            Refusal::BadRequest => b"bad request\n",
+            Refusal::Head(HeadFault::BadRequest) => b"bad request\n",
+            Refusal::Head(HeadFault::LengthRequired) => b"length required\n",
+            Refusal::Head(HeadFault::TooLarge) => b"too large\n",
+            Refusal::Head(HeadFault::HeadTooLarge) => b"head too large\n",
+            Refusal::Head(HeadFault::TransferEncoding) => b"transfer encoding\n",
             Refusal::NoRoute => b"no route\n",
             Refusal::MethodNotAllowed => b"method not allowed\n",
-            Refusal::LengthRequired => b"length required\n",
-            Refusal::TooLarge => b"too large\n",
-            Refusal::HeadTooLarge => b"head too large\n",
-            Refusal::TransferEncoding => b"transfer encoding\n",
             Refusal::UnknownDesign => b"rule 83\n",
             Refusal::UnknownDie => b"rule 84\n",
         }
     }
 }
 
-/// A text that a body holds, and that may break a rule.
+/// A text that may break a rule, by the word that a body has for it.
 #[derive(Clone, Copy, Debug, PartialEq, Eq)]
 pub enum TextKind {
-    /// The bundle itself: its lines that begin with `%`.
-    Bundle,
-    /// The netlist of a bundle, of which lines count from its own first.
-    Netlist,
-    /// The scan text of a bundle.
-    Scan,
-    /// The patterns of a bundle.
-    Patterns,
-    /// The neighbour list of a bundle, of which records count.
-    Neighbours,
-    /// A fail log.
-    Log,
+    /// A bundle, a section of one, or a fail log.
+    Section(Section),
     /// A sign-off.
     SignOff,
 }
@@ -91,12 +75,12 @@ impl TextKind {
         ensures short { length result.now ≤ 10 }
     {
         match self {
-            TextKind::Bundle => "bundle",
-            TextKind::Netlist => "netlist",
-            TextKind::Scan => "scan",
-            TextKind::Patterns => "patterns",
-            TextKind::Neighbours => "neighbours",
-            TextKind::Log => "log",
+            TextKind::Section(Section::Bundle) => "bundle",
+            TextKind::Section(Section::Netlist) => "netlist",
+            TextKind::Section(Section::Scan) => "scan",
+            TextKind::Section(Section::Patterns) => "patterns",
+            TextKind::Section(Section::Neighbours) => "neighbours",
+            TextKind::Section(Section::Log) => "log",
             TextKind::SignOff => "signoff",
         }
     }
@@ -232,4 +216,25 @@ pub fn text_fault_body(kind: TextKind, fault: TextFault) -> Short
     text.add_number(line);
     text.add_number_line(b" rule", u64::from(rule));
     text
+}
+
+/// What is put, by the body of the reply: that of a design is known, those of a log and a sign-off tell its number.
+#[derive(Debug, Drop)]
+pub enum Entry {
+    Design(Short),
+    Log,
+    SignOff,
+}
+
+impl Entry {
+    // The body where it has this number.
+    pub(crate) fn body(self, number: u64) -> Short
+        ensures { result ≡ body.entry_body self number }
+    {
+        match self {
+            Entry::Design(text) => text,
+            Entry::Log => log_body(number),
+            Entry::SignOff => sign_off_line(number),
+        }
+    }
 }

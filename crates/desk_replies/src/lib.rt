@@ -9,12 +9,12 @@ mod short;
 mod status;
 
 pub use bodies::{
-    Refusal, TextKind, design_body, design_head, digest_differs_body, full_body, log_body,
+    Entry, Refusal, TextKind, design_body, design_head, digest_differs_body, full_body, log_body,
     name_taken_body, sign_off_body, sign_off_line, text_fault_body, unknown_fault_body,
     unknown_line_body, unknown_revision_body, unknown_sign_body,
 };
 pub use methods::Methods;
 pub use reply::{Reply, interim, keeper_fault, no_memory};
-pub use response::{Body, Response, Unanswered, kind_of, refused_look, refused_put};
+pub use response::{Body, Response, Unanswered, put_response, refused_look};
 pub use short::Short;
 pub use status::Status;

@@ -6,17 +6,18 @@ ghost use Rattle.book.specs.declared.answers.LookFault.TheVariants as look_fault
 ghost use Rattle.book.specs.declared.answers.PutFault.TheVariants as put_fault;
 ghost use Rattle.diagnosis.specs.declared.put.Put.TheVariants.{Created, Same};
 ghost use Rattle.desk_replies.specs.declared.response.Unanswered.TheVariants as unanswered;
-ghost use Rattle.desk_replies.specs.Answers.{plain, refused, other_method, unprocessable, kind_of};
-ghost use Rattle.desk_replies.specs.Responses.{response_of, RefusedLook, RefusedPut};
+ghost use Rattle.desk_replies.specs.Answers.{plain, refused, other_method, unprocessable};
+ghost use Rattle.desk_replies.specs.Responses.{response_of, RefusedLook, RefusedPut, PutAnswered};
+ghost use Rattle.desk_replies.specs.Bodies.{entry_body};
 
 use crate::bodies::{
-    Refusal, TextKind, digest_differs_body, full_body, name_taken_body, text_fault_body,
+    Entry, Refusal, TextKind, digest_differs_body, full_body, name_taken_body, text_fault_body,
     unknown_revision_body, unknown_sign_body,
 };
 use crate::methods::Methods;
 use crate::short::Short;
 use crate::status::Status;
-use book::{LookFault, PutFault, Section};
+use book::{LookFault, Put, PutFault};
 use report_cache::WholeReport;
 use scan_model::{Name, NoMemory};
 use std::marker::Model;
@@ -165,20 +166,6 @@ impl Response {
     }
 }
 
-/// The text that a section is.
-pub fn kind_of(section: Section) -> TextKind
-    ensures { result ≡ kind_of section }
-{
-    match section {
-        Section::Bundle => TextKind::Bundle,
-        Section::Netlist => TextKind::Netlist,
-        Section::Scan => TextKind::Scan,
-        Section::Patterns => TextKind::Patterns,
-        Section::Neighbours => TextKind::Neighbours,
-        Section::Log => TextKind::Log,
-    }
-}
-
 /// The answer to a look that found nothing. An error says that its fault was want of memory.
 pub fn refused_look(fault: LookFault) -> Result<Response, NoMemory>
     ensures answer { RefusedLook fault result }
@@ -197,8 +184,19 @@ pub fn refused_look(fault: LookFault) -> Result<Response, NoMemory>
     })
 }
 
-/// The answer to a change that was refused. An error says that its fault was the keeper's failure or want of memory.
-pub fn refused_put(fault: PutFault) -> Result<Response, Unanswered>
+/// The answer to a change. An error says that the keeper failed or memory ran out.
+pub fn put_response(entry: Entry, put: Result<Put, PutFault>) -> Result<Response, Unanswered>
+    ensures { PutAnswered (entry_body entry) put result }
+{
+    match put {
+        Ok(Put::Created { number }) => Ok(Response::short(Status::Created, entry.body(number))),
+        Ok(Put::Same { number }) => Ok(Response::short(Status::Ok, entry.body(number))),
+        Err(fault) => refused_put(fault),
+    }
+}
+
+// The answer to a change that was refused. An error says that its fault was the keeper's failure or want of memory.
+fn refused_put(fault: PutFault) -> Result<Response, Unanswered>
     ensures answer { RefusedPut fault result }
     ensures keeper { OnOk result (¬ (fault ≡ put_fault.Failed)) }
     ensures memory { OnOk result (¬ (fault ≡ put_fault.NoMemory)) }

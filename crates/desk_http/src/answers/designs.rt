@@ -7,11 +7,11 @@ ghost use Rattle.desk_http.specs.Answering.{AnsweredBy};
 ghost use Rattle.desk_replies.specs.Responses.{response_of};
 
 use crate::sessions::seat::SeatAt;
-use book::{BundleFault, Put, read_bundle};
+use book::{BundleFault, read_bundle};
 use desk_outside::Gate;
 use desk_replies::{
-    Body, Response, Status, Unanswered, design_body, design_head, kind_of, refused_look,
-    refused_put, unknown_fault_body,
+    Body, Entry, Response, Status, TextKind, Unanswered, design_body, design_head, put_response,
+    refused_look, unknown_fault_body,
 };
 use diag_report::{fails_text, summary_text};
 use fault_universe::universe_len;
@@ -38,7 +38,7 @@ pub(super) fn put_design<R, D, S: SeatAt<R, D>, G: Gate>(
     let design = match read_bundle(alloc, name, text) {
         Ok(design) => design,
         Err(BundleFault::Text { section, fault }) => {
-            return Ok(Response::unprocessable(kind_of(section), fault));
+            return Ok(Response::unprocessable(TextKind::Section(section), fault));
         }
         Err(BundleFault::NoMemory) => return Err(Unanswered::NoMemory),
     };
@@ -47,11 +47,7 @@ pub(super) fn put_design<R, D, S: SeatAt<R, D>, G: Gate>(
         return Err(Unanswered::NoMemory);
     };
     gate.pass();
-    match seat.put_design(rt, desk, &design) {
-        Ok(Put::Created { .. }) => Ok(Response::short(Status::Created, body)),
-        Ok(Put::Same { .. }) => Ok(Response::short(Status::Ok, body)),
-        Err(fault) => refused_put(fault),
-    }
+    put_response(Entry::Design(body), seat.put_design(rt, desk, &design))
 }
 
 /// The digest of a design's bundle, and its summary.

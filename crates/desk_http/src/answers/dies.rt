@@ -2,19 +2,20 @@
 ghost use Rattle.std.specs.Prelude.{◌≡◌, [], List, true, IfOk};
 ghost use Rattle.scan_model.specs.Words.{is_tag};
 ghost use Rattle.report_cache.specs.Truth.{IsTrueFor};
-ghost use Rattle.desk_http.specs.RouteAnswers.{log_post, report_get, page_get};
+ghost use Rattle.desk_http.specs.RouteAnswers.{log_post, report_get, page_get, page_of_lines};
 ghost use Rattle.desk_outside.specs.declared.deed.Deed.{Deed};
 ghost use Rattle.desk_http.specs.Seats.{IsPrefix, Did};
 ghost use Rattle.desk_http.specs.Answering.{AnsweredBy};
 ghost use Rattle.desk_replies.specs.Responses.{response_of};
 
 use crate::sessions::seat::SeatAt;
-use book::{Put, log_of};
+use book::{Section, log_of};
 use desk_outside::Gate;
 use desk_replies::{
-    Body, Response, Status, TextKind, Unanswered, log_body, refused_look, refused_put,
+    Body, Entry, Response, Status, TextKind, Unanswered, put_response, refused_look,
     unknown_line_body,
 };
+use diag_report::Report;
 use report_cache::ReportCache;
 use scan_model::{Name, NoMemory};
 use std::alloc::Global;
@@ -47,18 +48,17 @@ pub(super) fn post_log<R, D, S: SeatAt<R, D>, G: Gate>(
     let _name = design.name();
     let log = match log_of(alloc, &design, die, text) {
         Ok(log) => log,
-        Err(ReadFault::Text(fault)) => return Ok(Response::unprocessable(TextKind::Log, fault)),
+        Err(ReadFault::Text(fault)) => {
+            let kind = TextKind::Section(Section::Log);
+            return Ok(Response::unprocessable(kind, fault));
+        }
         Err(ReadFault::NoMemory) => return Err(Unanswered::NoMemory),
     };
     let Ok(log) = Arc::new(alloc, log) else {
         return Err(Unanswered::NoMemory);
     };
     gate.pass();
-    match seat.put_log(rt, desk, &log) {
-        Ok(Put::Created { number }) => Ok(Response::short(Status::Created, log_body(number))),
-        Ok(Put::Same { number }) => Ok(Response::short(Status::Ok, log_body(number))),
-        Err(fault) => refused_put(fault),
-    }
+    put_response(Entry::Log, seat.put_log(rt, desk, &log))
 }
 
 /// The report of a die at a revision, or at its last.
@@ -111,7 +111,14 @@ pub(super) fn get_page<R: Threads + Sync, D, S: SeatAt<R, D>>(
         Err(fault) => return refused_look(fault),
     };
     let report = cache.report(rt, alloc, &view)?;
-    match report.report().page(line) {
+    page_at(alloc, report.report(), line)
+}
+
+// The page of these lines that begins with a line.
+fn page_at(alloc: Global, report: &Report, line: u64) -> Result<Response, NoMemory>
+    ensures { IfOk result (λ r. r ≡ response_of (page_of_lines report.now line)) }
+{
+    match report.page(line) {
         Ok(page) => {
             let text = Name::copy_of(alloc, page)?;
             Ok(Response::plain(Status::Ok, Body::text(text)))

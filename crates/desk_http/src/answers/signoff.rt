@@ -3,25 +3,15 @@ ghost use Rattle.std.specs.Prelude.{◌≡◌, ℕ, List, Some, None, IfOk, IfEr
 ghost use Rattle.serde_json.specs.Read.{read};
 ghost use Rattle.serde_json.specs.View.{view};
 ghost use Rattle.desk_http.specs.declared.answers.signoff.BodyFault.TheVariants as fault;
-ghost use Rattle.desk_http.specs.declared.answers.signoff.SignBody.{SignBody};
+ghost use Rattle.book.specs.declared.sign.Sign.{Sign};
 ghost use Rattle.desk_http.specs.SignBodies.{HasParts, IsSign, IsSignBody};
 
+use book::Sign;
 use hex::FromHex;
 use scan_model::{Digest, Name, NoMemory};
 use serde_json::Value;
 use std::alloc::Global;
 use text_parts::is_tag;
-
-/// Who signs off which report.
-#[derive(Debug, Drop)]
-pub struct SignBody {
-    /// The number of first logs that the report is made of.
-    pub revision: u64,
-    /// A tag.
-    pub signer: Name,
-    /// The digest that the report is expected to have.
-    pub digest: Digest,
-}
 
 /// Why a body wasn't taken.
 #[derive(Clone, Copy, Debug, PartialEq, Eq)]
@@ -42,9 +32,9 @@ impl From<NoMemory> for BodyFault {
 }
 
 /// The sign-off that a body asks for. Of a member that comes twice the last value counts.
-pub fn sign_body(alloc: Global, bytes: &[u8]) -> Result<SignBody, BodyFault>
+pub fn sign_body(alloc: Global, bytes: &[u8]) -> Result<Sign, BodyFault>
     ensures sign { IfOk result (λ body. IsSignBody bytes.now body) }
-    ensures refused { IfErr result (λ e. e ≡ fault.NotASign → (body : SignBody) → ¬ (IsSignBody bytes.now body)) }
+    ensures refused { IfErr result (λ e. e ≡ fault.NotASign → (body : Sign) → ¬ (IsSignBody bytes.now body)) }
 {
     let value = value_of(alloc, bytes)?;
     sign_of(alloc, &value)
@@ -63,9 +53,9 @@ fn value_of(alloc: Global, bytes: &[u8]) -> Result<Value, BodyFault>
 }
 
 // The sign-off that a value stands for.
-fn sign_of(alloc: Global, value: &Value) -> Result<SignBody, BodyFault>
+fn sign_of(alloc: Global, value: &Value) -> Result<Sign, BodyFault>
     ensures sign { IfOk result (λ body. IsSign (view value.now) body) }
-    ensures refused { IfErr result (λ e. e ≡ fault.NotASign → (body : SignBody) → ¬ (IsSign (view value.now) body)) }
+    ensures refused { IfErr result (λ e. e ≡ fault.NotASign → (body : Sign) → ¬ (IsSign (view value.now) body)) }
 {
     let Some(parts) = parts_of(value) else {
         return Err(BodyFault::NotASign);
@@ -76,7 +66,7 @@ fn sign_of(alloc: Global, value: &Value) -> Result<SignBody, BodyFault>
     let Ok(digest) = <[u8; 32] as FromHex>::from_hex(parts.digest) else {
         return Err(BodyFault::NotASign);
     };
-    Ok(SignBody {
+    Ok(Sign {
         revision: parts.revision,
         signer: Name::copy_of(alloc, parts.signer.as_bytes())?,
         digest: Digest::from_bytes(digest),

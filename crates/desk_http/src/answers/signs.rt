@@ -3,18 +3,18 @@ ghost use Rattle.std.specs.Prelude.{◌≡◌, [], true, List, IfOk, Option, Som
 ghost use Rattle.desk_outside.specs.declared.deed.Deed.{Deed};
 ghost use Rattle.report_cache.specs.Truth.{IsTrueFor};
 ghost use Rattle.scan_model.specs.Words.{is_tag};
-ghost use Rattle.desk_http.specs.declared.answers.signoff.SignBody.{SignBody};
+ghost use Rattle.book.specs.declared.sign.Sign.{Sign};
 ghost use Rattle.desk_http.specs.RouteAnswers.{sign_post, sign_get};
 ghost use Rattle.desk_http.specs.Seats.{IsPrefix, Did};
 ghost use Rattle.desk_http.specs.Answering.{Answered, AnsweredBy, ReadsSign};
 ghost use Rattle.desk_replies.specs.Responses.{response_of};
 
-use crate::answers::signoff::{BodyFault, SignBody, sign_body};
+use crate::answers::signoff::{BodyFault, sign_body};
 use crate::sessions::seat::SeatAt;
-use book::{Checked, Put};
+use book::{Checked, Sign};
 use desk_outside::Gate;
 use desk_replies::{
-    Response, Status, TextKind, Unanswered, refused_look, refused_put, sign_off_body, sign_off_line,
+    Entry, Response, Status, TextKind, Unanswered, put_response, refused_look, sign_off_body,
 };
 use report_cache::ReportCache;
 use scan_model::NoMemory;
@@ -39,7 +39,7 @@ pub(super) fn post_sign<R: Threads + Sync, D, S: SeatAt<R, D>, G: Gate>(
     ensures stays { S.belongs seat.new desk.now }
     ensures cache { (later : List Deed) → IsPrefix (S.facts seat.new desk.now).seen later → IsTrueFor cache.old later → IsTrueFor cache.new later }
     ensures answered { let s = S.facts seat.old desk.now in
-        Answered (λ deeds answer. (sign : Option SignBody) × ReadsSign body.now sign × (answer ≡ sign_post s.limit deeds design.now die.now sign)) result s (S.facts seat.new desk.now) }
+        Answered (λ deeds answer. (sign : Option Sign) × ReadsSign body.now sign × (answer ≡ sign_post s.limit deeds design.now die.now sign)) result s (S.facts seat.new desk.now) }
 {
     match sign_body(alloc, body) {
         Ok(sign) => put_sign(rt, alloc, desk, seat, cache, gate, design, die, &sign),
@@ -61,7 +61,7 @@ fn put_sign<R: Threads + Sync, D, S: SeatAt<R, D>, G: Gate>(
     gate: &mut G,
     design: &[u8],
     die: &[u8],
-    sign: &SignBody,
+    sign: &Sign,
 ) -> Result<Response, Unanswered>
     requires tag { is_tag sign.now.signer ≡ true }
     requires belongs { S.belongs seat.old desk.now }
@@ -80,11 +80,10 @@ fn put_sign<R: Threads + Sync, D, S: SeatAt<R, D>, G: Gate>(
     let report = cache.report(rt, alloc, &view)?;
     let checked = Checked::by_digest(view, *report.digest());
     gate.pass();
-    match seat.sign(rt, desk, &checked, &sign.signer, &sign.digest) {
-        Ok(Put::Created { number }) => Ok(Response::short(Status::Created, sign_off_line(number))),
-        Ok(Put::Same { number }) => Ok(Response::short(Status::Ok, sign_off_line(number))),
-        Err(fault) => refused_put(fault),
-    }
+    put_response(
+        Entry::SignOff,
+        seat.sign(rt, desk, &checked, &sign.signer, &sign.digest),
+    )
 }
 
 /// A sign-off of a die, by its number from 1.

@@ -8,24 +8,25 @@ ghost use Rattle.desk_outside.specs.Faults.{Rose};
 ghost use Rattle.desk_outside.specs.Bytes.{AddsPart};
 ghost use Rattle.report_cache.specs.Truth.{IsTrueFor};
 ghost use Rattle.desk_http.specs.declared.sessions.requests.SessionEnd.{SessionEnd};
+ghost use Rattle.desk_replies.specs.declared.bodies.Refusal.TheVariants as refusal;
 ghost use Rattle.desk_replies.specs.declared.status.Status.TheVariants as status;
 ghost use Rattle.desk_replies.specs.Bodies.{refusal_body, no_memory_body};
 ghost use Rattle.desk_replies.specs.Statuses.{refusal_status};
 ghost use Rattle.desk_replies.specs.Replies.{reply_text};
 ghost use Rattle.desk_http.specs.Answering.{IsAnswer};
 ghost use Rattle.desk_http.specs.Seats.{IsPrefix};
-ghost use Rattle.desk_http.specs.Sessions.{IsSession, Rise, head_refusal, interim_if};
+ghost use Rattle.desk_http.specs.Sessions.{IsSession, Rise, interim_if};
 ghost use Rattle.desk_http.specs.Turns.{Replied, Responds, Takes};
 ghost use Rattle.desk_heads.specs.Sees.{Sees, IsHeadIn};
 ghost use Rattle.desk_heads.specs.Items.{item_limit};
 ghost use Rattle.httparse.specs.Spans.{span_bytes};
 ghost use Rattle.desk_heads.specs.declared.head.HeadSeen.TheVariants as seen;
 
-use crate::answers::answer;
+use crate::answers::{Request, answer};
 use crate::routes::Routes;
 use crate::sessions::marks::{ITEM_LIMIT, Marks};
 use crate::sessions::seat::SeatAt;
-use desk_heads::{BodyRead, Head, HeadFault, HeadRead, Inbox, Method, read_head, read_to};
+use desk_heads::{BodyRead, Head, HeadFault, HeadRead, Inbox, read_head, read_to};
 use desk_outside::{Failed, Gate, Link, send_all};
 use desk_replies::{Refusal, Reply, Response, Unanswered, interim, keeper_fault, no_memory};
 use report_cache::ReportCache;
@@ -138,57 +139,56 @@ fn send_no_memory<L: Link>(link: &mut L) -> Option<SessionEnd>
 
 // Sends the refusal of a head, which closes.
 fn send_refusal<L: Link>(link: &mut L, fault: HeadFault) -> Option<SessionEnd>
-    ensures sent { let refusal = head_refusal fault in
-        Replied result true (reply_text (refusal_status refusal) None true (refusal_body refusal)) (L.sent link.old) (L.sent link.new) }
+    ensures sent { let why = refusal.Head fault in
+        Replied result true (reply_text (refusal_status why) None true (refusal_body why)) (L.sent link.old) (L.sent link.new) }
     ensures left { L.left link.new ≡ L.left link.old }
     ensures later { L.faults link.old ≤ L.faults link.new }
     ensures failed { result ≡ Some SessionEnd.LinkFault → Rose (L.faults link.old) (L.faults link.new) }
 {
-    send_response(link, &Response::refused(refusal_of(fault)), true)
+    send_response(link, &Response::refused(Refusal::Head(fault)), true)
 }
 
-fn refusal_of(fault: HeadFault) -> Refusal
-    ensures { result ≡ head_refusal fault }
-{
-    match fault {
-        HeadFault::BadRequest => Refusal::BadRequest,
-        HeadFault::LengthRequired => Refusal::LengthRequired,
-        HeadFault::TooLarge => Refusal::TooLarge,
-        HeadFault::HeadTooLarge => Refusal::HeadTooLarge,
-        HeadFault::TransferEncoding => Refusal::TransferEncoding,
-    }
+// Where the requests of a session are answered.
+#[derive(Drop)]
+struct Site<'a, R, D> {
+    rt: &'a R,
+    alloc: Global,
+    routes: &'a Routes,
+    desk: &'a D,
 }
 
 // Answers a request, and sends its final reply.
 fn respond<R: Threads + Sync, D, S: SeatAt<R, D>, G: Gate, L: Link>(
-    rt: &R,
-    alloc: Global,
-    routes: &Routes,
-    desk: &D,
+    site: &Site<'_, R, D>,
     seat: &mut S,
     cache: &mut ReportCache,
     gate: &mut G,
     link: &mut L,
-    target: &str,
-    method: Method,
-    body: &[u8],
+    request: &Request<'_>,
     closes: bool,
 ) -> TurnEnd
-    requires ascii { IsAscii target.now }
-    requires belongs { S.belongs seat.old desk.now }
-    requires cache { IsTrueFor cache.old (S.facts seat.old desk.now).seen }
-    ensures stays { S.belongs seat.new desk.now }
-    ensures cache { (later : List Deed) → IsPrefix (S.facts seat.new desk.now).seen later → IsTrueFor cache.old later → IsTrueFor cache.new later }
-    ensures responds { let s = S.facts seat.old desk.now in
-        Responds (λ deeds answer. IsAnswer s.limit deeds target.now method body.now answer) closes result.mark result.end s (S.facts seat.new desk.now) (L.sent link.old) (L.sent link.new) }
+    requires ascii { IsAscii request.now.target.now }
+    requires belongs { S.belongs seat.old site.now.desk.now }
+    requires cache { IsTrueFor cache.old (S.facts seat.old site.now.desk.now).seen }
+    ensures stays { S.belongs seat.new site.now.desk.now }
+    ensures cache { (later : List Deed) → IsPrefix (S.facts seat.new site.now.desk.now).seen later → IsTrueFor cache.old later → IsTrueFor cache.new later }
+    ensures responds { let s = S.facts seat.old site.now.desk.now in
+        Responds (λ deeds answer. IsAnswer s.limit deeds request.now.target.now request.now.method request.now.body.now answer) closes result.mark result.end s (S.facts seat.new site.now.desk.now) (L.sent link.old) (L.sent link.new) }
     ensures left { L.left link.new ≡ L.left link.old }
     ensures later { L.faults link.old ≤ L.faults link.new }
     ensures failed { result.end ≡ Some SessionEnd.LinkFault → Rose (L.faults link.old) (L.faults link.new) }
 {
     let came = answer(
-        rt, alloc, routes, desk, seat, cache, gate, target, method, body,
+        site.rt,
+        site.alloc,
+        site.routes,
+        site.desk,
+        seat,
+        cache,
+        gate,
+        request,
     );
-    let mark = Some(seat.mark(desk));
+    let mark = Some(seat.mark(site.desk));
     let end = match came {
         Ok(response) => send_response(link, &response, closes),
         Err(Unanswered::KeeperFault) => send_fixed(link, keeper_fault(closes), closes),
@@ -213,10 +213,7 @@ fn invite<L: Link>(link: &mut L, awaits: bool) -> Result<(), Failed>
 
 // Answers the request that came whole at the front of the inbox, and takes it off.
 fn respond_to_front<R: Threads + Sync, D, S: SeatAt<R, D>, G: Gate, L: Link>(
-    rt: &R,
-    alloc: Global,
-    routes: &Routes,
-    desk: &D,
+    site: &Site<'_, R, D>,
     seat: &mut S,
     cache: &mut ReportCache,
     gate: &mut G,
@@ -227,13 +224,13 @@ fn respond_to_front<R: Threads + Sync, D, S: SeatAt<R, D>, G: Gate, L: Link>(
 ) -> TurnEnd
     requires head { IsHeadIn inbox.old head }
     requires whole { head.length + head.body ≤ length inbox.old }
-    requires belongs { S.belongs seat.old desk.now }
-    requires cache { IsTrueFor cache.old (S.facts seat.old desk.now).seen }
-    ensures stays { S.belongs seat.new desk.now }
-    ensures cache { (later : List Deed) → IsPrefix (S.facts seat.new desk.now).seen later → IsTrueFor cache.old later → IsTrueFor cache.new later }
-    ensures responds { let s = S.facts seat.old desk.now in
+    requires belongs { S.belongs seat.old site.now.desk.now }
+    requires cache { IsTrueFor cache.old (S.facts seat.old site.now.desk.now).seen }
+    ensures stays { S.belongs seat.new site.now.desk.now }
+    ensures cache { (later : List Deed) → IsPrefix (S.facts seat.new site.now.desk.now).seen later → IsTrueFor cache.old later → IsTrueFor cache.new later }
+    ensures responds { let s = S.facts seat.old site.now.desk.now in
         Responds (λ deeds answer. IsAnswer s.limit deeds (span_bytes inbox.old head.target) head.method (slice_range inbox.old head.length (head.length + head.body)) answer)
-        closes result.mark result.end s (S.facts seat.new desk.now) (L.sent link.old) (L.sent link.new) }
+        closes result.mark result.end s (S.facts seat.new site.now.desk.now) (L.sent link.old) (L.sent link.new) }
     ensures used { inbox.new ≡ drop (head.length + head.body) inbox.old }
     ensures left { L.left link.new ≡ L.left link.old }
     ensures later { L.faults link.old ≤ L.faults link.new }
@@ -243,21 +240,12 @@ fn respond_to_front<R: Threads + Sync, D, S: SeatAt<R, D>, G: Gate, L: Link>(
     let Ok(target) = str::from_utf8(&bytes[head.target.start..head.target.end]) else {
         unreachable!()
     };
-    let body = &bytes[head.length..head.length + head.body];
-    let turn = respond(
-        rt,
-        alloc,
-        routes,
-        desk,
-        seat,
-        cache,
-        gate,
-        link,
+    let request = Request {
+        method: head.method,
         target,
-        head.method,
-        body,
-        closes,
-    );
+        body: &bytes[head.length..head.length + head.body],
+    };
+    let turn = respond(site, seat, cache, gate, link, &request, closes);
     inbox.use_up(head.length + head.body);
     turn
 }
@@ -272,10 +260,7 @@ fn closes_behind(before: usize, asked: bool) -> bool
 
 // Reads the body of a request whose head is at the front of the inbox, and answers it.
 fn take_request<R: Threads + Sync, D, S: SeatAt<R, D>, G: Gate, L: Link>(
-    rt: &R,
-    alloc: Global,
-    routes: &Routes,
-    desk: &D,
+    site: &Site<'_, R, D>,
     seat: &mut S,
     cache: &mut ReportCache,
     gate: &mut G,
@@ -288,11 +273,11 @@ fn take_request<R: Threads + Sync, D, S: SeatAt<R, D>, G: Gate, L: Link>(
     requires head { Sees inbox.old (seen.Whole head) }
     requires piece { 0 < length piece.old }
     requires before { before < item_limit }
-    requires belongs { S.belongs seat.old desk.now }
-    requires cache { IsTrueFor cache.old (S.facts seat.old desk.now).seen }
-    ensures stays { S.belongs seat.new desk.now }
-    ensures cache { (later : List Deed) → IsPrefix (S.facts seat.new desk.now).seen later → IsTrueFor cache.old later → IsTrueFor cache.new later }
-    ensures takes { Takes before result.mark result.end (S.facts seat.old desk.now) (S.facts seat.new desk.now)
+    requires belongs { S.belongs seat.old site.now.desk.now }
+    requires cache { IsTrueFor cache.old (S.facts seat.old site.now.desk.now).seen }
+    ensures stays { S.belongs seat.new site.now.desk.now }
+    ensures cache { (later : List Deed) → IsPrefix (S.facts seat.new site.now.desk.now).seen later → IsTrueFor cache.old later → IsTrueFor cache.new later }
+    ensures takes { Takes before result.mark result.end (S.facts seat.old site.now.desk.now) (S.facts seat.new site.now.desk.now)
         (prepend_known inbox.old (L.left link.old)) (prepend_known inbox.new (L.left link.new)) (L.sent link.old) (L.sent link.new) }
     ensures later { L.faults link.old ≤ L.faults link.new }
     ensures failed { result.end ≡ Some SessionEnd.LinkFault → Rose (L.faults link.old) (L.faults link.new) }
@@ -308,7 +293,7 @@ fn take_request<R: Threads + Sync, D, S: SeatAt<R, D>, G: Gate, L: Link>(
         BodyRead::End => return TurnEnd::silent(SessionEnd::Cut),
         BodyRead::LinkFault => return TurnEnd::silent(SessionEnd::LinkFault),
         BodyRead::NoMemory => {
-            let mark = Some(seat.mark(desk));
+            let mark = Some(seat.mark(site.desk));
             return TurnEnd {
                 mark,
                 end: send_no_memory(link),
@@ -316,17 +301,12 @@ fn take_request<R: Threads + Sync, D, S: SeatAt<R, D>, G: Gate, L: Link>(
         }
     }
     let closes = closes_behind(before, head.closes);
-    respond_to_front(
-        rt, alloc, routes, desk, seat, cache, gate, link, inbox, head, closes,
-    )
+    respond_to_front(site, seat, cache, gate, link, inbox, head, closes)
 }
 
 // Reads what comes next, and answers it.
 fn take_turn<R: Threads + Sync, D, S: SeatAt<R, D>, G: Gate, L: Link>(
-    rt: &R,
-    alloc: Global,
-    routes: &Routes,
-    desk: &D,
+    site: &Site<'_, R, D>,
     seat: &mut S,
     cache: &mut ReportCache,
     gate: &mut G,
@@ -337,33 +317,31 @@ fn take_turn<R: Threads + Sync, D, S: SeatAt<R, D>, G: Gate, L: Link>(
 ) -> TurnEnd
     requires piece { 0 < length piece.old }
     requires before { before < item_limit }
-    requires belongs { S.belongs seat.old desk.now }
-    requires cache { IsTrueFor cache.old (S.facts seat.old desk.now).seen }
-    ensures stays { S.belongs seat.new desk.now }
-    ensures cache { (later : List Deed) → IsPrefix (S.facts seat.new desk.now).seen later → IsTrueFor cache.old later → IsTrueFor cache.new later }
-    ensures takes { Takes before result.mark result.end (S.facts seat.old desk.now) (S.facts seat.new desk.now)
+    requires belongs { S.belongs seat.old site.now.desk.now }
+    requires cache { IsTrueFor cache.old (S.facts seat.old site.now.desk.now).seen }
+    ensures stays { S.belongs seat.new site.now.desk.now }
+    ensures cache { (later : List Deed) → IsPrefix (S.facts seat.new site.now.desk.now).seen later → IsTrueFor cache.old later → IsTrueFor cache.new later }
+    ensures takes { Takes before result.mark result.end (S.facts seat.old site.now.desk.now) (S.facts seat.new site.now.desk.now)
         (prepend_known inbox.old (L.left link.old)) (prepend_known inbox.new (L.left link.new)) (L.sent link.old) (L.sent link.new) }
     ensures later { L.faults link.old ≤ L.faults link.new }
     ensures failed { result.end ≡ Some SessionEnd.LinkFault → Rose (L.faults link.old) (L.faults link.new) }
 {
     match read_head(inbox, link, piece) {
         HeadRead::Refused(fault) => {
-            let mark = Some(seat.mark(desk));
+            let mark = Some(seat.mark(site.desk));
             TurnEnd {
                 mark,
                 end: send_refusal(link, fault),
             }
         }
         HeadRead::Whole(head) => {
-            take_request(
-                rt, alloc, routes, desk, seat, cache, gate, link, inbox, piece, head, before,
-            )
+            take_request(site, seat, cache, gate, link, inbox, piece, head, before)
         }
         HeadRead::End if inbox.bytes().is_empty() => TurnEnd::silent(SessionEnd::Ended),
         HeadRead::End => TurnEnd::silent(SessionEnd::Cut),
         HeadRead::LinkFault => TurnEnd::silent(SessionEnd::LinkFault),
         HeadRead::NoMemory => {
-            let mark = Some(seat.mark(desk));
+            let mark = Some(seat.mark(site.desk));
             TurnEnd {
                 mark,
                 end: send_no_memory(link),
@@ -434,13 +412,16 @@ pub fn session_at<R: Threads + Sync, D, S: SeatAt<R, D>, L: Link, G: Gate>(
         mut piece,
         mut marks,
     } = room;
+    let site = Site {
+        rt,
+        alloc,
+        routes: &routes,
+        desk,
+    };
     let mut before = 0;
     loop {
         let turn = take_turn(
-            rt,
-            alloc,
-            &routes,
-            desk,
+            &site,
             seat,
             cache,
             gate,

@@ -1,3 +1,4 @@
+use book::Section;
 use desk_http::{TextKind, design_body, sign_off_body, text_fault_body, unknown_line_body};
 use scan_model::Digest;
 use sha2::Sha256;
@@ -21,7 +22,7 @@ fn bodies_of_each_form(rt: HostRuntime) {
     );
     let fault = TextFault { line: 15, rule: 81 };
     assert_eq!(rt;
-        text_fault_body(TextKind::Bundle, fault).as_slice(),
+        text_fault_body(TextKind::Section(Section::Bundle), fault).as_slice(),
         b"section bundle line 15 rule 81\n".as_slice()
     );
 }

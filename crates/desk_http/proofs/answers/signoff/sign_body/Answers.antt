@@ -4,18 +4,18 @@ use Rattle.serde_json.specs.Read.{read}
 use Rattle.serde_json.specs.View.{view}
 use Rattle.desk_http.specs.declared.answers.signoff.BodyFault.{BodyFault}
 use Rattle.desk_http.specs.declared.answers.signoff.BodyFault.TheVariants as fault
-use Rattle.desk_http.specs.declared.answers.signoff.SignBody.{SignBody}
+use Rattle.book.specs.declared.sign.Sign.{Sign}
 use Rattle.desk_http.specs.SignBodies.{IsSign, IsSignBody}
 use Rattle.desk_http.proofs.answers.signoff.sign_body.Goals as goal
 
-sign_of_read : (text : List ℕ) (value : Data) (body : SignBody) → read text ≡ Some value → IsSignBody text body → IsSign value body
+sign_of_read : (text : List ℕ) (value : Data) (body : Sign) → read text ≡ Some value → IsSignBody text body → IsSign value body
 sign_of_read text value body e sign =
     let same : sign.value ≡ value = cc (sign.read_is, e) in
     subst (λ (v : Data). IsSign v body) same sign.sign
 
-refused : (text : List ℕ) (value : Data) (r : Result SignBody BodyFault) → read text ≡ Some value
-    → IfErr r (λ e. e ≡ fault.NotASign → (body : SignBody) → ¬ (IsSign value body))
-    → IfErr r (λ e. e ≡ fault.NotASign → (body : SignBody) → ¬ (IsSignBody text body))
+refused : (text : List ℕ) (value : Data) (r : Result Sign BodyFault) → read text ≡ Some value
+    → IfErr r (λ e. e ≡ fault.NotASign → (body : Sign) → ¬ (IsSign value body))
+    → IfErr r (λ e. e ≡ fault.NotASign → (body : Sign) → ¬ (IsSignBody text body))
 refused text value (Ok b) e h = tt
 refused text value (Err f) e h = λ named body sign. h named body (sign_of_read text value body e sign)
 

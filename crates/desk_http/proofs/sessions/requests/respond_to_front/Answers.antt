@@ -13,8 +13,8 @@ unreachable-requires g c =
 
 pub returns-clause-responds : goal.returns-clause-responds
 returns-clause-responds g c =
-    let s = g.S.SeatAt.facts c.args.seat.now c.args.desk.now in
-    let new = g.S.SeatAt.facts c.respond-turn.new.seat c.args.desk.now in
+    let s = g.S.SeatAt.facts c.args.seat.now c.args.site.now.desk.now in
+    let new = g.S.SeatAt.facts c.respond-turn.new.seat c.args.site.now.desk.now in
     let h = c.args.head in
     let same : c.bytes-bytes.result.now ≡ c.args.inbox.now = c.bytes-bytes.ensures in
     let target : c.in-Ok.target.now ≡ span_bytes c.bytes-bytes.result.now h.target = c.in-Ok.ensures.cases.0 in

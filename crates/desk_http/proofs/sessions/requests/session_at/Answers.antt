@@ -5,7 +5,6 @@ use Rattle.desk_http.specs.declared.sessions.requests.SessionEnd.TheVariants.{No
 use Rattle.desk_http.specs.Sessions.{IsSession, Rise, with_mark}
 use Rattle.desk_http.specs.Turns.{Takes}
 use Rattle.desk_http.proofs.SessionSteps.{SoFar, begins, goes_on, ends_session, no_session, still_few, marks_few}
-use Rattle.desk_outside.specs.declared.deed.Deed.{Deed}
 use Rattle.desk_http.proofs.SeatSteps.{prefix_same}
 use Rattle.desk_http.proofs.KeptReports.{true_after}
 use Rattle.desk_http.proofs.SessionLaws.{marks_rise}
@@ -66,20 +65,8 @@ returns-in-Some-clause-cache g c =
 
 pub returns-in-Some-clause-marks : goal.returns-in-Some-clause-marks
 returns-in-Some-clause-marks g c =
-    let old = g.S.SeatAt.facts c.args.seat.now c.args.desk.now in
-    let mid = g.S.SeatAt.facts c.loop-end.seat c.args.desk.now in
-    let new = g.S.SeatAt.facts c.take_turn-turn.new.seat c.args.desk.now in
-    let left = g.L.Link.left c.args.link.now in
-    let coming = prepend_known c.loop-end.inbox (g.L.Link.left c.loop-end.link) in
-    let after = prepend_known c.take_turn-turn.new.inbox (g.L.Link.left c.take_turn-turn.new.link) in
-    let a = g.L.Link.sent c.args.link.now in
-    let b = g.L.Link.sent c.loop-end.link in
-    let d = g.L.Link.sent c.take_turn-turn.new.link in
-    let marks : c.into_rows.result ≡ with_mark c.loop-end.marks c.take_turn-turn.result.mark = c.into_rows.ensures ∙ c.add.ensures in
-    let takes = subst (λ (e : Option SessionEnd). Takes c.loop-end.before c.take_turn-turn.result.mark e mid new coming after b d) c.in-Some.is c.take_turn-turn.ensures.takes in
-    subst (λ (ms : List ℕ). Rise (length old.seen) ms (length new.seen)) (sym marks)
-    (marks_rise c.in-Some.end (with_mark c.loop-end.marks c.take_turn-turn.result.mark) old new left a d
-    (ends_session c.loop-end.before c.loop-end.marks old mid new left coming after a b d c.loop-end.invariant.so_far c.take_turn-turn.result.mark c.in-Some.end takes))
+    marks_rise c.in-Some.end c.into_rows.result (g.S.SeatAt.facts c.args.seat.now c.args.desk.now) (g.S.SeatAt.facts c.take_turn-turn.new.seat c.args.desk.now)
+    (g.L.Link.left c.args.link.now) (g.L.Link.sent c.args.link.now) (g.L.Link.sent c.take_turn-turn.new.link) (returns-in-Some-clause-session g c)
 
 pub loop-end-preserved : goal.loop-end-preserved
 loop-end-preserved g c =

@@ -12,53 +12,31 @@ overflow_add-head g c =
 
 pub returns-in-Err-clause-takes : goal.returns-in-Err-clause-takes
 returns-in-Err-clause-takes g c =
-    let s = g.S.SeatAt.facts c.args.seat.now c.args.desk.now in
-    let left = g.L.Link.left c.args.link.now in
-    let after = prepend_known c.args.inbox.now (g.L.Link.left c.invite.new.link) in
-    let a = g.L.Link.sent c.args.link.now in
-    let b = g.L.Link.sent c.invite.new.link in
-    takes_as c.args.before _ _ _ _ s s (prepend_known c.args.inbox.now left) after a b c.silent.ensures.mark c.silent.ensures.end
-    (uninvited c.args.before s c.args.inbox.now left c.args.head c.requires.head after a b c.in-Err.ensures.part.0 c.in-Err.ensures.part.1)
+    takes_as c.silent.ensures.mark c.silent.ensures.end
+    (uninvited _ _ c.args.inbox.now (g.L.Link.left c.args.link.now) c.args.head c.requires.head _ _ _ c.in-Err.ensures.part.0 c.in-Err.ensures.part.1)
 
 pub returns-in-End-clause-takes : goal.returns-in-End-clause-takes
 returns-in-End-clause-takes g c =
-    let s = g.S.SeatAt.facts c.args.seat.now c.args.desk.now in
-    let left = g.L.Link.left c.args.link.now in
     let new = c.read_to.new.inbox in
     let rest = g.L.Link.left c.read_to.new.link in
-    let a = g.L.Link.sent c.args.link.now in
-    let b = g.L.Link.sent c.read_to.new.link in
-    let invited : b ≡ append_known a (interim_if c.args.head.awaits) = c.in-End.ensures.sent ∙ c.in-Ok.ensures.all in
-    let comes : prepend_known c.args.inbox.now left ≡ prepend_known new rest = ap (prepend_known c.args.inbox.now) (sym c.in-Ok.ensures.left) ∙ c.in-End.ensures.comes (λ no. cc) in
-    takes_as c.args.before _ _ _ _ s s (prepend_known c.args.inbox.now left) (prepend_known new rest) a b c.silent-in-End.ensures.mark c.silent-in-End.ensures.end
-    (cut_off c.args.before s c.args.inbox.now left c.args.head c.requires.head (prepend_known new rest) a b invited new rest comes c.in-End.ensures.grows c.in-End.ensures.body.0 c.in-End.ensures.body.1)
+    let comes : prepend_known c.args.inbox.now (g.L.Link.left c.args.link.now) ≡ prepend_known new rest = ap (prepend_known c.args.inbox.now) (sym c.in-Ok.ensures.left) ∙ c.in-End.ensures.comes (λ no. cc) in
+    takes_as c.silent-in-End.ensures.mark c.silent-in-End.ensures.end
+    (cut_off _ _ c.args.inbox.now (g.L.Link.left c.args.link.now) c.args.head c.requires.head _ _ _ (c.in-End.ensures.sent ∙ c.in-Ok.ensures.all) new rest comes c.in-End.ensures.grows c.in-End.ensures.body.0 c.in-End.ensures.body.1)
 
 pub returns-in-LinkFault-clause-takes : goal.returns-in-LinkFault-clause-takes
 returns-in-LinkFault-clause-takes g c =
-    let s = g.S.SeatAt.facts c.args.seat.now c.args.desk.now in
-    let left = g.L.Link.left c.args.link.now in
-    let after = prepend_known c.read_to.new.inbox (g.L.Link.left c.read_to.new.link) in
-    let a = g.L.Link.sent c.args.link.now in
-    let b = g.L.Link.sent c.read_to.new.link in
-    let invited : b ≡ append_known a (interim_if c.args.head.awaits) = c.in-LinkFault.ensures.sent ∙ c.in-Ok.ensures.all in
-    takes_as c.args.before _ _ _ _ s s (prepend_known c.args.inbox.now left) after a b c.silent-in-LinkFault.ensures.mark c.silent-in-LinkFault.ensures.end
-    (unread c.args.before s c.args.inbox.now left c.args.head c.requires.head after a b invited)
+    takes_as c.silent-in-LinkFault.ensures.mark c.silent-in-LinkFault.ensures.end
+    (unread _ _ c.args.inbox.now (g.L.Link.left c.args.link.now) c.args.head c.requires.head _ _ _ (c.in-LinkFault.ensures.sent ∙ c.in-Ok.ensures.all))
 
 pub returns-in-NoMemory-clause-takes : goal.returns-in-NoMemory-clause-takes
 returns-in-NoMemory-clause-takes g c =
-    let s = g.S.SeatAt.facts c.args.seat.now c.args.desk.now in
-    let left = g.L.Link.left c.args.link.now in
-    let after = prepend_known c.read_to.new.inbox (g.L.Link.left c.send_no_memory.new.link) in
-    let a = g.L.Link.sent c.args.link.now in
-    let b = g.L.Link.sent c.read_to.new.link in
-    let invited : b ≡ append_known a (interim_if c.args.head.awaits) = c.in-NoMemory.ensures.sent ∙ c.in-Ok.ensures.all in
-    unkept c.args.before s c.args.inbox.now left c.args.head c.requires.head after a b invited (Some c.mark.result) c.send_no_memory.result (g.L.Link.sent c.send_no_memory.new.link)
+    unkept _ _ c.args.inbox.now (g.L.Link.left c.args.link.now) c.args.head c.requires.head _ _ (g.L.Link.sent c.read_to.new.link) (c.in-NoMemory.ensures.sent ∙ c.in-Ok.ensures.all) _ _ _
     (ap Some c.mark.ensures.number) c.send_no_memory.ensures.sent
 
 pub returns-clause-takes : goal.returns-clause-takes
 returns-clause-takes g c =
-    let old = g.S.SeatAt.facts c.args.seat.now c.args.desk.now in
-    let s = g.S.SeatAt.facts c.respond_to_front.new.seat c.args.desk.now in
+    let old = g.S.SeatAt.facts c.args.seat.now c.args.site.now.desk.now in
+    let s = g.S.SeatAt.facts c.respond_to_front.new.seat c.args.site.now.desk.now in
     let left = g.L.Link.left c.args.link.now in
     let new = c.read_to.new.inbox in
     let used = c.respond_to_front.new.inbox in
