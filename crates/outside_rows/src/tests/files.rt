@@ -31,17 +31,22 @@ fn printed(
 
 // A shelf of the file, which fails at its fourth call.
 fn shelf_of(alloc: Global) -> Result<MemShelf, NoMemory> {
+    let failing = only(alloc, 4)?;
     let files = one_file(alloc)?;
-    if !are_distinct(files.as_slice()) {
-        return Err(NoMemory);
+    if are_distinct(files.as_slice()) {
+        MemShelf::make_failing(alloc, files, failing)
+    } else {
+        Err(NoMemory)
     }
-    MemShelf::make_failing(alloc, files, only(alloc, 4)?)
 }
 
-// The sink fails at its second call.
-fn is_printed_as_due(alloc: Global) -> Result<bool, NoMemory> {
-    let mut shelf = shelf_of(alloc)?;
-    let mut out = MemSink::make_failing(alloc, Rows::new(alloc), only(alloc, 2)?)?;
+// A sink that fails at its second call.
+fn sink_of(alloc: Global) -> Result<MemSink, NoMemory> {
+    let failing = only(alloc, 2)?;
+    MemSink::make_failing(alloc, Rows::new(alloc), failing)
+}
+
+fn is_printed_as_due(alloc: Global, shelf: &mut MemShelf, out: &mut MemSink) -> bool {
     let due = [
         Ok(ShelfAnswer::TooLong),
         Ok(ShelfAnswer::Read),
@@ -49,20 +54,33 @@ fn is_printed_as_due(alloc: Global) -> Result<bool, NoMemory> {
         Ok(ShelfAnswer::Failed),
         Ok(ShelfAnswer::Absent),
     ];
-    Ok(printed(alloc, &mut shelf, &mut out) == due && out.bytes() == b"text".as_slice())
+    printed(alloc, shelf, out) == due && out.bytes() == b"text".as_slice()
+}
+
+fn prints(
+    alloc: Global,
+    shelf: &mut Result<MemShelf, NoMemory>,
+    out: &mut Result<MemSink, NoMemory>,
+) -> bool {
+    match (shelf, out) {
+        (Ok(shelf), Ok(out)) => is_printed_as_due(alloc, shelf, out),
+        _ => false,
+    }
 }
 
 #[test]
 fn a_file_is_printed(rt: HostRuntime) {
-    assert!(rt; matches!(is_printed_as_due(rt.alloc()), Ok(true)));
+    let alloc = rt.alloc();
+    assert!(rt; prints(alloc, &mut shelf_of(alloc), &mut sink_of(alloc)));
 }
 
 fn sure_shelf_of(alloc: Global) -> Result<SureShelf, NoMemory> {
     let files = one_file(alloc)?;
-    if !are_distinct(files.as_slice()) {
-        return Err(NoMemory);
+    if are_distinct(files.as_slice()) {
+        SureShelf::make(alloc, files)
+    } else {
+        Err(NoMemory)
     }
-    SureShelf::make(alloc, files)
 }
 
 // What it comes to to print a file to a sink that keeps it, then to a sure sink, and then another file.
@@ -79,20 +97,41 @@ fn printed_surely(
     ]
 }
 
-fn is_printed_surely(alloc: Global) -> Result<bool, NoMemory> {
-    let mut shelf = sure_shelf_of(alloc)?;
-    let mut kept = MemSink::make(alloc, Rows::new(alloc))?;
-    let mut out = SureSink::make(alloc)?;
+fn is_printed_surely(
+    alloc: Global,
+    shelf: &mut SureShelf,
+    kept: &mut MemSink,
+    out: &mut SureSink,
+) -> bool {
     let due = [
         Ok(ShelfAnswer::Read),
         Ok(ShelfAnswer::Read),
         Ok(ShelfAnswer::Absent),
     ];
-    let printed = printed_surely(alloc, &mut shelf, &mut kept, &mut out);
-    Ok(printed == due && kept.bytes() == b"text".as_slice())
+    printed_surely(alloc, shelf, kept, out) == due && kept.bytes() == b"text".as_slice()
+}
+
+fn prints_surely(
+    alloc: Global,
+    shelf: &mut Result<SureShelf, NoMemory>,
+    kept: &mut Result<MemSink, NoMemory>,
+    out: &mut Result<SureSink, NoMemory>,
+) -> bool {
+    match (shelf, kept, out) {
+        (Ok(shelf), Ok(kept), Ok(out)) => is_printed_surely(alloc, shelf, kept, out),
+        _ => false,
+    }
 }
 
 #[test]
 fn a_sure_shelf_and_a_sure_sink(rt: HostRuntime) {
-    assert!(rt; matches!(is_printed_surely(rt.alloc()), Ok(true)));
+    let alloc = rt.alloc();
+    assert!(rt;
+        prints_surely(
+            alloc,
+            &mut sure_shelf_of(alloc),
+            &mut MemSink::make(alloc, Rows::new(alloc)),
+            &mut SureSink::make(alloc),
+        )
+    );
 }

@@ -56,15 +56,17 @@ where
         && matches!(keep(cabinet, "desk", deed), Err(KeepFault::Failed))
 }
 
-fn comes_home(alloc: Global) -> Result<bool, NoMemory> {
-    let deed = one_deed(alloc)?;
-    let mut cabinet = one_keeper(alloc)?;
-    Ok(keeps_once(&mut cabinet, &deed) && is_home(&cabinet))
+fn comes_home(cabinet: &mut Result<MemCabinet, NoMemory>, deed: &Result<Deed, NoMemory>) -> bool {
+    match (cabinet, deed) {
+        (Ok(cabinet), Ok(deed)) => keeps_once(cabinet, deed) && is_home(cabinet),
+        _ => false,
+    }
 }
 
 #[test]
 fn a_keeper_comes_home(rt: HostRuntime) {
-    assert!(rt; matches!(comes_home(rt.alloc()), Ok(true)));
+    let alloc = rt.alloc();
+    assert!(rt; comes_home(&mut one_keeper(alloc), &one_deed(alloc)));
 }
 
 // A cabinet of one keeper without deeds, which fails once.
@@ -97,14 +99,19 @@ fn are_home(cabinet: &MemCabinet) -> bool {
     }
 }
 
-fn both_come_home(alloc: Global) -> Result<bool, NoMemory> {
-    let deed = one_deed(alloc)?;
-    let mut cabinet = one_failing(alloc)?;
-    Ok(keeps_elsewhere(&mut cabinet, &deed) && are_home(&cabinet))
+fn both_come_home(
+    cabinet: &mut Result<MemCabinet, NoMemory>,
+    deed: &Result<Deed, NoMemory>,
+) -> bool {
+    match (cabinet, deed) {
+        (Ok(cabinet), Ok(deed)) => keeps_elsewhere(cabinet, deed) && are_home(cabinet),
+        _ => false,
+    }
 }
 
 // A keeper that has failed comes home with its count.
 #[test]
 fn a_failed_keeper_comes_home(rt: HostRuntime) {
-    assert!(rt; matches!(both_come_home(rt.alloc()), Ok(true)));
+    let alloc = rt.alloc();
+    assert!(rt; both_come_home(&mut one_failing(alloc), &one_deed(alloc)));
 }
