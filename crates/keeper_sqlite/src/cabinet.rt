@@ -25,12 +25,22 @@ impl SqliteCabinet {
     }
 }
 
+// Makes the tables where they aren't there, and answers the number of the next deed.
+fn prepared(conn: &mut Connection<FileStore<File>>) -> Result<i64, Error> {
+    make_tables(conn)?;
+    next_number(conn)
+}
+
 // An open database with its tables, and the number of its next deed.
 fn opened(rt: &HostRuntime, name: &str) -> Result<(Connection<FileStore<File>>, i64), Error> {
     let mut conn = Connection::open(rt, name)?;
-    make_tables(&mut conn)?;
-    let next = next_number(&mut conn)?;
-    Ok((conn, next))
+    match prepared(&mut conn) {
+        Ok(next) => Ok((conn, next)),
+        Err(error) => {
+            let _ = conn.close();
+            Err(error)
+        }
+    }
 }
 
 impl Cabinet for SqliteCabinet {

@@ -2,7 +2,7 @@
 ghost use Rattle.std.specs.Prelude.{◌≡◌, ◌≤◌, map, length, Some, true, false, IfOk, codes, string_bytes};
 ghost use Rattle.std.specs.List.{list_all};
 ghost use Rattle.scan_model.specs.Words.{number_of};
-ghost use Rattle.clap.specs.Words.{app_of, found_of, is_simple, matches_of, rows_of, rule_of};
+ghost use Rattle.clap.specs.Words.{app_of, found_of, is_simple, matches_of, rows_of, rule_of, with_rule};
 ghost use Rattle.desk_commands.specs.Words.{is_plain_word, names_from, number_at, request_of};
 ghost use Rattle.desk_commands.specs.Requests.{named_files, said};
 ghost use Rattle.desk_commands.specs.Assigned.{argument, arguments, diagnose, demo, text_of, texts_of, names_in, request_in, with_files};
@@ -29,15 +29,28 @@ fn arguments(alloc: Global, name: &str) -> Arg<'_>
     argument(alloc, name).num_args(1..)
 }
 
+// The command with one more argument, of one word.
+fn with_word<'a>(
+    alloc: Global,
+    command: clap::Command<'a>,
+    name: &'a str,
+) -> Result<clap::Command<'a>, AllocError>
+    ensures { IfOk result (λ c. app_of c ≡ with_rule (app_of command.entry) (argument name.entry.now)) }
+{
+    command.arg(argument(alloc, name))
+}
+
 // The command with four more arguments, the files of a design.
-fn with_files(alloc: Global, command: clap::Command<'_>) -> Result<clap::Command<'_>, AllocError>
+fn with_files<'a>(
+    alloc: Global,
+    command: clap::Command<'a>,
+) -> Result<clap::Command<'a>, AllocError>
     ensures { IfOk result (λ c. app_of c ≡ with_files (app_of command.entry)) }
 {
-    command
-        .arg(argument(alloc, "netlist"))?
-        .arg(argument(alloc, "scan"))?
-        .arg(argument(alloc, "patterns"))?
-        .arg(argument(alloc, "neighbours"))
+    let command = with_word(alloc, command, "netlist")?;
+    let command = with_word(alloc, command, "scan")?;
+    let command = with_word(alloc, command, "patterns")?;
+    with_word(alloc, command, "neighbours")
 }
 
 /// The words of the arguments. Where they were found right before, `clap` refuses them for want of memory alone.
@@ -113,9 +126,8 @@ pub fn design_files_of<'a>(
 fn diagnose_command<'a>(alloc: Global) -> Result<clap::Command<'a>, AllocError>
     ensures { IfOk result (λ c. app_of c ≡ diagnose) }
 {
-    let command = clap::Command::new(alloc, "diagnose")
-        .arg(argument(alloc, "design"))?
-        .arg(argument(alloc, "die"))?;
+    let command = with_word(alloc, clap::Command::new(alloc, "diagnose"), "design")?;
+    let command = with_word(alloc, command, "die")?;
     with_files(alloc, command)?.arg(arguments(alloc, "log"))
 }
 
@@ -145,9 +157,8 @@ pub fn diagnose_of<'a>(alloc: Global, words: &'a [String]) -> Result<Diagnose<'a
 fn demo_command<'a>(alloc: Global) -> Result<clap::Command<'a>, AllocError>
     ensures { IfOk result (λ c. app_of c ≡ demo) }
 {
-    clap::Command::new(alloc, "demo")
-        .arg(argument(alloc, "seed"))?
-        .arg(argument(alloc, "blocks"))
+    let command = with_word(alloc, clap::Command::new(alloc, "demo"), "seed")?;
+    with_word(alloc, command, "blocks")
 }
 
 fn demo_in(matches: &ArgMatches<'_>) -> Result<Demo, NoMemory>
