@@ -61,10 +61,33 @@ pub fn answer<R: Threads + Sync, D, S: SeatAt<R, D>, G: Gate>(
     ensures answered { let s = S.facts seat.old desk.now in
         Answered (λ deeds answer. IsAnswer s.limit deeds request.now.target.now request.now.method request.now.body.now answer) result s (S.facts seat.new desk.now) }
 {
-    let Some(resource) = routes.resource(alloc, request.target)? else {
-        return Ok(Response::refused(Refusal::NoRoute));
-    };
-    answer_at(rt, alloc, desk, seat, cache, gate, &resource, request)
+    let found = routes.resource(alloc, request.target)?;
+    answer_found(rt, alloc, desk, seat, cache, gate, &found, request)
+}
+
+// What it is answered at what its target names.
+fn answer_found<R: Threads + Sync, D, S: SeatAt<R, D>, G: Gate>(
+    rt: &R,
+    alloc: Global,
+    desk: &D,
+    seat: &mut S,
+    cache: &mut ReportCache,
+    gate: &mut G,
+    found: &Option<Resource>,
+    request: &Request<'_>,
+) -> Result<Response, Unanswered>
+    requires found { resource_of request.now.target.now ≡ found.now }
+    requires belongs { S.belongs seat.old desk.now }
+    requires cache { IsTrueFor cache.old (S.facts seat.old desk.now).seen }
+    ensures stays { S.belongs seat.new desk.now }
+    ensures cache { (later : List Deed) → IsPrefix (S.facts seat.new desk.now).seen later → IsTrueFor cache.old later → IsTrueFor cache.new later }
+    ensures answered { let s = S.facts seat.old desk.now in
+        Answered (λ deeds answer. IsAnswer s.limit deeds request.now.target.now request.now.method request.now.body.now answer) result s (S.facts seat.new desk.now) }
+{
+    match found {
+        Some(resource) => answer_at(rt, alloc, desk, seat, cache, gate, resource, request),
+        None => Ok(Response::refused(Refusal::NoRoute)),
+    }
 }
 
 // What it is answered at the resource that its target names.
