@@ -1,14 +1,11 @@
-mod chains;
 mod circuits;
 mod dies;
 mod faults;
 mod fronts;
-mod logs;
-mod neighbours;
 mod netlists;
-mod patterns;
 mod predicted;
 mod ranking;
-mod refusal;
+mod readers;
+mod refusals;
 mod reports;
 mod responses;

@@ -5,7 +5,7 @@ ghost use Rattle.scan_model.specs.Response.{expected_rows};
 ghost use Rattle.log_join.specs.Joining.{IsJoinedOf};
 
 use super::chains::{long_chain, long_netlist, long_patterns};
-use super::designs::{c17, design, odd, push_times, s27};
+use super::designs::{C17, ODD, S27, design, push_times};
 use super::logs::joined_of;
 use diagnosis::{BundleFault, Design};
 use good_sim::expected_all;
@@ -39,80 +39,104 @@ fn plain(alloc: Global, parts: &Parts, joined: &Joined) -> Result<Rows<Scored>, 
 }
 
 /// Whether both counts list the same rows, and some.
+fn are_same(
+    packed: &Result<Rows<Scored>, NoMemory>,
+    plain: &Result<Rows<Scored>, NoMemory>,
+) -> bool {
+    match (packed, plain) {
+        (Ok(packed), Ok(plain)) => packed.as_slice() == plain.as_slice() && packed.len() > 0,
+        _ => false,
+    }
+}
+
 fn are_equal<R: Threads + Sync>(
     rt: &R,
     alloc: Global,
     parts: &Parts,
     expected: &Expected,
     joined: &Joined,
-) -> Result<bool, NoMemory>
+) -> bool
     requires expected { expected.now ≡ expected_rows parts.now }
     requires joined { IsJoinedOf (length parts.now.patterns) (length (points_of parts.now)) joined.now }
 {
-    let rows = packed(rt, alloc, parts, expected, joined)?;
-    let plain = plain(alloc, parts, joined)?;
-    Ok(rows.as_slice() == plain.as_slice() && rows.len() > 0)
+    are_same(
+        &packed(rt, alloc, parts, expected, joined),
+        &plain(alloc, parts, joined),
+    )
 }
 
-pub(crate) fn are_equal_over<R: Threads + Sync>(
+fn are_equal_over<R: Threads + Sync>(
     rt: &R,
     alloc: Global,
     design: &Design,
     log: &[u8],
 ) -> Result<bool, BundleFault> {
     let joined = joined_of(alloc, design, log)?;
-    Ok(are_equal(rt, alloc, design.parts(), design.expected(), &joined)?)
+    Ok(are_equal(rt, alloc, design.parts(), design.expected(), &joined))
+}
+
+/// Whether both counts of a log of the design list the same rows, and some.
+pub(crate) fn is_equal<R: Threads + Sync>(
+    rt: &R,
+    alloc: Global,
+    design: &Result<Design, BundleFault>,
+    log: &[u8],
+) -> bool {
+    match design {
+        Ok(design) => matches!(are_equal_over(rt, alloc, design, log), Ok(true)),
+        Err(_) => false,
+    }
 }
 
 /// The texts of a design, and a log of it.
 #[derive(Clone, Copy)]
-struct Row<'a> {
-    netlist: &'a str,
-    scan: &'a str,
-    patterns: &'a str,
-    pairs: &'a str,
-    log: &'a [u8],
+struct Row {
+    netlist: &'static str,
+    scan: &'static str,
+    patterns: &'static str,
+    pairs: &'static str,
+    log: &'static [u8],
 }
 
-fn is_equal<R: Threads + Sync>(rt: &R, alloc: Global, row: &Row<'_>) -> Result<bool, BundleFault> {
-    let design = design(alloc, row.netlist, row.scan, row.patterns, row.pairs)?;
-    are_equal_over(rt, alloc, &design, row.log)
-}
-
-#[test]
-fn bridges_of_c17(rt: HostRuntime) {
-    let row = Row {
-        netlist: c17(),
+// c17 with bridges, s27 that captures and shifts, and a flop in no chain with a gate that reads a net twice.
+const ROWS: [Row; 3] = [
+    Row {
+        netlist: C17,
         scan: "",
         patterns: "CAPTURE 11111\nCAPTURE 10110\nCAPTURE 0X010\n",
         pairs: "net_a,net_b\n10,19\n3,10\n19,10\n16,19\n",
         log: b"FAILLOG 1\ndie D1\ndesign d\ntested 0 2\nfail 0 out 22\nfail 1 out 23\nend\n",
-    };
-    assert!(rt; matches!(is_equal(&rt, rt.alloc(), &row), Ok(true)));
-}
-
-#[test]
-fn s27_that_captures_and_shifts(rt: HostRuntime) {
-    let row = Row {
-        netlist: s27(),
+    },
+    Row {
+        netlist: S27,
         scan: "CHAIN c0 G5 G6 G7\n",
         patterns: "CAPTURE 0000 000\nSHIFT 101\nCAPTURE 1X01 011\n",
         pairs: "net_a,net_b\nG14,G12\n",
         log: b"FAILLOG 1\ndie D1\ndesign d\ntested 0 2\nfail 0 out G17\nfail 1 cell c0 0\nfail 2 cell c0 1\nend\n",
-    };
-    assert!(rt; matches!(is_equal(&rt, rt.alloc(), &row), Ok(true)));
-}
-
-#[test]
-fn a_flop_in_no_chain_and_a_gate_that_reads_a_net_twice(rt: HostRuntime) {
-    let row = Row {
-        netlist: odd(),
+    },
+    Row {
+        netlist: ODD,
         scan: "CHAIN c g h\n",
         patterns: "CAPTURE 1 0X\nSHIFT 10\nCAPTURE X 11\nCAPTURE 0 10\n",
         pairs: "",
         log: b"FAILLOG 1\ndie D1\ndesign d\ntested 0 3\nfail 1 cell c 1\nfail 2 cell c 0\nfail 3 cell c 1\nend\n",
-    };
-    assert!(rt; matches!(is_equal(&rt, rt.alloc(), &row), Ok(true)));
+    },
+];
+
+fn design_of_row(alloc: Global, row: &Row) -> Result<Design, BundleFault> {
+    design(alloc, row.netlist, row.scan, row.patterns, row.pairs)
+}
+
+#[test]
+fn small_designs(rt: HostRuntime) {
+    for row in &ROWS {
+        let design = design_of_row(rt.alloc(), row);
+        assert!(rt;
+            is_equal(&rt, rt.alloc(), &design, row.log),
+            "{}",
+            row.netlist
+        );
+    }
 }
 
 /// 600 patterns of c17.
@@ -123,22 +147,18 @@ fn two_blocks(alloc: Global) -> Result<String, NoMemory> {
     Ok(text)
 }
 
-/// Fails in the second block of 512 alone.
-fn second_block_is_equal<R: Threads + Sync>(rt: &R, alloc: Global) -> Result<bool, BundleFault> {
+fn design_of_two_blocks(alloc: Global) -> Result<Design, BundleFault> {
     let patterns = two_blocks(alloc)?;
-    let row = Row {
-        netlist: c17(),
-        scan: "",
-        patterns: &patterns,
-        pairs: "net_a,net_b\n10,19\n",
-        log: b"FAILLOG 1\ndie D1\ndesign d\ntested 0 599\nfail 512 out 22\nfail 575 out 23\nfail 576 out 22\nfail 599 out 22\nend\n",
-    };
-    is_equal(rt, alloc, &row)
+    design(alloc, C17, "", &patterns, "net_a,net_b\n10,19\n")
 }
 
+/// Fails in the second block of 512 alone.
 #[test]
 fn fails_in_the_second_block_alone(rt: HostRuntime) {
-    assert!(rt; matches!(second_block_is_equal(&rt, rt.alloc()), Ok(true)));
+    let design = design_of_two_blocks(rt.alloc());
+    let log =
+        b"FAILLOG 1\ndie D1\ndesign d\ntested 0 599\nfail 512 out 22\nfail 575 out 23\nfail 576 out 22\nfail 599 out 22\nend\n";
+    assert!(rt; is_equal(&rt, rt.alloc(), &design, log));
 }
 
 fn long_design_of(alloc: Global, netlist: &str, scan: &str) -> Result<Design, BundleFault> {
@@ -156,14 +176,10 @@ fn long_design(alloc: Global) -> Result<Design, BundleFault> {
     long_design_over(alloc, &netlist)
 }
 
-fn long_chain_is_equal<R: Threads + Sync>(rt: &R, alloc: Global) -> Result<bool, BundleFault> {
-    let design = long_design(alloc)?;
-    let log =
-        b"FAILLOG 1\ndie D1\ndesign d\ntested 0 2\nfail 0 cell c 65\nfail 0 cell c 3\nfail 1 cell c 40\nfail 2 cell c 64\nend\n";
-    are_equal_over(rt, alloc, &design, log)
-}
-
 #[test]
 fn a_chain_of_70_cells(rt: HostRuntime) {
-    assert!(rt; matches!(long_chain_is_equal(&rt, rt.alloc()), Ok(true)));
+    let design = long_design(rt.alloc());
+    let log =
+        b"FAILLOG 1\ndie D1\ndesign d\ntested 0 2\nfail 0 cell c 65\nfail 0 cell c 3\nfail 1 cell c 40\nfail 2 cell c 64\nend\n";
+    assert!(rt; is_equal(&rt, rt.alloc(), &design, log));
 }

@@ -1,10 +1,10 @@
 //! The counts of the design of `demo 7 2`.
 
-use super::counts::are_equal_over;
+use super::counts::is_equal;
+use super::designs::design_of_bytes;
 use desk_commands::made_design;
-use diagnosis::{BundleFault, Design, design_of};
+use diagnosis::{BundleFault, Design};
 use std::alloc::Global;
-use std::thread::Threads;
 
 /// Fails of outputs of both blocks and of cells, in two words of patterns.
 const LOG: &[u8] =
@@ -12,9 +12,8 @@ const LOG: &[u8] =
 
 fn demo_design(alloc: Global) -> Result<Design, BundleFault> {
     let made = made_design(alloc, 7, 2)?;
-    design_of(
+    design_of_bytes(
         alloc,
-        b"d",
         made.netlist.as_slice(),
         made.scan.as_slice(),
         made.patterns.as_slice(),
@@ -22,12 +21,7 @@ fn demo_design(alloc: Global) -> Result<Design, BundleFault> {
     )
 }
 
-fn demo_is_equal<R: Threads + Sync>(rt: &R, alloc: Global) -> Result<bool, BundleFault> {
-    let design = demo_design(alloc)?;
-    are_equal_over(rt, alloc, &design, LOG)
-}
-
 #[test]
 fn counts_of_demo_7_2(rt: HostRuntime) {
-    assert!(rt; matches!(demo_is_equal(&rt, rt.alloc()), Ok(true)));
+    assert!(rt; is_equal(&rt, rt.alloc(), &demo_design(rt.alloc()), LOG));
 }

@@ -2,18 +2,15 @@ use diagnosis::{BundleFault, Design, design_of};
 use scan_model::NoMemory;
 use std::alloc::Global;
 
-pub(crate) fn c17() -> &'static str {
-    "INPUT(1)\nINPUT(2)\nINPUT(3)\nINPUT(6)\nINPUT(7)\nOUTPUT(22)\nOUTPUT(23)\n10 = NAND(1, 3)\n11 = NAND(3, 6)\n16 = NAND(2, 11)\n19 = NAND(11, 7)\n22 = NAND(10, 16)\n23 = NAND(16, 19)\n"
-}
+pub(crate) const C17: &str =
+    "INPUT(1)\nINPUT(2)\nINPUT(3)\nINPUT(6)\nINPUT(7)\nOUTPUT(22)\nOUTPUT(23)\n10 = NAND(1, 3)\n11 = NAND(3, 6)\n16 = NAND(2, 11)\n19 = NAND(11, 7)\n22 = NAND(10, 16)\n23 = NAND(16, 19)\n";
 
-pub(crate) fn s27() -> &'static str {
-    "INPUT(G0)\nINPUT(G1)\nINPUT(G2)\nINPUT(G3)\nOUTPUT(G17)\nG5 = DFF(G10)\nG6 = DFF(G11)\nG7 = DFF(G13)\nG14 = NOT(G0)\nG17 = NOT(G11)\nG8 = AND(G14, G6)\nG15 = OR(G12, G8)\nG16 = OR(G3, G8)\nG9 = NAND(G16, G15)\nG10 = NOR(G14, G11)\nG11 = NOR(G5, G9)\nG12 = NOR(G1, G7)\nG13 = NOR(G2, G12)\n"
-}
+pub(crate) const S27: &str =
+    "INPUT(G0)\nINPUT(G1)\nINPUT(G2)\nINPUT(G3)\nOUTPUT(G17)\nG5 = DFF(G10)\nG6 = DFF(G11)\nG7 = DFF(G13)\nG14 = NOT(G0)\nG17 = NOT(G11)\nG8 = AND(G14, G6)\nG15 = OR(G12, G8)\nG16 = OR(G3, G8)\nG9 = NAND(G16, G15)\nG10 = NOR(G14, G11)\nG11 = NOR(G5, G9)\nG12 = NOR(G1, G7)\nG13 = NOR(G2, G12)\n";
 
 /// A gate that reads a net twice, and a flop in no chain.
-pub(crate) fn odd() -> &'static str {
-    "INPUT(a)\nOUTPUT(y)\nf = DFF(y)\ng = DFF(n)\nh = DFF(f)\nn = XOR(a, a)\nm = AND(f, h)\ny = OR(m, n)\n"
-}
+pub(crate) const ODD: &str =
+    "INPUT(a)\nOUTPUT(y)\nf = DFF(y)\ng = DFF(n)\nh = DFF(f)\nn = XOR(a, a)\nm = AND(f, h)\ny = OR(m, n)\n";
 
 pub(crate) fn push_times(text: &mut String, part: &str, times: u32) -> Result<(), NoMemory> {
     for _ in 0..times {
@@ -29,6 +26,16 @@ pub(crate) fn repeated(alloc: Global, part: &str, times: u32) -> Result<String, 
 }
 
 /// The design d of four texts.
+pub(crate) fn design_of_bytes(
+    alloc: Global,
+    netlist: &[u8],
+    scan: &[u8],
+    patterns: &[u8],
+    pairs: &[u8],
+) -> Result<Design, BundleFault> {
+    design_of(alloc, b"d", netlist, scan, patterns, pairs)
+}
+
 pub(crate) fn design(
     alloc: Global,
     netlist: &str,
@@ -36,9 +43,8 @@ pub(crate) fn design(
     patterns: &str,
     pairs: &str,
 ) -> Result<Design, BundleFault> {
-    design_of(
+    design_of_bytes(
         alloc,
-        b"d",
         netlist.as_bytes(),
         scan.as_bytes(),
         patterns.as_bytes(),
@@ -49,5 +55,5 @@ pub(crate) fn design(
 /// The same of c17 with 65 patterns of ones.
 pub(crate) fn ones_of_c17(alloc: Global) -> Result<Design, BundleFault> {
     let patterns = repeated(alloc, "CAPTURE 11111\n", 65)?;
-    design(alloc, c17(), "", &patterns, "")
+    design(alloc, C17, "", &patterns, "")
 }

@@ -5,7 +5,7 @@ ghost use Rattle.scan_model.specs.Universe.{universe};
 ghost use Rattle.packed_sim.specs.Belongs.{cone_gates};
 
 use super::designs::ones_of_c17;
-use diagnosis::BundleFault;
+use diagnosis::{BundleFault, Design};
 use fault_universe::fault_at;
 use packed_sim::{PackedGood, Scratch};
 use scan_model::{Fault, NoMemory, Parts, Steps};
@@ -74,29 +74,32 @@ pub(crate) fn fails(
     }
 }
 
-fn of_ones(alloc: Global, place: u32, word: u32) -> Result<Vec<u64>, BundleFault> {
-    let design = ones_of_c17(alloc)?;
-    Ok(fails(alloc, design.parts(), place, word)?)
+fn are(answer: &Result<Vec<u64>, NoMemory>, words: &[u64]) -> bool {
+    matches!(answer, Ok(found) if found.as_slice() == words)
 }
 
-fn are(answer: Result<Vec<u64>, BundleFault>, words: &[u64]) -> bool {
-    match answer {
-        Ok(found) => found.as_slice() == words,
+// Whether these are the words of a design under the fault at a place.
+fn gives(
+    alloc: Global,
+    design: &Result<Design, BundleFault>,
+    place: u32,
+    word: u32,
+    words: &[u64],
+) -> bool {
+    match design {
+        Ok(design) => are(&fails(alloc, design.parts(), place, word), words),
         Err(_) => false,
     }
 }
 
-#[test]
-fn all_patterns_of_the_first_word_of_65(rt: HostRuntime) {
-    assert!(rt; are(of_ones(rt.alloc(), 0, 0), &[u64::MAX, 0]));
-}
+// Of 65 patterns, by the place of a fault and a word: all patterns of the first word, the one of the second, and that one
+// under a stuck gate.
+const OF_ONES: [(u32, u32, [u64; 2]); 3] = [(0, 0, [u64::MAX, 0]), (0, 1, [1, 0]), (11, 1, [1, 0])];
 
 #[test]
-fn the_one_pattern_of_the_second_word_of_65(rt: HostRuntime) {
-    assert!(rt; are(of_ones(rt.alloc(), 0, 1), &[1, 0]));
-}
-
-#[test]
-fn a_stuck_gate_in_the_second_word(rt: HostRuntime) {
-    assert!(rt; are(of_ones(rt.alloc(), 11, 1), &[1, 0]));
+fn both_words_of_65_patterns(rt: HostRuntime) {
+    for (place, word, words) in OF_ONES {
+        let design = ones_of_c17(rt.alloc());
+        assert!(rt; gives(rt.alloc(), &design, place, word, &words));
+    }
 }

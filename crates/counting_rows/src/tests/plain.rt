@@ -1,7 +1,7 @@
 //! The same fails as by plain simulation, for each fault of small designs, in each pattern of two words.
 ghost use Rattle.std.specs.Prelude.{◌<◌, length};
 
-use super::designs::{c17, design, odd, repeated, s27};
+use super::designs::{C17, ODD, S27, design, repeated};
 use super::fails::fails;
 use diagnosis::{BundleFault, Design};
 use fault_universe::{fault_at, universe_len};
@@ -51,131 +51,114 @@ fn response_under(
     plain_response(alloc, parts, pattern, fault_at(parts, place))
 }
 
-/// The responses in one pattern, without a fault and under the fault at a place.
-fn responses(
-    alloc: Global,
-    parts: &Parts,
-    place: u32,
-    pattern: u32,
-) -> Result<(Rows<Tri>, Rows<Tri>), NoMemory>
-    requires { pattern < length parts.now.patterns }
+/// The same of the responses without a fault and under one.
+fn agree_with(
+    good: &Result<Rows<Tri>, NoMemory>,
+    bad: &Result<Rows<Tri>, NoMemory>,
+    words: &[u64],
+    bit: u32,
+) -> bool
+    requires { bit < 64 }
 {
-    let good = plain_response(alloc, parts, pattern, None)?;
-    let bad = response_under(alloc, parts, place, pattern)?;
-    Ok((good, bad))
+    match (good, bad) {
+        (Ok(good), Ok(bad)) => agree(good.as_slice(), bad.as_slice(), words, bit),
+        _ => false,
+    }
 }
 
 /// Whether the words have the fails of one pattern, and none where there is no such pattern.
-fn agree_in(
-    alloc: Global,
-    parts: &Parts,
-    place: u32,
-    pattern: u32,
-    words: &[u64],
-    bit: u32,
-) -> Result<bool, NoMemory>
+fn agree_in(alloc: Global, parts: &Parts, place: u32, pattern: u32, words: &[u64], bit: u32) -> bool
     requires { bit < 64 }
 {
     if pattern as usize >= parts.patterns().len() {
-        return Ok(none_set(words, bit));
+        return none_set(words, bit);
     }
-    let (good, bad) = responses(alloc, parts, place, pattern)?;
-    Ok(agree(good.as_slice(), bad.as_slice(), words, bit))
+    agree_with(
+        &plain_response(alloc, parts, pattern, None),
+        &response_under(alloc, parts, place, pattern),
+        words,
+        bit,
+    )
 }
 
 /// Whether the words have the fails of all patterns of a word.
-fn agree_in_word(
-    alloc: Global,
-    parts: &Parts,
-    place: u32,
-    word: u32,
-    words: &[u64],
-) -> Result<bool, NoMemory>
+fn agree_in_word(alloc: Global, parts: &Parts, place: u32, word: u32, words: &[u64]) -> bool
     requires { word < 2 }
 {
     for bit in 0..64 {
-        if !agree_in(alloc, parts, place, 64 * word + bit, words, bit)? {
-            return Ok(false);
+        if !agree_in(alloc, parts, place, 64 * word + bit, words, bit) {
+            return false;
         }
     }
-    Ok(words.len() == parts.points().len())
+    words.len() == parts.points().len()
 }
 
-fn agree_at(alloc: Global, parts: &Parts, place: u32, word: u32) -> Result<bool, NoMemory>
+fn agree_at(alloc: Global, parts: &Parts, place: u32, word: u32) -> bool
     requires { word < 2 }
 {
-    let words = fails(alloc, parts, place, word)?;
-    agree_in_word(alloc, parts, place, word, &words)
+    match &fails(alloc, parts, place, word) {
+        Ok(words) => agree_in_word(alloc, parts, place, word, words),
+        Err(_) => false,
+    }
 }
 
-fn all_agree(alloc: Global, parts: &Parts) -> Result<bool, NoMemory> {
+fn all_agree(alloc: Global, parts: &Parts) -> bool {
     for place in 0..universe_len(parts) {
-        if !agree_at(alloc, parts, place, 0)? || !agree_at(alloc, parts, place, 1)? {
-            return Ok(false);
+        if !agree_at(alloc, parts, place, 0) || !agree_at(alloc, parts, place, 1) {
+            return false;
         }
     }
-    Ok(universe_len(parts) > 0)
+    universe_len(parts) > 0
 }
 
-/// A design of 13 times its patterns.
-fn repeating(
-    alloc: Global,
-    netlist: &str,
-    scan: &str,
-    patterns: &str,
-    pairs: &str,
-) -> Result<Design, BundleFault> {
-    let all = repeated(alloc, patterns, 13)?;
-    design(alloc, netlist, scan, &all, pairs)
+fn all_agree_over(alloc: Global, design: &Result<Design, BundleFault>) -> bool {
+    match design {
+        Ok(design) => all_agree(alloc, design.parts()),
+        Err(_) => false,
+    }
 }
 
-/// The same over 13 times five patterns.
-fn agree_over(
-    alloc: Global,
-    netlist: &str,
-    scan: &str,
-    patterns: &str,
-    pairs: &str,
-) -> Result<bool, BundleFault> {
-    let design = repeating(alloc, netlist, scan, patterns, pairs)?;
-    Ok(all_agree(alloc, design.parts())?)
+/// A netlist, its scan text, five patterns and pairs.
+#[derive(Clone, Copy)]
+struct Row {
+    netlist: &'static str,
+    scan: &'static str,
+    patterns: &'static str,
+    pairs: &'static str,
 }
 
-#[test]
-fn each_fault_of_c17_with_bridges(rt: HostRuntime) {
-    let patterns = "CAPTURE 10110\nCAPTURE 01X01\nCAPTURE 00111\nCAPTURE 11011\nCAPTURE 0110X\n";
-    assert!(rt;
-        matches!(
-            agree_over(
-                rt.alloc(),
-                c17(),
-                "",
-                patterns,
-                "net_a,net_b\n10,19\n11,10\n",
-            ),
-            Ok(true)
-        )
-    );
-}
+// c17 with bridges, s27, and a flop in no chain with a gate that reads a net twice.
+const ROWS: [Row; 3] = [
+    Row {
+        netlist: C17,
+        scan: "",
+        patterns: "CAPTURE 10110\nCAPTURE 01X01\nCAPTURE 00111\nCAPTURE 11011\nCAPTURE 0110X\n",
+        pairs: "net_a,net_b\n10,19\n11,10\n",
+    },
+    Row {
+        netlist: S27,
+        scan: "CHAIN c0 G5 G6 G7\n",
+        patterns: "CAPTURE 0110 1X0\nSHIFT 101\nCAPTURE 1X01 011\nCAPTURE 0000 110\nSHIFT 0X1\n",
+        pairs: "",
+    },
+    Row {
+        netlist: ODD,
+        scan: "CHAIN c g h\n",
+        patterns: "CAPTURE 1 0X\nSHIFT 10\nCAPTURE X 11\nCAPTURE 0 10\nSHIFT X1\n",
+        pairs: "",
+    },
+];
 
-#[test]
-fn each_fault_of_s27(rt: HostRuntime) {
-    let patterns = "CAPTURE 0110 1X0\nSHIFT 101\nCAPTURE 1X01 011\nCAPTURE 0000 110\nSHIFT 0X1\n";
-    assert!(rt;
-        matches!(
-            agree_over(rt.alloc(), s27(), "CHAIN c0 G5 G6 G7\n", patterns, ""),
-            Ok(true)
-        )
-    );
+/// The design of 13 times its patterns.
+fn repeating(alloc: Global, row: &Row) -> Result<Design, BundleFault> {
+    let patterns = repeated(alloc, row.patterns, 13)?;
+    design(alloc, row.netlist, row.scan, &patterns, row.pairs)
 }
 
 #[test]
-fn a_flop_in_no_chain_and_a_gate_that_reads_a_net_twice(rt: HostRuntime) {
-    let patterns = "CAPTURE 1 0X\nSHIFT 10\nCAPTURE X 11\nCAPTURE 0 10\nSHIFT X1\n";
-    assert!(rt;
-        matches!(
-            agree_over(rt.alloc(), odd(), "CHAIN c g h\n", patterns, ""),
-            Ok(true)
-        )
-    );
+fn each_fault_of_three_designs(rt: HostRuntime) {
+    for row in &ROWS {
+        let design = repeating(rt.alloc(), row);
+        assert!(rt; all_agree_over(rt.alloc(), &design), "{}", row.netlist);
+    }
 }

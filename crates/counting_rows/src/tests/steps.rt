@@ -5,7 +5,7 @@ ghost use Rattle.scan_model.specs.Masks.{touched_nets};
 
 use super::designs::ones_of_c17;
 use super::fails::{has_word, write_fails};
-use diagnosis::BundleFault;
+use diagnosis::{BundleFault, Design};
 use fault_universe::fault_at;
 use scan_model::{Fault, NoMemory, Parts, Steps};
 use std::alloc::Global;
@@ -74,12 +74,14 @@ fn take_two_steps(alloc: Global, parts: &Parts) -> Result<bool, NoMemory> {
     Ok(nets == Some(2) && words.as_slice() == [1, 0].as_slice())
 }
 
-fn takes_two_steps(alloc: Global) -> Result<bool, BundleFault> {
-    let design = ones_of_c17(alloc)?;
-    Ok(take_two_steps(alloc, design.parts())?)
+fn takes_two_steps(alloc: Global, design: &Result<Design, BundleFault>) -> bool {
+    match design {
+        Ok(design) => matches!(take_two_steps(alloc, design.parts()), Ok(true)),
+        Err(_) => false,
+    }
 }
 
 #[test]
 fn a_stuck_gate_with_one_gate_behind_it(rt: HostRuntime) {
-    assert!(rt; matches!(takes_two_steps(rt.alloc()), Ok(true)));
+    assert!(rt; takes_two_steps(rt.alloc(), &ones_of_c17(rt.alloc())));
 }

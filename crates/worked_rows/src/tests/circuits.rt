@@ -14,12 +14,13 @@ pub(crate) fn s27_chain() -> &'static str {
     "CHAIN c0 G5 G6 G7\n"
 }
 
-/// The design d of a netlist, a scan text and a pattern text, without neighbours.
+/// The design d of a netlist, a scan text, a pattern text and neighbours.
 pub(crate) fn design(
     alloc: Global,
     netlist: &str,
     scan: &str,
     patterns: &str,
+    neighbours: &str,
 ) -> Result<Design, BundleFault> {
     design_of(
         alloc,
@@ -27,16 +28,16 @@ pub(crate) fn design(
         netlist.as_bytes(),
         scan.as_bytes(),
         patterns.as_bytes(),
-        b"",
+        neighbours.as_bytes(),
     )
 }
 
-/// The same of c17, which has no chains.
+/// The same of c17, which has no chains, without neighbours.
 pub(crate) fn design_of_c17(alloc: Global, patterns: &str) -> Result<Design, BundleFault> {
-    design(alloc, c17(), "", patterns)
+    design(alloc, c17(), "", patterns, "")
 }
 
 /// The same of s27 with its chain.
 pub(crate) fn design_of_s27(alloc: Global, patterns: &str) -> Result<Design, BundleFault> {
-    design(alloc, s27(), s27_chain(), patterns)
+    design(alloc, s27(), s27_chain(), patterns, "")
 }

@@ -5,7 +5,7 @@ ghost use Rattle.scan_model.specs.Words.{is_tag};
 ghost use Rattle.diagnosis.specs.Designs.{IsLogOf};
 
 use diag_report::Report;
-use diagnosis::{Design, DieView, ReadLog, log_of, make_report};
+use diagnosis::{BundleFault, Design, DieView, ReadLog, log_of, make_report};
 use scan_model::{Name, NoMemory};
 use std::alloc::Global;
 use std::sync::Arc;
@@ -49,8 +49,7 @@ pub(crate) fn report_over<R: Threads + Sync>(
     }
 }
 
-/// The same of a log of the die D1.
-pub(crate) fn report<R: Threads + Sync>(
+fn report_of_design<R: Threads + Sync>(
     rt: &R,
     alloc: Global,
     design: Design,
@@ -58,4 +57,17 @@ pub(crate) fn report<R: Threads + Sync>(
 ) -> Result<Report, NoMemory> {
     let design = Arc::new(alloc, design)?;
     report_over(rt, alloc, &design, b"D1", log)
+}
+
+/// The same of a log of the die D1 of this design.
+pub(crate) fn report<R: Threads + Sync>(
+    rt: &R,
+    alloc: Global,
+    design: Result<Design, BundleFault>,
+    log: &[u8],
+) -> Result<Report, NoMemory> {
+    match design {
+        Ok(design) => report_of_design(rt, alloc, design, log),
+        Err(_) => Err(NoMemory),
+    }
 }

@@ -1,34 +1,16 @@
 //! The list of modelled faults.
 use super::circuits::design_of_s27;
-use diagnosis::BundleFault;
+use diagnosis::{BundleFault, Design};
 use fault_universe::{fault_at, fault_text, place_of, universe, universe_len};
-use scan_model::{Name, NoMemory, Parts, Rows};
+use scan_model::{Fault, Name, NoMemory, Parts, Rows};
 use std::alloc::Global;
 
-fn has_len<T: Drop>(rows: Result<Rows<T>, NoMemory>, len: usize) -> bool {
-    match rows {
-        Ok(found) => found.len() == len,
-        Err(_) => false,
-    }
+fn has_len(rows: &Result<Rows<Fault>, NoMemory>, len: usize) -> bool {
+    matches!(rows, Ok(found) if found.len() == len)
 }
 
-// Whether the list of s27 has 64 faults.
-fn lists_all(alloc: Global) -> Result<bool, BundleFault> {
-    let design = design_of_s27(alloc, "CAPTURE 0000 000\n")?;
-    let parts = design.parts();
-    Ok(has_len(universe(alloc, parts), 64) && universe_len(parts) == 64)
-}
-
-#[test]
-fn all_faults_of_s27(rt: HostRuntime) {
-    assert!(rt; matches!(lists_all(rt.alloc()), Ok(true)));
-}
-
-fn is_text(text: Result<Name, NoMemory>, expected: &[u8]) -> bool {
-    match text {
-        Ok(found) => found.as_slice() == expected,
-        Err(_) => false,
-    }
+fn is_text(text: &Result<Name, NoMemory>, expected: &[u8]) -> bool {
+    matches!(text, Ok(found) if found.as_slice() == expected)
 }
 
 // Whether the fault at a place has this text, and this place.
@@ -36,24 +18,30 @@ fn has_text(alloc: Global, parts: &Parts, place: u32, expected: &[u8]) -> bool {
     match fault_at(parts, place) {
         Some(fault) => {
             place_of(parts, &fault) == Some(place)
-                && is_text(fault_text(alloc, parts, &fault), expected)
+                && is_text(&fault_text(alloc, parts, &fault), expected)
         }
         None => false,
     }
 }
 
-// The same of the place 45 of s27.
-fn s27_has_text(alloc: Global, expected: &[u8]) -> Result<bool, BundleFault> {
-    let design = design_of_s27(alloc, "CAPTURE 0000 000\n")?;
-    Ok(has_text(alloc, design.parts(), 45, expected))
+// Whether the list has so many faults.
+fn lists(alloc: Global, parts: &Parts, faults: u32) -> bool {
+    has_len(&universe(alloc, parts), faults as usize) && universe_len(parts) == faults
+}
+
+// Whether a design has 64 faults, of which the one at place 45 is a branch.
+fn has_its_faults(alloc: Global, design: &Result<Design, BundleFault>) -> bool {
+    match design {
+        Ok(design) => {
+            lists(alloc, design.parts(), 64)
+                && has_text(alloc, design.parts(), 45, b"branch G8 to G16 2 sa1")
+        }
+        Err(_) => false,
+    }
 }
 
 #[test]
-fn a_branch_as_text(rt: HostRuntime) {
-    assert!(rt;
-        matches!(
-            s27_has_text(rt.alloc(), b"branch G8 to G16 2 sa1"),
-            Ok(true)
-        )
-    );
+fn all_faults_of_s27_and_a_branch_as_text(rt: HostRuntime) {
+    let alloc = rt.alloc();
+    assert!(rt; has_its_faults(alloc, &design_of_s27(alloc, "CAPTURE 0000 000\n")));
 }

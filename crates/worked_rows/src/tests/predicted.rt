@@ -9,30 +9,30 @@ use std::sync::Arc;
 use std::thread::Threads;
 
 /// The log that the fault at a place predicts of the die D1 of the design.
-fn predicted(alloc: Global, design: &Design, place: u32) -> Result<Option<Name>, NoMemory> {
-    if place >= universe_len(design.parts()) {
-        return Ok(None);
-    }
-    let log = fails_text(alloc, design.parts(), design.name(), b"D1", place)?;
-    Ok(Some(log))
-}
-
-fn predicts(alloc: Global, design: &Design, place: u32, text: &str) -> Result<bool, NoMemory> {
-    match predicted(alloc, design, place)? {
-        Some(log) => Ok(log.as_slice() == text.as_bytes()),
-        None => Ok(false),
+fn predicted(alloc: Global, design: &Design, place: u32) -> Result<Name, NoMemory> {
+    if place < universe_len(design.parts()) {
+        fails_text(alloc, design.parts(), design.name(), b"D1", place)
+    } else {
+        Err(NoMemory)
     }
 }
 
-fn is_log(alloc: Global, place: u32, text: &str) -> Result<bool, BundleFault> {
-    let design = design_of_c17(alloc, "CAPTURE 11111\n")?;
-    Ok(predicts(alloc, &design, place, text)?)
+fn is_log(log: &Result<Name, NoMemory>, text: &str) -> bool {
+    matches!(log, Ok(log) if log.as_slice() == text.as_bytes())
+}
+
+fn predicts_first(alloc: Global, design: &Result<Design, BundleFault>, text: &str) -> bool {
+    match design {
+        Ok(design) => is_log(&predicted(alloc, design, 0), text),
+        Err(_) => false,
+    }
 }
 
 #[test]
 fn the_log_of_the_first_fault(rt: HostRuntime) {
+    let alloc = rt.alloc();
     let log = "FAILLOG 1\ndie D1\ndesign d\ntested 0 0\nfail 0 out 22\nend\n";
-    assert!(rt; matches!(is_log(rt.alloc(), 0, log), Ok(true)));
+    assert!(rt; predicts_first(alloc, &design_of_c17(alloc, "CAPTURE 11111\n"), log));
 }
 
 /// Whether a report has these words.
@@ -53,7 +53,7 @@ fn own_words(alloc: Global, place: u32, fails: usize) -> Result<String, AllocErr
 
 /// How many fails a log of the die D1 lists; none where it is refused.
 fn fails_in(alloc: Global, design: &Design, log: &[u8]) -> Option<usize> {
-    match log_of(alloc, design, b"D1", log) {
+    match &log_of(alloc, design, b"D1", log) {
         Ok(read) => Some(read.facts().fails.len()),
         Err(_) => None,
     }
@@ -66,24 +66,20 @@ fn reports<R: Threads + Sync>(
     design: &Arc<Design>,
     log: &[u8],
     words: &str,
-) -> Result<bool, NoMemory> {
-    let report = report_over(rt, alloc, design, b"D1", log)?;
-    Ok(has(&report, words))
+) -> bool {
+    matches!(&report_over(rt, alloc, design, b"D1", log), Ok(report) if has(report, words))
 }
 
-/// Whether the fault at a place explains this log, and no pass speaks against it.
+/// Whether the fault at a place explains this log of so many fails, and no pass speaks against it.
 fn explains<R: Threads + Sync>(
     rt: &R,
     alloc: Global,
     design: &Arc<Design>,
     place: u32,
     log: &[u8],
-) -> Result<bool, NoMemory> {
-    let Some(fails) = fails_in(alloc, design, log) else {
-        return Ok(false);
-    };
-    let words = own_words(alloc, place, fails)?;
-    reports(rt, alloc, design, log, &words)
+    fails: usize,
+) -> bool {
+    matches!(&own_words(alloc, place, fails), Ok(words) if reports(rt, alloc, design, log, words))
 }
 
 /// The same of the log that it predicts.
@@ -92,10 +88,14 @@ fn explains_itself<R: Threads + Sync>(
     alloc: Global,
     design: &Arc<Design>,
     place: u32,
-) -> Result<bool, NoMemory> {
-    match predicted(alloc, design, place)? {
-        Some(log) => explains(rt, alloc, design, place, log.as_slice()),
-        None => Ok(false),
+    predicted: &Result<Name, NoMemory>,
+) -> bool {
+    match predicted {
+        Ok(log) => match fails_in(alloc, design, log.as_slice()) {
+            Some(fails) => explains(rt, alloc, design, place, log.as_slice(), fails),
+            None => false,
+        },
+        Err(_) => false,
     }
 }
 
@@ -105,41 +105,40 @@ fn each_explains_itself<R: Threads + Sync>(
     alloc: Global,
     design: &Arc<Design>,
     faults: u32,
-) -> Result<bool, NoMemory> {
+) -> bool {
     for place in 0..faults {
-        if !explains_itself(rt, alloc, design, place)? {
-            return Ok(false);
+        if !explains_itself(rt, alloc, design, place, &predicted(alloc, design, place)) {
+            return false;
         }
     }
-    Ok(universe_len(design.parts()) == faults)
+    universe_len(design.parts()) == faults
 }
 
 fn all_explain_themselves<R: Threads + Sync>(
     rt: &R,
     alloc: Global,
-    design: Design,
+    design: Result<Design, BundleFault>,
     faults: u32,
-) -> Result<bool, NoMemory> {
-    let design = Arc::new(alloc, design)?;
-    each_explains_itself(rt, alloc, &design, faults)
-}
-
-fn all_of_c17<R: Threads + Sync>(rt: &R, alloc: Global) -> Result<bool, BundleFault> {
-    let design = design_of_c17(alloc, "CAPTURE 11111\nCAPTURE 10X01\nCAPTURE 01010\n")?;
-    Ok(all_explain_themselves(rt, alloc, design, 34)?)
+) -> bool {
+    match design {
+        Ok(design) => {
+            matches!(&Arc::new(alloc, design), Ok(design) if each_explains_itself(rt, alloc, design, faults))
+        }
+        Err(_) => false,
+    }
 }
 
 #[test]
 fn each_fault_of_c17(rt: HostRuntime) {
-    assert!(rt; matches!(all_of_c17(&rt, rt.alloc()), Ok(true)));
-}
-
-fn all_of_s27<R: Threads + Sync>(rt: &R, alloc: Global) -> Result<bool, BundleFault> {
-    let design = design_of_s27(alloc, "CAPTURE 0000 000\nSHIFT 101\nCAPTURE 1101 1X0\n")?;
-    Ok(all_explain_themselves(rt, alloc, design, 64)?)
+    let design = design_of_c17(rt.alloc(), "CAPTURE 11111\nCAPTURE 10X01\nCAPTURE 01010\n");
+    assert!(rt; all_explain_themselves(&rt, rt.alloc(), design, 34));
 }
 
 #[test]
 fn each_fault_of_s27(rt: HostRuntime) {
-    assert!(rt; matches!(all_of_s27(&rt, rt.alloc()), Ok(true)));
+    let design = design_of_s27(
+        rt.alloc(),
+        "CAPTURE 0000 000\nSHIFT 101\nCAPTURE 1101 1X0\n",
+    );
+    assert!(rt; all_explain_themselves(&rt, rt.alloc(), design, 64));
 }

@@ -4,7 +4,6 @@ use diag_report::{PastEnd, Report};
 use diagnosis::{BundleFault, Design};
 use scan_model::NoMemory;
 use std::alloc::Global;
-use std::thread::Threads;
 
 /// Whether the report from this line on begins with these words.
 fn begins(report: &Report, line: u64, words: &str) -> bool {
@@ -15,23 +14,19 @@ fn begins(report: &Report, line: u64, words: &str) -> bool {
 }
 
 /// The same from two of its lines on.
-fn begin(answer: Result<Report, BundleFault>, first: (u64, &str), second: (u64, &str)) -> bool {
+fn begin(answer: &Result<Report, NoMemory>, first: (u64, &str), second: (u64, &str)) -> bool {
     match answer {
-        Ok(report) => begins(&report, first.0, first.1) && begins(&report, second.0, second.1),
+        Ok(report) => begins(report, first.0, first.1) && begins(report, second.0, second.1),
         Err(_) => false,
     }
 }
 
-fn without_fails<R: Threads + Sync>(rt: &R, alloc: Global) -> Result<Report, BundleFault> {
-    let design = design_of_s27(alloc, "CAPTURE 0000 000\n")?;
-    let log = b"FAILLOG 1\ndie D1\ndesign d\ntested 0 0\nend\n";
-    Ok(report(rt, alloc, design, log)?)
-}
-
 #[test]
 fn a_die_without_fails(rt: HostRuntime) {
-    let answer = without_fails(&rt, rt.alloc());
-    assert!(rt; begin(answer, (6, "passing 4\n"), (9, "candidates 0\n")));
+    let design = design_of_s27(rt.alloc(), "CAPTURE 0000 000\n");
+    let log = b"FAILLOG 1\ndie D1\ndesign d\ntested 0 0\nend\n";
+    let answer = report(&rt, rt.alloc(), design, log);
+    assert!(rt; begin(&answer, (6, "passing 4\n"), (9, "candidates 0\n")));
 }
 
 /// A text this many times over.
@@ -48,18 +43,14 @@ fn design_of_65_patterns(alloc: Global) -> Result<Design, BundleFault> {
     design_of_c17(alloc, &patterns)
 }
 
-fn with_65_patterns<R: Threads + Sync>(rt: &R, alloc: Global) -> Result<Report, BundleFault> {
-    let design = design_of_65_patterns(alloc)?;
-    let log = b"FAILLOG 1\ndie D1\ndesign d\ntested 0 64\nfail 64 out 22\nend\n";
-    Ok(report(rt, alloc, design, log)?)
-}
-
 #[test]
 fn a_fail_in_the_last_of_65_patterns(rt: HostRuntime) {
-    let answer = with_65_patterns(&rt, rt.alloc());
+    let design = design_of_65_patterns(rt.alloc());
+    let log = b"FAILLOG 1\ndie D1\ndesign d\ntested 0 64\nfail 64 out 22\nend\n";
+    let answer = report(&rt, rt.alloc(), design, log);
     assert!(rt;
         begin(
-            answer,
+            &answer,
             (5, "failing 1\npassing 129\n"),
             (13, "candidate 4 fault 22 tfsf 1 tfsp 0 tpsf 64 ")
         )
@@ -78,25 +69,7 @@ fn buffers(alloc: Global) -> Result<String, NoMemory> {
 
 fn design_of_buffers(alloc: Global) -> Result<Design, BundleFault> {
     let netlist = buffers(alloc)?;
-    design(alloc, &netlist, "", "CAPTURE 1\n")
-}
-
-fn of_buffers<R: Threads + Sync>(rt: &R, alloc: Global) -> Result<Report, BundleFault> {
-    let design = design_of_buffers(alloc)?;
-    let log = b"FAILLOG 1\ndie D1\ndesign d\ntested 0 0\nfail 0 out b240\nend\n";
-    Ok(report(rt, alloc, design, log)?)
-}
-
-#[test]
-fn the_second_page_of_a_long_report(rt: HostRuntime) {
-    let answer = of_buffers(&rt, rt.alloc());
-    assert!(rt;
-        begin(
-            answer,
-            (9, "candidates 241\n"),
-            (101, "candidate 92 fault 182 ")
-        )
-    );
+    design(alloc, &netlist, "", "CAPTURE 1\n", "")
 }
 
 fn line_ends(bytes: &[u8]) -> usize {
@@ -116,14 +89,25 @@ fn has_lines(report: &Report, line: u64, count: usize) -> bool {
 }
 
 /// Whether the page from line 201 on is the last, of 50 lines.
-fn ends_with_50(answer: Result<Report, BundleFault>) -> bool {
+fn ends_with_50(answer: &Result<Report, NoMemory>) -> bool {
     match answer {
-        Ok(report) => ends_at_250(&report) && has_lines(&report, 201, 50),
+        Ok(report) => ends_at_250(report) && has_lines(report, 201, 50),
         Err(_) => false,
     }
 }
 
+// The second page, and the last.
+fn has_its_pages(answer: &Result<Report, NoMemory>) -> bool {
+    begin(
+        answer,
+        (9, "candidates 241\n"),
+        (101, "candidate 92 fault 182 "),
+    ) && ends_with_50(answer)
+}
+
 #[test]
-fn the_last_page_of_a_long_report(rt: HostRuntime) {
-    assert!(rt; ends_with_50(of_buffers(&rt, rt.alloc())));
+fn the_second_and_the_last_page_of_a_long_report(rt: HostRuntime) {
+    let design = design_of_buffers(rt.alloc());
+    let log = b"FAILLOG 1\ndie D1\ndesign d\ntested 0 0\nfail 0 out b240\nend\n";
+    assert!(rt; has_its_pages(&report(&rt, rt.alloc(), design, log)));
 }

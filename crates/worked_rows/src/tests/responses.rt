@@ -17,56 +17,86 @@ fn first_response(alloc: Global, parts: &Parts, place: u32) -> Result<Rows<Tri>,
     plain_response(alloc, parts, 0, fault_at(parts, place))
 }
 
-fn response_of_s27(alloc: Global, patterns: &str, place: u32) -> Result<Rows<Tri>, BundleFault> {
-    let design = design_of_s27(alloc, patterns)?;
-    Ok(first_response(alloc, design.parts(), place)?)
+fn shows(answer: &Result<Rows<Tri>, NoMemory>, values: &[Tri]) -> bool {
+    matches!(answer, Ok(shown) if shown.as_slice() == values)
 }
 
-fn shows<E: Drop>(answer: Result<Rows<Tri>, E>, values: &[Tri]) -> bool {
-    match answer {
-        Ok(shown) => shown.as_slice() == values,
+fn responds(
+    alloc: Global,
+    design: &Result<Design, BundleFault>,
+    place: u32,
+    values: &[Tri],
+) -> bool {
+    match design {
+        Ok(design) => shows(&first_response(alloc, design.parts(), place), values),
         Err(_) => false,
     }
 }
 
-#[test]
-fn a_capture_of_known_values(rt: HostRuntime) {
-    let answer = response_of_s27(rt.alloc(), "CAPTURE 0000 000\n", 64);
-    assert!(rt; shows(answer, &[Tri::One, Tri::Zero, Tri::Zero, Tri::Zero]));
+// A pattern of s27, the place of a fault or past them, and the response.
+#[derive(Clone, Copy)]
+struct Row {
+    pattern: &'static str,
+    place: u32,
+    values: &'static [Tri],
 }
 
-#[test]
-fn a_capture_of_an_unknown_value(rt: HostRuntime) {
-    let answer = response_of_s27(rt.alloc(), "CAPTURE 0000 0X0\n", 64);
-    assert!(rt; shows(answer, &[X, Tri::Zero, X, Tri::Zero]));
-}
+// A capture of known values, one with an unknown value, and a shift with a slow cell.
+const ROWS: [Row; 3] = [
+    Row {
+        pattern: "CAPTURE 0000 000\n",
+        place: 64,
+        values: &[Tri::One, Tri::Zero, Tri::Zero, Tri::Zero],
+    },
+    Row {
+        pattern: "CAPTURE 0000 0X0\n",
+        place: 64,
+        values: &[X, Tri::Zero, X, Tri::Zero],
+    },
+    Row {
+        pattern: "SHIFT 101\n",
+        place: 58,
+        values: &[X, X, Tri::Zero, Tri::Zero],
+    },
+];
 
 #[test]
-fn a_slow_cell_in_a_shift(rt: HostRuntime) {
-    let answer = response_of_s27(rt.alloc(), "SHIFT 101\n", 58);
-    assert!(rt; shows(answer, &[X, X, Tri::Zero, Tri::Zero]));
+fn captures_and_a_shift_of_s27(rt: HostRuntime) {
+    for row in &ROWS {
+        let design = design_of_s27(rt.alloc(), row.pattern);
+        assert!(rt;
+            responds(rt.alloc(), &design, row.place, row.values),
+            "{}",
+            row.pattern
+        );
+    }
 }
 
 /// A netlist in other letter case, with comments, and without an end of its last line.
 fn inverter(alloc: Global) -> Result<Design, BundleFault> {
     let netlist = "# c\r\ninput(a)\r\nOUTPUT ( y )  # out\r\ny = nand(a)";
-    design(alloc, netlist, "", "CAPTURE 1\n")
+    design(alloc, netlist, "", "CAPTURE 1\n", "")
 }
 
-fn has_sizes(parts: &Parts) -> bool {
-    parts.circuit().nets().len() == 2
-        && parts.circuit().pins().len() == 2
-        && universe_len(parts) == 4
+fn has_sizes(design: &Result<Design, BundleFault>) -> bool {
+    match design {
+        Ok(design) => {
+            let parts = design.parts();
+            parts.circuit().nets().len() == 2
+                && parts.circuit().pins().len() == 2
+                && universe_len(parts) == 4
+        }
+        Err(_) => false,
+    }
 }
 
-fn inverts(alloc: Global) -> Result<bool, BundleFault> {
-    let design = inverter(alloc)?;
-    Ok(has_sizes(design.parts()) && shows(first_response(alloc, design.parts(), 4), &[Tri::Zero]))
+fn inverts(alloc: Global, design: &Result<Design, BundleFault>) -> bool {
+    has_sizes(design) && responds(alloc, design, 4, &[Tri::Zero])
 }
 
 #[test]
 fn a_netlist_in_other_letter_case(rt: HostRuntime) {
-    assert!(rt; matches!(inverts(rt.alloc()), Ok(true)));
+    assert!(rt; inverts(rt.alloc(), &inverter(rt.alloc())));
 }
 
 #[test]
