@@ -1,6 +1,6 @@
 #!/bin/sh
-# Runs the worked day of the README and the examples of docs/formats.md, and compares what is printed with what is
-# expected. The program is the built one, or that of the first word.
+# Runs the worked day of the README, the examples of docs/formats.md, the table of examples/rows, and stores that are changed by
+# hand, and compares what is printed with what is expected. The program is the built one, or that of the first word.
 top=$(CDPATH='' cd -- "$(dirname -- "$0")/.." && pwd) || exit 1
 program=${1:-$top/crates/scandesk/out/scandesk}
 # Without words the program says that it doesn't understand; where it isn't there, it is built first.
@@ -158,6 +158,41 @@ the_answers() {
     done <"$work/answers"
 }
 
+# The files of the table in examples/rows, and those of the stored run.
+the_files_of_the_rows() {
+    cp "$top"/examples/s27/* .
+    cp "$top"/crates/scandesk/data/* .
+    cp "$top"/examples/rows/* .
+    cp "$top/crates/scandesk/stdout" a.expected
+    cp a.log copy.log
+    cp c17.bench help
+    cp none.scan a=b
+    cp one.pat a-b
+    cp none.csv pack
+}
+
+# the_row STATUS WRITTEN WORD..: what is written is one line, or the file behind `<`.
+the_row() {
+    due=$1
+    written=$2
+    shift 2
+    case $written in
+        '<'*) expect "$due" "${written#<}" "$@" ;;
+        *) expect_line "$due" "$written" "$@" ;;
+    esac
+}
+
+# The rows of that table, whose words stand as for a shell.
+the_rows() {
+    mkdir "$work/rows"
+    cd "$work/rows" || exit 1
+    the_files_of_the_rows
+    grep -v -e '^#' -e '^$' table >rows
+    while IFS='|' read -r status words written; do
+        eval "the_row '$status' '$written' $words"
+    done <rows
+}
+
 # The bodies of the requests of docs/formats.md.
 the_bodies() {
     "$program" pack s27.bench s27.scan s27.pat none.csv >s27.bundle
@@ -178,6 +213,13 @@ the_requests() {
     the_bodies
     runs=$((runs + 1))
     "$top/examples/requests.py" "$program" . || wrong=$((wrong + 1))
+}
+
+# Stores that are changed by hand between two runs.
+the_stores() {
+    cd "$work/bodies" || exit 1
+    runs=$((runs + 1))
+    "$top/examples/stores.py" "$program" . || wrong=$((wrong + 1))
 }
 
 # What can't be written ends with status 6.
@@ -207,7 +249,9 @@ the_day
 the_day_over_http
 the_rules
 the_answers
+the_rows
 the_requests
+the_stores
 the_little_memory
 the_full_device
 echo "$runs examples, $wrong wrong"

@@ -1,4 +1,2 @@
-mod changed;
 mod deeds;
 mod kept;
-mod stores;

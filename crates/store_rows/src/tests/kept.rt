@@ -1,23 +1,27 @@
 //! Deeds that come back from their file.
 ghost use Rattle.std.specs.Prelude.{◌≡◌, None};
 
-use super::deeds::{FAILS, c17, digest, is_design, is_log, is_sign};
-use super::stores::{Trial, is_made, is_shown};
-use book::Book;
-use desk_outside::{Cabinet, KeepFault, Keeper};
+use super::deeds::{design, is_design, is_log, is_sign, log, sign};
+use desk_outside::{Cabinet, Deed, KeepFault, Keeper};
+use keeper_sqlite::SqliteCabinet;
 use std::alloc::Global;
-use std::thread::Threads;
+use std::fs;
+use std::process::Abort;
 
-fn has_design<K: Keeper>(keeper: &mut K) -> bool {
-    matches!(&keeper.row(0), Ok(Some(deed)) if is_design(deed, 3, b"c17", c17()))
+fn add<K: Keeper>(rt: &impl Abort, keeper: &mut K, deed: &Deed) {
+    assert!(rt; keeper.append(deed).is_ok());
 }
 
-fn has_log<K: Keeper>(keeper: &mut K) -> bool {
-    matches!(&keeper.row(1), Ok(Some(deed)) if is_log(deed, 0, b"D1", FAILS))
-}
-
-fn has_sign<K: Keeper>(keeper: &mut K) -> bool {
-    matches!(&keeper.row(2), Ok(Some(deed)) if is_sign(deed, 4294967295, 1, b"anna", digest()))
+// Adds the three deeds to the store of this name.
+fn fill<C: Cabinet>(rt: &impl Abort, alloc: Global, cabinet: &mut C, name: &str)
+    requires { C.told cabinet.old ≡ None }
+    ensures { C.told cabinet.new ≡ None }
+{
+    let mut keeper = cabinet.keeper(name).expect(rt, "a keeper");
+    add(rt, &mut keeper, &design(rt, alloc));
+    add(rt, &mut keeper, &log(rt, alloc));
+    add(rt, &mut keeper, &sign(rt, alloc));
+    cabinet.back(keeper);
 }
 
 // The row is past the end.
@@ -27,64 +31,42 @@ fn is_past<K: Keeper>(keeper: &mut K, row: u64) -> bool {
 
 // The three deeds stand in the rows from 0 on, and no more.
 fn has_three<K: Keeper>(keeper: &mut K) -> bool {
-    has_design(keeper)
-        && has_log(keeper)
-        && has_sign(keeper)
+    matches!(&keeper.row(0), Ok(Some(deed)) if is_design(deed))
+        && matches!(&keeper.row(1), Ok(Some(deed)) if is_log(deed))
+        && matches!(&keeper.row(2), Ok(Some(deed)) if is_sign(deed))
         && is_past(keeper, 3)
         && is_past(keeper, 18446744073709551615)
         && keeper.count() == 0
 }
 
-/// So it is in the store of this name.
-pub(super) fn holds_three<C: Cabinet>(cabinet: &mut C, name: &str) -> bool
+// So it is in the store of this name.
+fn holds_three<C: Cabinet>(rt: &impl Abort, cabinet: &mut C, name: &str)
     requires { C.told cabinet.old ≡ None }
+    ensures { C.told cabinet.new ≡ None }
 {
-    let Ok(mut keeper) = cabinet.keeper(name) else {
-        return false;
-    };
-    let held = has_three(&mut keeper);
+    let mut keeper = cabinet.keeper(name).expect(rt, "a keeper");
+    assert!(rt; has_three(&mut keeper));
     cabinet.back(keeper);
-    held
 }
 
-/// A book opens over the store of this name, and has three deeds and no fault.
-pub(super) fn opens<R: Threads + Sync, C: Cabinet>(
-    rt: &R,
-    alloc: Global,
-    cabinet: &mut C,
-    name: &str,
-) -> bool
+// No keeper is given for this name, since the cabinet fails.
+fn gives_none<C: Cabinet>(rt: &impl Abort, cabinet: &mut C, name: &str) {
+    assert!(rt; matches!(cabinet.keeper(name), Err(KeepFault::Failed)));
+}
+
+// (One function names the cabinet's own type, since each that does is long to prove.)
+fn keeps_deeds<C: Cabinet>(rt: &impl Abort, alloc: Global, cabinet: &mut C)
     requires { C.told cabinet.old ≡ None }
 {
-    let Ok(keeper) = cabinet.keeper(name) else {
-        return false;
-    };
-    let Ok(book) = Book::open_from(rt, alloc, keeper, 10) else {
-        return false;
-    };
-    let counts = (book.deeds(), book.faults());
-    cabinet.back(book.close());
-    counts == (3, 0)
+    fill(rt, alloc, cabinet, "kept.db");
+    holds_three(rt, cabinet, "kept.db");
+    gives_none(rt, cabinet, "no folder/store.db");
 }
 
-/// Whether no keeper is given for this name, since the cabinet failed.
-pub(super) fn gives_none<C: Cabinet>(cabinet: &mut C, name: &str) -> bool {
-    matches!(cabinet.keeper(name), Err(KeepFault::Failed))
-}
-
+// A file in no folder is a fault.
 #[test]
 fn deeds_come_back(rt: HostRuntime) {
-    assert!(rt; is_made(&rt, &rt, "kept.db"));
-    assert!(rt; is_shown(&rt, &rt, "kept.db", Trial::HoldsThree));
-}
-
-#[test]
-fn a_book_opens_over_them(rt: HostRuntime) {
-    assert!(rt; is_made(&rt, &rt, "book.db"));
-    assert!(rt; is_shown(&rt, &rt, "book.db", Trial::Opens));
-}
-
-#[test]
-fn a_file_in_no_folder_gives_no_keeper(rt: HostRuntime) {
-    assert!(rt; is_shown(&rt, &rt, "no folder/store.db", Trial::GivesNone));
+    let _ = fs::remove_file(&rt, "kept.db");
+    let mut cabinet = SqliteCabinet::make(&rt, rt.alloc());
+    keeps_deeds(&rt, rt.alloc(), &mut cabinet);
 }
