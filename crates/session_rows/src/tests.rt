@@ -1,19 +1,16 @@
 ghost use Rattle.std.specs.Prelude.{◌<◌};
 
-use self::byte_link::ByteLink;
+use self::piece_link::PieceLink;
 use book::Book;
 use desk_http::{ReportCache, SessionEnd, SessionNote, session};
 use desk_outside::{Link, MemKeeper, MemLink, OpenGate};
 use desk_rows::{finish_one, start_one};
 use scan_model::{Name, NoMemory, Rows};
 use std::alloc::Global;
-use std::process::Abort;
 use std::sync::Wait;
-use std::test::Fail;
 use std::thread::Threads;
 
 mod bodies;
-mod byte_link;
 mod cut;
 mod failing;
 mod gate;
@@ -21,6 +18,7 @@ mod heads;
 mod hostile;
 mod incoming;
 mod pages;
+mod piece_link;
 mod replies;
 mod resources;
 mod rows;
@@ -28,7 +26,7 @@ mod sign_bodies;
 mod texts;
 
 // A connection over a new desk of one seat, whose keeper fails in the calls with these numbers, and what comes of it.
-#[derive(Drop)]
+#[derive(Clone, Copy)]
 struct Row<'a> {
     failing: &'a [u64],
     max_deeds: u32,
@@ -47,6 +45,30 @@ fn joined(alloc: Global, parts: &[&[u8]]) -> Result<Name, NoMemory> {
     Ok(text)
 }
 
+// Whether a text is these parts, one after another.
+fn are_parts(text: &[u8], parts: &[&[u8]]) -> bool {
+    let mut rest = text;
+    for part in parts {
+        match rest.strip_prefix(*part) {
+            Some(behind) => rest = behind,
+            None => return false,
+        }
+    }
+    rest.is_empty()
+}
+
+// A keeper without deeds, of which the calls with these numbers fail.
+fn keeper_of(alloc: Global, failing: &[u64]) -> Result<MemKeeper, NoMemory> {
+    let calls = Vec::from_slice(alloc, failing)?;
+    MemKeeper::make_failing(alloc, Rows::new(alloc), Rows::from_vec(calls))
+}
+
+// A connection over which these parts come, at once or byte by byte.
+fn link_of(alloc: Global, asked: &[&[u8]], by_bytes: bool) -> Result<PieceLink<MemLink>, NoMemory> {
+    let link = MemLink::make(alloc, joined(alloc, asked)?)?;
+    Ok(PieceLink::over(link, by_bytes))
+}
+
 // What comes of a session: its note, and the book at its end.
 #[derive(Drop)]
 struct Outcome {
@@ -54,68 +76,55 @@ struct Outcome {
     book: Book<MemKeeper>,
 }
 
-// Serves a connection over a new desk of one seat, which takes so many deeds, with a cache of so many reports.
+// Serves a connection over a new desk of one seat, which takes so many deeds.
 fn serve_new<R: Threads + Wait + Sync, L: Link>(
     rt: &R,
     alloc: Global,
     keeper: MemKeeper,
     max_deeds: u32,
-    reports: usize,
     link: &mut L,
-) -> Result<Outcome, NoMemory>
-    requires { 0 < reports }
-{
+) -> Result<Outcome, NoMemory> {
+    let mut cache = ReportCache::make(alloc, 4)?;
     let (desk, mut seat) = start_one(rt, alloc, keeper, max_deeds)?;
-    let mut cache = ReportCache::make(alloc, reports)?;
     let note = session(rt, alloc, &desk, &mut seat, &mut cache, link, &mut OpenGate);
     let book = finish_one(alloc, desk, seat)?;
     Ok(Outcome { note, book })
 }
 
-// The session ends so, with these marks.
-fn gives<R: Threads + Wait + Sync, L: Link>(
-    rt: &R,
-    alloc: Global,
-    row: &Row<'_>,
-    link: &mut L,
-) -> Result<bool, NoMemory> {
-    let failing = Rows::from_vec(Vec::from_slice(alloc, row.failing)?);
-    let keeper = MemKeeper::make_failing(alloc, Rows::new(alloc), failing)?;
-    let outcome = serve_new(rt, alloc, keeper, row.max_deeds, 4, link)?;
-    Ok(outcome.note.end == row.end && outcome.note.marks.as_slice() == row.marks)
+fn is_due(note: &SessionNote, sent: &[u8], row: &Row<'_>) -> bool {
+    note.end == row.end && note.marks.as_slice() == row.marks && are_parts(sent, row.sent)
 }
 
-fn is_served_at_once<R: Threads + Wait + Sync>(
+// The book behind a session over a desk of this keeper, or nothing where it isn't answered so.
+fn book_behind<R: Threads + Wait + Sync>(
     rt: &R,
     alloc: Global,
+    keeper: MemKeeper,
     row: &Row<'_>,
-) -> Result<bool, NoMemory> {
-    let sent = joined(alloc, row.sent)?;
-    let asked = joined(alloc, row.asked)?;
-    let mut link = MemLink::make(alloc, asked)?;
-    let given = gives(rt, alloc, row, &mut link)?;
-    Ok(given && link.sent() == sent.as_slice())
+    by_bytes: bool,
+) -> Result<Option<Book<MemKeeper>>, NoMemory> {
+    let mut link = link_of(alloc, row.asked, by_bytes)?;
+    let Outcome { note, book } = serve_new(rt, alloc, keeper, row.max_deeds, &mut link)?;
+    if is_due(&note, link.link().sent(), row) {
+        Ok(Some(book))
+    } else {
+        Ok(None)
+    }
 }
 
-fn is_served_by_bytes<R: Threads + Wait + Sync>(
+fn is_served_so<R: Threads + Wait + Sync>(
     rt: &R,
     alloc: Global,
     row: &Row<'_>,
-) -> Result<bool, NoMemory> {
-    let sent = joined(alloc, row.sent)?;
-    let asked = joined(alloc, row.asked)?;
-    let mut link = ByteLink::over(MemLink::make(alloc, asked)?);
-    let given = gives(rt, alloc, row, &mut link)?;
-    Ok(given && link.link().sent() == sent.as_slice())
+    by_bytes: bool,
+) -> bool {
+    match keeper_of(alloc, row.failing) {
+        Ok(keeper) => matches!(&book_behind(rt, alloc, keeper, row, by_bytes), Ok(Some(_))),
+        Err(_) => false,
+    }
 }
 
 // The connection's bytes are answered so, at once and byte by byte.
-fn is_served<R: Abort + Threads + Wait + Sync>(
-    rt: &R,
-    alloc: Global,
-    row: &Row<'_>,
-) -> Result<(), Fail> {
-    assert!(rt; is_served_at_once(rt, alloc, row)?);
-    assert!(rt; is_served_by_bytes(rt, alloc, row)?);
-    Ok(())
+fn is_served<R: Threads + Wait + Sync>(rt: &R, alloc: Global, row: &Row<'_>) -> bool {
+    is_served_so(rt, alloc, row, false) && is_served_so(rt, alloc, row, true)
 }

@@ -2,178 +2,220 @@
 use super::texts::*;
 use super::*;
 
-// A part of what is asked, what is sent once it is there, and the mark where that is a reply and not an interim one.
-struct Piece {
-    asked: &'static [u8],
-    sent: &'static [u8],
-    mark: Option<u64>,
+// Three requests, of which the last waits before its body.
+const ASKED: [&[u8]; 4] = [
+    PUT_C17,
+    GET_C17,
+    b"POST /designs/c17/dies/D1/logs HTTP/1.1\r\nExpect: 100-continue\r\nContent-Length: 57\r\n\r\n",
+    b"FAILLOG 1\ndie D1\ndesign c17\ntested 0 0\nfail 0 out 22\nend\n",
+];
+
+const SENT: [&[u8]; 4] = [
+    CREATED_C17,
+    C17_SHOWN,
+    b"HTTP/1.1 100 Continue\r\n\r\n",
+    CREATED_LOG_1,
+];
+
+// So many bytes from the front of what is asked, from the first number to before the second, and what is due to each.
+struct Front {
+    sizes: (usize, usize),
+    sent: &'static [&'static [u8]],
+    marks: &'static [u64],
+    end: SessionEnd,
 }
 
-// Three requests, of which the last waits before its body.
-const PIECES: [Piece; 4] = [
-    Piece {
-        asked: PUT_C17,
-        sent: CREATED_C17,
-        mark: Some(1),
+// The parts that are asked have 270, 29, 85 and 57 bytes.
+const FRONTS: [Front; 8] = [
+    Front {
+        sizes: (0, 1),
+        sent: &[],
+        marks: &[],
+        end: SessionEnd::Ended,
     },
-    Piece {
-        asked: GET_C17,
-        sent: C17_SHOWN,
-        mark: Some(1),
+    Front {
+        sizes: (1, 270),
+        sent: &[],
+        marks: &[],
+        end: SessionEnd::Cut,
     },
-    Piece {
-        asked: b"POST /designs/c17/dies/D1/logs HTTP/1.1\r\nExpect: 100-continue\r\nContent-Length: 57\r\n\r\n",
-        sent: b"HTTP/1.1 100 Continue\r\n\r\n",
-        mark: None,
+    Front {
+        sizes: (270, 271),
+        sent: &[CREATED_C17],
+        marks: &[1],
+        end: SessionEnd::Ended,
     },
-    Piece {
-        asked: b"FAILLOG 1\ndie D1\ndesign c17\ntested 0 0\nfail 0 out 22\nend\n",
-        sent: CREATED_LOG_1,
-        mark: Some(2),
+    Front {
+        sizes: (271, 299),
+        sent: &[CREATED_C17],
+        marks: &[1],
+        end: SessionEnd::Cut,
+    },
+    Front {
+        sizes: (299, 300),
+        sent: &[CREATED_C17, C17_SHOWN],
+        marks: &[1, 1],
+        end: SessionEnd::Ended,
+    },
+    Front {
+        sizes: (300, 384),
+        sent: &[CREATED_C17, C17_SHOWN],
+        marks: &[1, 1],
+        end: SessionEnd::Cut,
+    },
+    Front {
+        sizes: (384, 441),
+        sent: &[CREATED_C17, C17_SHOWN, b"HTTP/1.1 100 Continue\r\n\r\n"],
+        marks: &[1, 1],
+        end: SessionEnd::Cut,
+    },
+    Front {
+        sizes: (441, 442),
+        sent: &SENT,
+        marks: &[1, 1, 2],
+        end: SessionEnd::Ended,
     },
 ];
 
-// What was asked so far, and what is due to it.
-#[derive(Drop)]
-struct Due {
-    asked: Name,
-    sent: Name,
-    marks: Rows<u64>,
-}
-
-impl Due {
-    fn nothing(alloc: Global) -> Due {
-        Due {
-            asked: Name::new(alloc),
-            sent: Name::new(alloc),
-            marks: Rows::new(alloc),
-        }
-    }
-
-    // With this piece behind it.
-    fn add(&mut self, piece: &Piece) -> Result<(), NoMemory> {
-        self.asked.append(piece.asked)?;
-        self.sent.append(piece.sent)?;
-        if let Some(mark) = piece.mark {
-            self.marks.push(mark)?;
-        }
-        Ok(())
-    }
-}
-
-// With these bytes of the next piece as its end, a connection over a new desk is answered as is due, and ends so.
-fn is_answered<R: Abort + Threads + Wait + Sync>(
+// Whether a connection over which these bytes come is answered as is due.
+fn is_answered<R: Threads + Wait + Sync>(
     rt: &R,
     alloc: Global,
-    due: &Due,
-    more: &[u8],
-    end: SessionEnd,
-) -> Result<(), Fail> {
-    let asked = joined(alloc, &[due.asked.as_slice(), more])?;
-    let mut link = MemLink::make(alloc, asked)?;
-    let keeper = MemKeeper::make(alloc, Rows::new(alloc))?;
-    let note = serve_new(rt, alloc, keeper, 100, 1, &mut link)?.note;
-    assert!(rt; note.end == end);
-    assert!(rt; link.sent() == due.sent.as_slice());
-    assert!(rt; note.marks.as_slice() == due.marks.as_slice());
-    Ok(())
+    asked: &[u8],
+    front: &Front,
+) -> bool {
+    let row = Row {
+        failing: &[],
+        max_deeds: 100,
+        asked: &[asked],
+        sent: front.sent,
+        marks: front.marks,
+        end: front.end,
+    };
+    is_served_so(rt, alloc, &row, false)
 }
 
-// What was asked ends somewhere within this piece.
-fn is_cut_within<R: Abort + Threads + Wait + Sync>(
+fn are_answered<R: Threads + Wait + Sync>(
     rt: &R,
     alloc: Global,
-    due: &Due,
-    piece: &[u8],
-) -> Result<(), Fail> {
-    for size in 1..piece.len() {
-        is_answered(rt, alloc, due, &piece[..size], SessionEnd::Cut)?;
+    asked: &[u8],
+    front: &Front,
+) -> bool {
+    for size in front.sizes.0..front.sizes.1 {
+        if size > asked.len() || !is_answered(rt, alloc, &asked[..size], front) {
+            return false;
+        }
     }
-    Ok(())
+    true
 }
 
 #[test]
-fn each_front_of_a_session_is_answered(rt: HostRuntime) -> Result<(), Fail> {
-    let alloc = rt.alloc();
-    let mut due = Due::nothing(alloc);
-    is_answered(&rt, alloc, &due, b"", SessionEnd::Ended)?;
-    for piece in &PIECES {
-        is_cut_within(&rt, alloc, &due, piece.asked)?;
-        due.add(piece)?;
-        let end = match piece.mark {
-            Some(_) => SessionEnd::Ended,
-            None => SessionEnd::Cut,
-        };
-        is_answered(&rt, alloc, &due, b"", end)?;
+fn each_front_of_a_session_is_answered(rt: HostRuntime) -> Result<(), NoMemory> {
+    let asked = joined(rt.alloc(), &ASKED)?;
+    assert!(rt; asked.len() == 441);
+    for front in &FRONTS {
+        assert!(rt;
+            are_answered(&rt, rt.alloc(), asked.as_slice(), front),
+            "from {}",
+            front.sizes.0
+        );
     }
-    Ok(())
-}
-
-// All that is asked, and all that is due to it.
-fn whole(alloc: Global) -> Result<Due, NoMemory> {
-    let mut due = Due::nothing(alloc);
-    for piece in &PIECES {
-        due.add(piece)?;
-    }
-    Ok(due)
-}
-
-// A session over a connection that may fail ends so. There are as many deeds as its last mark says.
-fn ends_with_its_deeds<R: Abort + Threads + Wait + Sync, L: Link>(
-    rt: &R,
-    alloc: Global,
-    link: &mut L,
-    end: SessionEnd,
-) -> Result<(), Fail> {
-    let keeper = MemKeeper::make(alloc, Rows::new(alloc))?;
-    let Outcome { note, book } = serve_new(rt, alloc, keeper, 100, 1, link)?;
-    assert!(rt; note.end == end);
-    assert!(rt; book.deeds() == note.marks.as_slice().last().copied().unwrap_or(0));
     Ok(())
 }
 
 // A connection that asks for all and fails in the call with this number.
-fn failing(alloc: Global, call: u64) -> Result<MemLink, NoMemory> {
+fn failing(alloc: Global, call: u64, by_bytes: bool) -> Result<PieceLink<MemLink>, NoMemory> {
     let mut calls = Rows::new(alloc);
     calls.push(call)?;
-    MemLink::make_failing(alloc, whole(alloc)?.asked, calls)
+    let link = MemLink::make_failing(alloc, joined(alloc, &ASKED)?, calls)?;
+    Ok(PieceLink::over(link, by_bytes))
 }
 
-// A connection that fails in the call with this number: its session ends so, at once and byte by byte, and sends a front of
-// what is due.
-fn sends_front<R: Abort + Threads + Wait + Sync>(
+// There are as many deeds as the last mark says.
+fn has_its_deeds(outcome: &Outcome, end: SessionEnd) -> bool {
+    let last = outcome.note.marks.as_slice().last().copied();
+    outcome.note.end == end && outcome.book.deeds() == last.unwrap_or(0)
+}
+
+fn ends_with_its_deeds<R: Threads + Wait + Sync, L: Link>(
     rt: &R,
     alloc: Global,
-    call: u64,
-    at_once: SessionEnd,
-    by_bytes: SessionEnd,
-) -> Result<(), Fail> {
-    let due = whole(alloc)?.sent;
-    let mut link = failing(alloc, call)?;
-    ends_with_its_deeds(rt, alloc, &mut link, at_once)?;
-    assert!(rt; due.as_slice().starts_with(link.sent()));
-    let mut link = ByteLink::over(failing(alloc, call)?);
-    ends_with_its_deeds(rt, alloc, &mut link, by_bytes)?;
-    assert!(rt; due.as_slice().starts_with(link.link().sent()));
-    Ok(())
+    link: &mut L,
+    end: SessionEnd,
+) -> Result<bool, NoMemory> {
+    let outcome = serve_new(rt, alloc, keeper_of(alloc, &[])?, 100, link)?;
+    Ok(has_its_deeds(&outcome, end))
+}
+
+// Connections that fail in the call with a number from the first to before the second, and how their sessions end.
+struct Fails {
+    calls: (u64, u64),
+    by_bytes: bool,
+    end: SessionEnd,
+}
+
+// At once there are two reads, and seven writes: the interim reply, and the heads and bodies of three others. Byte by byte
+// there is a read for each of 441 bytes, and one at the end.
+const FAILS: [Fails; 4] = [
+    Fails {
+        calls: (1, 10),
+        by_bytes: false,
+        end: SessionEnd::LinkFault,
+    },
+    Fails {
+        calls: (10, 451),
+        by_bytes: false,
+        end: SessionEnd::Ended,
+    },
+    Fails {
+        calls: (1, 450),
+        by_bytes: true,
+        end: SessionEnd::LinkFault,
+    },
+    Fails {
+        calls: (450, 451),
+        by_bytes: true,
+        end: SessionEnd::Ended,
+    },
+];
+
+// Whether a session over the connection ends so, and sends a front of what is due.
+fn sends_front<R: Threads + Wait + Sync>(
+    rt: &R,
+    alloc: Global,
+    link: &mut Result<PieceLink<MemLink>, NoMemory>,
+    due: &[u8],
+    end: SessionEnd,
+) -> bool {
+    match link {
+        Ok(link) => {
+            matches!(ends_with_its_deeds(rt, alloc, link, end), Ok(true))
+                && due.starts_with(link.link().sent())
+        }
+        Err(_) => false,
+    }
+}
+
+fn send_fronts<R: Threads + Wait + Sync>(rt: &R, alloc: Global, fails: &Fails, due: &[u8]) -> bool {
+    for call in fails.calls.0..fails.calls.1 {
+        let mut link = failing(alloc, call, fails.by_bytes);
+        if !sends_front(rt, alloc, &mut link, due, fails.end) {
+            return false;
+        }
+    }
+    true
 }
 
 #[test]
-fn a_connection_that_fails_ends_its_session(rt: HostRuntime) -> Result<(), Fail> {
-    let alloc = rt.alloc();
-    // Two reads, and seven writes: the interim reply, and the heads and bodies of three others.
-    for call in 1..10 {
-        sends_front(
-            &rt,
-            alloc,
-            call,
-            SessionEnd::LinkFault,
-            SessionEnd::LinkFault,
-        )?;
+fn a_connection_that_fails_ends_its_session(rt: HostRuntime) -> Result<(), NoMemory> {
+    let due = joined(rt.alloc(), &SENT)?;
+    for fails in &FAILS {
+        assert!(rt;
+            send_fronts(&rt, rt.alloc(), fails, due.as_slice()),
+            "from call {} by bytes {}",
+            fails.calls.0,
+            fails.by_bytes
+        );
     }
-    // Byte by byte there is a read for each of 441 bytes, and one at the end.
-    for call in 10..450 {
-        sends_front(&rt, alloc, call, SessionEnd::Ended, SessionEnd::LinkFault)?;
-    }
-    sends_front(&rt, alloc, 450, SessionEnd::Ended, SessionEnd::Ended)
+    Ok(())
 }

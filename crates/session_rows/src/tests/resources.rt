@@ -1,6 +1,6 @@
 use desk_http::{Resource, Routes};
+use scan_model::NoMemory;
 use std::alloc::Global;
-use std::test::Fail;
 
 // The kind of a resource, its design, its die or none, and its numbers or 0.
 fn parts(resource: &Resource) -> (&str, &[u8], &[u8], u32, u32) {
@@ -35,92 +35,104 @@ fn parts(resource: &Resource) -> (&str, &[u8], &[u8], u32, u32) {
     }
 }
 
-fn found(alloc: Global, routes: &Routes, target: &str) -> Result<Option<Resource>, Fail> {
-    if !target.is_ascii() {
-        return Err(Fail::new("a target that is not ASCII"));
-    }
-    Ok(routes.resource(alloc, target)?)
+// A target, and what it names in the design `c17`: the kind of resource, its methods, its die or none, and its numbers or 0.
+struct Target {
+    target: &'static str,
+    kind: &'static str,
+    methods: &'static str,
+    die: &'static [u8],
+    numbers: (u32, u32),
 }
 
-// Whether a target names a resource of this kind and these methods, die and numbers, in the design `c17`.
-fn names(
-    alloc: Global,
-    routes: &Routes,
-    target: &str,
-    kind: &str,
-    methods: &str,
-    die: &str,
-    numbers: (u32, u32),
-) -> Result<bool, Fail> {
-    let Some(resource) = found(alloc, routes, target)? else {
-        return Ok(false);
-    };
-    let shown = parts(&resource);
-    Ok(
-        shown.0 == kind
-            && shown.1 == b"c17".as_slice()
-            && shown.2 == die.as_bytes()
-            && (shown.3, shown.4) == numbers
-            && resource.methods().text() == methods,
-    )
+const TARGETS: [Target; 8] = [
+    Target {
+        target: "/designs/c17",
+        kind: "design",
+        methods: "GET, PUT",
+        die: b"",
+        numbers: (0, 0),
+    },
+    Target {
+        target: "/designs/c17/faults/8/fails",
+        kind: "fails",
+        methods: "GET",
+        die: b"",
+        numbers: (8, 0),
+    },
+    Target {
+        target: "/designs/c17/dies/D1/logs",
+        kind: "logs",
+        methods: "POST",
+        die: b"D1",
+        numbers: (0, 0),
+    },
+    Target {
+        target: "/designs/c17/dies/D1/report",
+        kind: "last report",
+        methods: "GET",
+        die: b"D1",
+        numbers: (0, 0),
+    },
+    Target {
+        target: "/designs/c17/dies/D1/reports/2",
+        kind: "report",
+        methods: "GET",
+        die: b"D1",
+        numbers: (2, 0),
+    },
+    Target {
+        target: "/designs/c17/dies/D1/reports/2/pages/101",
+        kind: "page",
+        methods: "GET",
+        die: b"D1",
+        numbers: (2, 101),
+    },
+    Target {
+        target: "/designs/c17/dies/D1/signoffs",
+        kind: "signs",
+        methods: "POST",
+        die: b"D1",
+        numbers: (0, 0),
+    },
+    Target {
+        target: "/designs/c17/dies/D1/signoffs/4294967295",
+        kind: "sign",
+        methods: "GET",
+        die: b"D1",
+        numbers: (4294967295, 0),
+    },
+];
+
+fn is_named(resource: &Resource, row: &Target) -> bool {
+    let shown = parts(resource);
+    shown.0 == row.kind
+        && shown.1 == b"c17".as_slice()
+        && shown.2 == row.die
+        && (shown.3, shown.4) == row.numbers
+        && resource.methods().text() == row.methods
+}
+
+fn names(alloc: Global, routes: &Routes, row: &Target) -> bool {
+    row.target.is_ascii()
+        && matches!(&routes.resource(alloc, row.target), Ok(Some(resource)) if is_named(resource, row))
 }
 
 #[test]
-fn targets_of_each_route(rt: HostRuntime) -> Result<(), Fail> {
-    let alloc = rt.alloc();
-    let routes = Routes::make(alloc)?;
-    for (target, kind, methods, die, numbers) in [
-        ("/designs/c17", "design", "GET, PUT", "", (0, 0)),
-        ("/designs/c17/faults/8/fails", "fails", "GET", "", (8, 0)),
-        ("/designs/c17/dies/D1/logs", "logs", "POST", "D1", (0, 0)),
-        (
-            "/designs/c17/dies/D1/report",
-            "last report",
-            "GET",
-            "D1",
-            (0, 0),
-        ),
-        (
-            "/designs/c17/dies/D1/reports/2",
-            "report",
-            "GET",
-            "D1",
-            (2, 0),
-        ),
-        (
-            "/designs/c17/dies/D1/reports/2/pages/101",
-            "page",
-            "GET",
-            "D1",
-            (2, 101),
-        ),
-        (
-            "/designs/c17/dies/D1/signoffs",
-            "signs",
-            "POST",
-            "D1",
-            (0, 0),
-        ),
-        (
-            "/designs/c17/dies/D1/signoffs/4294967295",
-            "sign",
-            "GET",
-            "D1",
-            (4294967295, 0),
-        ),
-    ] {
-        assert!(rt;
-            names(alloc, &routes, target, kind, methods, die, numbers)?,
-            "{target}"
-        );
+fn targets_of_each_route(rt: HostRuntime) -> Result<(), NoMemory> {
+    let routes = Routes::make(rt.alloc())?;
+    for row in &TARGETS {
+        assert!(rt; names(rt.alloc(), &routes, row), "{}", row.target);
     }
     Ok(())
 }
 
+fn names_nothing(alloc: Global, routes: &Routes, target: &str) -> bool {
+    target.is_ascii() && matches!(&routes.resource(alloc, target), Ok(None))
+}
+
 #[test]
-fn targets_of_no_route(rt: HostRuntime) -> Result<(), Fail> {
-    let alloc = rt.alloc();
-    let routes = Routes::make(alloc)?;
+fn targets_of_no_route(rt: HostRuntime) -> Result<(), NoMemory> {
+    let routes = Routes::make(rt.alloc())?;
     for target in [
         "/",
         "/designs/",
@@ -130,7 +142,7 @@ fn targets_of_no_route(rt: HostRuntime) -> Result<(), Fail> {
         "/designs/c17/dies/D1/signoffs/4294967296",
         "/designs/a2345678901234567890123456789012345678901234567890123456789012345",
     ] {
-        assert!(rt; found(alloc, &routes, target)?.is_none(), "{target}");
+        assert!(rt; names_nothing(rt.alloc(), &routes, target), "{target}");
     }
     Ok(())
 }

@@ -1,14 +1,12 @@
 use super::texts::*;
 use super::{Row, is_served};
 use desk_http::SessionEnd;
-use std::test::Fail;
 
-#[test]
-fn a_log_that_comes_again_adds_nothing(rt: HostRuntime) -> Result<(), Fail> {
-    is_served(
-        &rt,
-        rt.alloc(),
-        &Row {
+// What is asked of designs and logs over a connection, and what comes of it.
+const UPLOADS: [(&str, Row<'static>); 9] = [
+    (
+        "a log that comes again adds nothing",
+        Row {
             failing: &[],
             max_deeds: 1000000,
             asked: &[PUT_C17, POST_FAILS, POST_FAILS],
@@ -16,15 +14,10 @@ fn a_log_that_comes_again_adds_nothing(rt: HostRuntime) -> Result<(), Fail> {
             marks: &[1, 2, 2],
             end: SessionEnd::Ended,
         },
-    )
-}
-
-#[test]
-fn an_unknown_design_is_not_found(rt: HostRuntime) -> Result<(), Fail> {
-    is_served(
-        &rt,
-        rt.alloc(),
-        &Row {
+    ),
+    (
+        "an unknown design is not found",
+        Row {
             failing: &[],
             max_deeds: 1000000,
             asked: &[b"GET /designs/none HTTP/1.1\r\nHost: desk\r\n\r\n"],
@@ -32,15 +25,10 @@ fn an_unknown_design_is_not_found(rt: HostRuntime) -> Result<(), Fail> {
             marks: &[0],
             end: SessionEnd::Ended,
         },
-    )
-}
-
-#[test]
-fn a_design_is_read(rt: HostRuntime) -> Result<(), Fail> {
-    is_served(
-        &rt,
-        rt.alloc(),
-        &Row {
+    ),
+    (
+        "a design is read",
+        Row {
             failing: &[],
             max_deeds: 1000000,
             asked: &[PUT_C17, GET_C17],
@@ -48,15 +36,10 @@ fn a_design_is_read(rt: HostRuntime) -> Result<(), Fail> {
             marks: &[1, 1],
             end: SessionEnd::Ended,
         },
-    )
-}
-
-#[test]
-fn a_fault_predicts_its_log(rt: HostRuntime) -> Result<(), Fail> {
-    is_served(
-        &rt,
-        rt.alloc(),
-        &Row {
+    ),
+    (
+        "a fault predicts its log",
+        Row {
             failing: &[],
             max_deeds: 1000000,
             asked: &[
@@ -72,15 +55,98 @@ fn a_fault_predicts_its_log(rt: HostRuntime) -> Result<(), Fail> {
             marks: &[1, 1, 1],
             end: SessionEnd::Ended,
         },
-    )
-}
+    ),
+    (
+        "a design is put once",
+        Row {
+            failing: &[],
+            max_deeds: 1000000,
+            asked: &[
+                PUT_C17,
+                PUT_C17,
+                b"PUT /designs/c17 HTTP/1.1\r\nContent-Length: 232\r\n\r\n%netlist\nINPUT(1)\nINPUT(2)\nINPUT(3)\nINPUT(6)\nINPUT(7)\nOUTPUT(22)\nOUTPUT(23)\n10 = NAND(1, 3)\n11 = NAND(3, 6)\n16 = NAND(2, 11)\n19 = NAND(11, 7)\n22 = NAND(10, 16)\n23 = NAND(16, 19)\n%scan\n%patterns\nCAPTURE 11111\n%neighbours\nnet_a,net_b\n",
+                b"PUT /designs/c18 HTTP/1.1\r\nContent-Length: 214\r\n\r\n%netlist\nINPUT(1)\nINPUT(2)\nINPUT(3)\nINPUT(6)\nINPUT(7)\nOUTPUT(22)\nOUTPUT(23)\n10 = NAND(1, 3)\n11 = NAND(3, 6)\n16 = NAND(2, 11)\n19 = NAND(11, 7)\n22 = NAND(10, 16)\n23 = NAND(16, 19)\n%patterns\nCAPTURE 11111\n%neighbours\n",
+            ],
+            sent: &[
+                CREATED_C17,
+                KEPT_C17,
+                b"HTTP/1.1 409 Conflict\r\nContent-Type: text/plain\r\nContent-Length: 78\r\n\r\nrule 82 kept 0db8ca6599e21775b9088f81c44184e655f03e1daec6da940562db27be24948c\n",
+                b"HTTP/1.1 422 Unprocessable Content\r\nContent-Type: text/plain\r\nContent-Length: 31\r\n\r\nsection bundle line 15 rule 81\n",
+            ],
+            marks: &[1, 1, 1, 1],
+            end: SessionEnd::Ended,
+        },
+    ),
+    (
+        "two requests that come together are answered in order",
+        Row {
+            failing: &[],
+            max_deeds: 1000000,
+            asked: &[
+                b"GET /designs/none HTTP/1.1\r\nHost: desk\r\n\r\n",
+                b"PUT /designs/c17 HTTP/1.1\r\nContent-Length: 3\r\n\r\nabc",
+            ],
+            sent: &[
+                NO_DESIGN,
+                b"HTTP/1.1 422 Unprocessable Content\r\nContent-Type: text/plain\r\nContent-Length: 30\r\n\r\nsection bundle line 1 rule 81\n",
+            ],
+            marks: &[0, 0],
+            end: SessionEnd::Ended,
+        },
+    ),
+    (
+        "a failed append changes nothing",
+        Row {
+            failing: &[3],
+            max_deeds: 1000000,
+            asked: &[PUT_C17, POST_FAILS, POST_FAILS],
+            sent: &[CREATED_C17, KEEPER_FAULT, CREATED_LOG_1],
+            marks: &[1, 1, 2],
+            end: SessionEnd::Ended,
+        },
+    ),
+    (
+        "a full desk takes no more",
+        Row {
+            failing: &[],
+            max_deeds: 1,
+            asked: &[PUT_C17, POST_FAILS, PUT_C17],
+            sent: &[
+                CREATED_C17,
+                b"HTTP/1.1 409 Conflict\r\nContent-Type: text/plain\r\nContent-Length: 16\r\n\r\nrule 88 limit 1\n",
+                KEPT_C17,
+            ],
+            marks: &[1, 1, 1],
+            end: SessionEnd::Ended,
+        },
+    ),
+    (
+        "a body that is cut off is not taken",
+        Row {
+            failing: &[],
+            max_deeds: 1000000,
+            asked: &[
+                b"PUT /designs/c17 HTTP/1.1\r\nExpect: 100-continue\r\nContent-Length: 3\r\n\r\nab",
+            ],
+            sent: &[b"HTTP/1.1 100 Continue\r\n\r\n"],
+            marks: &[],
+            end: SessionEnd::Cut,
+        },
+    ),
+];
 
 #[test]
-fn a_report_is_read_whole_and_by_pages(rt: HostRuntime) -> Result<(), Fail> {
-    is_served(
-        &rt,
-        rt.alloc(),
-        &Row {
+fn uploads_and_looks_at_designs(rt: HostRuntime) {
+    for (shown, row) in &UPLOADS {
+        assert!(rt; is_served(&rt, rt.alloc(), row), "{shown}");
+    }
+}
+
+// The same of reports and sign-offs.
+const REPORTS: [(&str, Row<'static>); 3] = [
+    (
+        "a report is read whole and by pages",
+        Row {
             failing: &[],
             max_deeds: 1000000,
             asked: &[
@@ -108,15 +174,10 @@ fn a_report_is_read_whole_and_by_pages(rt: HostRuntime) -> Result<(), Fail> {
             marks: &[1, 1, 2, 2, 2, 2, 2, 2, 2],
             end: SessionEnd::Ended,
         },
-    )
-}
-
-#[test]
-fn a_report_is_signed_by_its_own_digest(rt: HostRuntime) -> Result<(), Fail> {
-    is_served(
-        &rt,
-        rt.alloc(),
-        &Row {
+    ),
+    (
+        "a report is signed by its own digest",
+        Row {
             failing: &[],
             max_deeds: 1000000,
             asked: &[
@@ -142,15 +203,10 @@ fn a_report_is_signed_by_its_own_digest(rt: HostRuntime) -> Result<(), Fail> {
             marks: &[1, 2, 2, 2, 3, 3, 4, 4],
             end: SessionEnd::Ended,
         },
-    )
-}
-
-#[test]
-fn a_revision_that_is_kept_is_signed(rt: HostRuntime) -> Result<(), Fail> {
-    is_served(
-        &rt,
-        rt.alloc(),
-        &Row {
+    ),
+    (
+        "a revision that is kept is signed",
+        Row {
             failing: &[],
             max_deeds: 1000000,
             asked: &[
@@ -174,107 +230,12 @@ fn a_revision_that_is_kept_is_signed(rt: HostRuntime) -> Result<(), Fail> {
             marks: &[1, 2, 2, 3, 4, 4, 4],
             end: SessionEnd::Ended,
         },
-    )
-}
+    ),
+];
 
 #[test]
-fn a_design_is_put_once(rt: HostRuntime) -> Result<(), Fail> {
-    is_served(
-        &rt,
-        rt.alloc(),
-        &Row {
-            failing: &[],
-            max_deeds: 1000000,
-            asked: &[
-                PUT_C17,
-                PUT_C17,
-                b"PUT /designs/c17 HTTP/1.1\r\nContent-Length: 232\r\n\r\n%netlist\nINPUT(1)\nINPUT(2)\nINPUT(3)\nINPUT(6)\nINPUT(7)\nOUTPUT(22)\nOUTPUT(23)\n10 = NAND(1, 3)\n11 = NAND(3, 6)\n16 = NAND(2, 11)\n19 = NAND(11, 7)\n22 = NAND(10, 16)\n23 = NAND(16, 19)\n%scan\n%patterns\nCAPTURE 11111\n%neighbours\nnet_a,net_b\n",
-                b"PUT /designs/c18 HTTP/1.1\r\nContent-Length: 214\r\n\r\n%netlist\nINPUT(1)\nINPUT(2)\nINPUT(3)\nINPUT(6)\nINPUT(7)\nOUTPUT(22)\nOUTPUT(23)\n10 = NAND(1, 3)\n11 = NAND(3, 6)\n16 = NAND(2, 11)\n19 = NAND(11, 7)\n22 = NAND(10, 16)\n23 = NAND(16, 19)\n%patterns\nCAPTURE 11111\n%neighbours\n",
-            ],
-            sent: &[
-                CREATED_C17,
-                KEPT_C17,
-                b"HTTP/1.1 409 Conflict\r\nContent-Type: text/plain\r\nContent-Length: 78\r\n\r\nrule 82 kept 0db8ca6599e21775b9088f81c44184e655f03e1daec6da940562db27be24948c\n",
-                b"HTTP/1.1 422 Unprocessable Content\r\nContent-Type: text/plain\r\nContent-Length: 31\r\n\r\nsection bundle line 15 rule 81\n",
-            ],
-            marks: &[1, 1, 1, 1],
-            end: SessionEnd::Ended,
-        },
-    )
-}
-
-#[test]
-fn two_requests_that_come_together_are_answered_in_order(rt: HostRuntime) -> Result<(), Fail> {
-    is_served(
-        &rt,
-        rt.alloc(),
-        &Row {
-            failing: &[],
-            max_deeds: 1000000,
-            asked: &[
-                b"GET /designs/none HTTP/1.1\r\nHost: desk\r\n\r\n",
-                b"PUT /designs/c17 HTTP/1.1\r\nContent-Length: 3\r\n\r\nabc",
-            ],
-            sent: &[
-                NO_DESIGN,
-                b"HTTP/1.1 422 Unprocessable Content\r\nContent-Type: text/plain\r\nContent-Length: 30\r\n\r\nsection bundle line 1 rule 81\n",
-            ],
-            marks: &[0, 0],
-            end: SessionEnd::Ended,
-        },
-    )
-}
-
-#[test]
-fn a_failed_append_changes_nothing(rt: HostRuntime) -> Result<(), Fail> {
-    is_served(
-        &rt,
-        rt.alloc(),
-        &Row {
-            failing: &[3],
-            max_deeds: 1000000,
-            asked: &[PUT_C17, POST_FAILS, POST_FAILS],
-            sent: &[CREATED_C17, KEEPER_FAULT, CREATED_LOG_1],
-            marks: &[1, 1, 2],
-            end: SessionEnd::Ended,
-        },
-    )
-}
-
-#[test]
-fn a_full_desk_takes_no_more(rt: HostRuntime) -> Result<(), Fail> {
-    is_served(
-        &rt,
-        rt.alloc(),
-        &Row {
-            failing: &[],
-            max_deeds: 1,
-            asked: &[PUT_C17, POST_FAILS, PUT_C17],
-            sent: &[
-                CREATED_C17,
-                b"HTTP/1.1 409 Conflict\r\nContent-Type: text/plain\r\nContent-Length: 16\r\n\r\nrule 88 limit 1\n",
-                KEPT_C17,
-            ],
-            marks: &[1, 1, 1],
-            end: SessionEnd::Ended,
-        },
-    )
-}
-
-#[test]
-fn a_body_that_is_cut_off_is_not_taken(rt: HostRuntime) -> Result<(), Fail> {
-    is_served(
-        &rt,
-        rt.alloc(),
-        &Row {
-            failing: &[],
-            max_deeds: 1000000,
-            asked: &[
-                b"PUT /designs/c17 HTTP/1.1\r\nExpect: 100-continue\r\nContent-Length: 3\r\n\r\nab",
-            ],
-            sent: &[b"HTTP/1.1 100 Continue\r\n\r\n"],
-            marks: &[],
-            end: SessionEnd::Cut,
-        },
-    )
+fn reports_and_sign_offs(rt: HostRuntime) {
+    for (shown, row) in &REPORTS {
+        assert!(rt; is_served(&rt, rt.alloc(), row), "{shown}");
+    }
 }

@@ -2,18 +2,19 @@ ghost use Rattle.std.specs.Prelude.{◌≡◌, ◌≤◌};
 
 use desk_outside::{Failed, Link, LinkRead};
 
-// A connection of which each read brings one byte.
+// A connection whose reads may each bring one byte.
 #[derive(Drop)]
-pub(super) struct ByteLink<L: Link> {
+pub(super) struct PieceLink<L: Link> {
     link: L,
+    by_bytes: bool,
 }
 
-impl<L: Link> ByteLink<L> {
-    // The same connection, byte by byte.
-    pub(super) fn over(link: L) -> ByteLink<L>
+impl<L: Link> PieceLink<L> {
+    // The same connection, byte by byte or not.
+    pub(super) fn over(link: L, by_bytes: bool) -> PieceLink<L>
         ensures { result.link ≡ link }
     {
-        ByteLink { link }
+        PieceLink { link, by_bytes }
     }
 
     // The connection.
@@ -24,7 +25,7 @@ impl<L: Link> ByteLink<L> {
     }
 }
 
-impl<L: Link> Link for ByteLink<L> {
+impl<L: Link> Link for PieceLink<L> {
     ghost left = { λ b. L.left b.link };
 
     ghost sent = { λ b. L.sent b.link };
@@ -32,7 +33,8 @@ impl<L: Link> Link for ByteLink<L> {
     ghost faults = { λ b. L.faults b.link };
 
     fn read(&mut self, into: &mut [u8]) -> LinkRead {
-        let room = into.len().min(1);
+        let most = if self.by_bytes { 1 } else { into.len() };
+        let room = into.len().min(most);
         self.link.read(&mut into[..room])
     }
 
