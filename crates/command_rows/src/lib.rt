@@ -1,4 +1,4 @@
-//! Rows of the commands and of `serve`: words, files, streets and stores in memory whose output is known from outside.
+//! Runs over shelves, sinks, streets and cabinets in memory that fail. Runs over real files are rows of `examples/rows`.
 #![tactic(auto)]
 
 #[cfg(test)]

@@ -1,10 +1,5 @@
 mod byte_sink;
-mod commands;
-mod designs;
 mod failing;
 mod files;
-mod refusals;
-mod reports;
 mod runs;
-mod serve;
-mod words;
+mod serving;
