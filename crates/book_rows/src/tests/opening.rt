@@ -54,8 +54,10 @@ fn kind(alloc: Global, letter: u8) -> Result<DeedKind, NoMemory> {
         b'P' => log(alloc, b"c17", b"D1", PASSES),
         b'U' => log(alloc, b"c18", b"D1", FAILS),
         b'X' => log(alloc, b"c17", b"other", FAILS),
+        b'F' => log(alloc, b"c17", b"D1", b"FAIL"),
         b'S' => sign(alloc, 1, b"ann", right()),
         b'W' => sign(alloc, 1, b"ann", Digest::from_bytes([0; 32])),
+        b'7' => sign(alloc, 1, b"ann", Digest::from_bytes([7; 32])),
         b'0' => sign(alloc, 0, b"ann", right()),
         b'2' => sign(alloc, 2, b"ann", right()),
         _ => sign(alloc, 1, b"", right()),
@@ -104,36 +106,32 @@ fn stop<R: Threads + Sync>(
     Ok(stop_of(&opened))
 }
 
-// The list, its limit, and where it stops.
-fn case(at: usize) -> (&'static [u8], u32, u64) {
-    match at {
-        0 => (b"DLSP", 4, 4),
-        1 => (b"L", 9, 0),
-        2 => (b"DU", 9, 1),
-        3 => (b"B", 9, 0),
-        4 => (b"T", 9, 0),
-        5 => (b"DD", 9, 1),
-        6 => (b"DLL", 9, 2),
-        7 => (b"DX", 9, 1),
-        8 => (b"DLW", 9, 2),
-        9 => (b"DL0", 9, 2),
-        10 => (b"DL2", 9, 2),
-        11 => (b"DL-", 9, 2),
-        12 => (b"DLSS", 9, 3),
-        13 => (b"DLPS", 9, 4),
-        _ => (b"DLP", 2, 2),
-    }
-}
-
-fn stops_as_due<R: Threads + Sync>(rt: &R, alloc: Global, at: usize) -> bool {
-    let (letters, limit, expected) = case(at);
-    stop(rt, alloc, letters, limit) == Ok(Some(expected))
-}
+// Lists, each with its limit and where it stops.
+const LISTS: [(&str, u32, u64); 17] = [
+    ("DLSP", 4, 4),
+    ("L", 9, 0),
+    ("DU", 9, 1),
+    ("B", 9, 0),
+    ("T", 9, 0),
+    ("DD", 9, 1),
+    ("DLL", 9, 2),
+    ("DX", 9, 1),
+    ("DF", 9, 1),
+    ("DLW", 9, 2),
+    ("DL7", 9, 2),
+    ("DL0", 9, 2),
+    ("DL2", 9, 2),
+    ("DL-", 9, 2),
+    ("DLSS", 9, 3),
+    ("DLPS", 9, 4),
+    ("DLP", 2, 2),
+];
 
 #[test]
 fn a_spoiled_list_is_refused_at_its_row(rt: HostRuntime) {
-    for at in 0..15 {
-        assert!(rt; stops_as_due(&rt, rt.alloc(), at));
+    for (letters, limit, due) in LISTS {
+        let stop = stop(&rt, rt.alloc(), letters.as_bytes(), limit);
+        assert!(rt; stop == Ok(Some(due)), "{letters}");
     }
 }
 
