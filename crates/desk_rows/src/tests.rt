@@ -1,9 +1,8 @@
 use super::*;
 
-mod failing;
-mod one_worker;
+mod asks;
 mod opening;
-mod two_workers;
+mod runs;
 
 fn c17() -> &'static [u8] {
     b"%netlist\nINPUT(1)\nINPUT(2)\nINPUT(3)\nINPUT(6)\nINPUT(7)\nOUTPUT(22)\nOUTPUT(23)\n10 = NAND(1, 3)\n11 = NAND(3, 6)\n16 = NAND(2, 11)\n19 = NAND(11, 7)\n22 = NAND(10, 16)\n23 = NAND(16, 19)\n%scan\n%patterns\nCAPTURE 11111\n%neighbours\n"
@@ -12,3 +11,5 @@ fn c17() -> &'static [u8] {
 const FAILS: &[u8] = b"FAILLOG 1\ndie D1\ndesign c17\ntested 0 0\nfail 0 out 22\nend\n";
 
 const PASSES: &[u8] = b"FAILLOG 1\ndie D1\ndesign c17\ntested 0 0\nend\n";
+
+const OTHER: &[u8] = b"FAILLOG 1\ndie D1\ndesign other\ntested 0 0\nend\n";
