@@ -5,8 +5,8 @@
 
 OTHER is the path of the other program. It is asked to write the files of `demo 7 200` (`OTHER files 7 200 FOLDER`: four
 texts and the logs demo.log, each.log and many.log); the desk then runs over the same files. For each command the two outputs are
-compared byte for byte, and the least wall time of RUNS runs (20 by default; by hyperfine where it is there, else by a clock of this script's) and the greatest memory are told, on one
-processor (`taskset -c 0`) and on all. The variable PEER_THREADS tells the other program how many threads it may use. Where valgrind is
+compared byte for byte, and the least wall time of five times RUNS runs (20 by default; by hyperfine where it is there, else by a clock of this script's; the two programs take
+turns, five times each) and the greatest memory are told, on one processor (`taskset -c 0`) and on all. The variable PEER_THREADS tells the other program how many threads it may use. Where valgrind is
 there, the instructions of two commands follow, which don't depend on what else the machine does.
 """
 import json
@@ -19,6 +19,8 @@ import time
 
 TOP = os.path.dirname(os.path.dirname(os.path.abspath(__file__)))
 PROGRAM = os.path.join(TOP, 'crates', 'scandesk', 'out', 'scandesk')
+# How often the two programs take turns, each time with so many runs as are asked for.
+ROUNDS = 5
 TEXTS = ['netlist.bench', 'scan.txt', 'patterns.txt', 'neighbours.csv']
 
 
@@ -48,6 +50,12 @@ def least_time(words, runs, folder, environment):
         return min(json.load(f)['results'][0]['times'])
 
 
+def least_times(both, runs, folder, environment):
+    """The least wall seconds of both, which take turns: where the machine's speed changes, it changes for both."""
+    rounds = [[least_time(words, runs, folder, environment) for words in both] for _ in range(ROUNDS)]
+    return [min(times) for times in zip(*rounds)]
+
+
 def output_and_memory(words, environment):
     """What a run prints, and the most memory that it takes, in MiB."""
     child = subprocess.Popen(words, stdout=subprocess.PIPE, env=environment)
@@ -70,8 +78,7 @@ def compare(name, words, other, runs, folder, threads, where):
     prefix = ['taskset', '-c', '0'] if where == 'one' else []
     own, own_memory = output_and_memory(prefix + [PROGRAM, *words], environment)
     theirs, other_memory = output_and_memory(prefix + [other, *words], environment)
-    own_time = least_time(prefix + [PROGRAM, *words], runs, folder, environment)
-    other_time = least_time(prefix + [other, *words], runs, folder, environment)
+    own_time, other_time = least_times([prefix + [PROGRAM, *words], prefix + [other, *words]], runs, folder, environment)
     same = 'same bytes' if own == theirs else 'OTHER BYTES'
     print('%-18s %-3s %8.1f ms %8.1f ms %6.2f   %6.0f MiB %6.0f MiB %6.2f   %s'
           % (name, where, own_time * 1e3, other_time * 1e3, own_time / other_time, own_memory, other_memory, own_memory / other_memory, same))
