@@ -1,5 +1,6 @@
 mod bundles;
 mod changes;
 mod opening;
+mod outside;
 mod signing;
 mod texts;

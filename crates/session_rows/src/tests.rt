@@ -1,10 +1,10 @@
 ghost use Rattle.std.specs.Prelude.{◌<◌};
 
+use self::desks::{finish_one, start_one};
 use self::piece_link::PieceLink;
 use book::Book;
 use desk_http::{ReportCache, SessionEnd, SessionNote, session};
 use desk_outside::{Link, MemKeeper, MemLink, OpenGate};
-use desk_rows::{finish_one, start_one};
 use scan_model::{Name, NoMemory, Rows};
 use std::alloc::Global;
 use std::sync::Wait;
@@ -12,6 +12,8 @@ use std::thread::Threads;
 
 mod bodies;
 mod cut;
+mod desk;
+mod desks;
 mod failing;
 mod gate;
 mod heads;

@@ -2,10 +2,10 @@
 ghost use Rattle.std.specs.Prelude.{◌≡◌, All, IfOk};
 ghost use Rattle.desk_http.specs.DeskSeats.{IsSeatOf};
 
+use super::desks::start_two;
 use super::texts::*;
 use super::*;
 use desk_outside::{Gate, Keeper};
-use desk_rows::start_two;
 use shared_desk::{Desk, DeskSeat};
 use std::sync::atomic::{AtomicU64, Ordering};
 use std::thread;

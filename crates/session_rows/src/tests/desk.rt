@@ -1,6 +1,9 @@
-use super::*;
+//! What the seats of a desk are told, and desks that aren't started.
+use self::calls::{design_of_name, put_log, sign_die};
+use super::desks::{finish_two, start_two};
 
 mod asks;
+mod calls;
 mod opening;
 mod runs;
 

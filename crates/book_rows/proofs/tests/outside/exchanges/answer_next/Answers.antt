@@ -1,7 +1,7 @@
 use Rattle.std.proofs.Common.{ap, ◌∙◌}
 use Rattle.std.proofs.lemmas.Result.{on_ok_weaker}
 use Rattle.std.specs.Io.KnownBytes.{append_known}
-use Rattle.outside_rows.proofs.tests.exchanges.answer_next.Goals as goal
+use Rattle.book_rows.proofs.tests.outside.exchanges.answer_next.Goals as goal
 
 pub returns-clause-served : goal.returns-clause-served
 returns-clause-served g c = λ told_old e.

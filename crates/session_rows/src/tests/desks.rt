@@ -10,7 +10,7 @@ use std::alloc::Global;
 use std::thread::Threads;
 
 /// A desk over this keeper, and its one seat.
-pub fn start_one<R: Threads + Sync>(
+pub(super) fn start_one<R: Threads + Sync>(
     rt: &R,
     alloc: Global,
     keeper: MemKeeper,
@@ -45,7 +45,7 @@ fn with_both(desk: Desk<MemKeeper>, seats: Rows<DeskSeat>) -> (Desk<MemKeeper>, 
 }
 
 /// A desk over this keeper, and its two seats.
-pub fn start_two<R: Threads + Sync>(
+pub(super) fn start_two<R: Threads + Sync>(
     rt: &R,
     alloc: Global,
     keeper: MemKeeper,
@@ -62,7 +62,7 @@ pub fn start_two<R: Threads + Sync>(
 }
 
 /// The book, when the one seat came home.
-pub fn finish_one(
+pub(super) fn finish_one(
     alloc: Global,
     desk: Desk<MemKeeper>,
     seat: DeskSeat,
@@ -77,7 +77,7 @@ pub fn finish_one(
 }
 
 /// The book, when both seats came home.
-pub fn finish_two(
+pub(super) fn finish_two(
     alloc: Global,
     desk: Desk<MemKeeper>,
     first: DeskSeat,

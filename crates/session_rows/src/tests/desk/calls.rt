@@ -12,7 +12,11 @@ use std::sync::{Arc, Wait};
 use std::thread::Threads;
 
 /// The design of that name and bundle.
-pub fn design_of_name(alloc: Global, name: &[u8], bundle: &[u8]) -> Result<Arc<Design>, NoMemory>
+pub(super) fn design_of_name(
+    alloc: Global,
+    name: &[u8],
+    bundle: &[u8],
+) -> Result<Arc<Design>, NoMemory>
     requires { is_tag name.now ≡ true }
 {
     match read_bundle(alloc, name, bundle) {
@@ -22,7 +26,7 @@ pub fn design_of_name(alloc: Global, name: &[u8], bundle: &[u8]) -> Result<Arc<D
 }
 
 /// Puts a log of die D1, as a worker does that looks for the design first.
-pub fn put_log<R: Wait>(
+pub(super) fn put_log<R: Wait>(
     rt: &R,
     alloc: Global,
     desk: &Desk<MemKeeper>,
@@ -67,7 +71,7 @@ fn sign_view<R: Threads + Wait + Sync>(
 }
 
 /// Signs a revision of die D1 of c17, as a worker does that looks at the die first. `None` where there is no such revision.
-pub fn sign_die<R: Threads + Wait + Sync>(
+pub(super) fn sign_die<R: Threads + Wait + Sync>(
     rt: &R,
     alloc: Global,
     desk: &Desk<MemKeeper>,

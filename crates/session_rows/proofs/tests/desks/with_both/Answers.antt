@@ -1,8 +1,8 @@
 use Rattle.std.proofs.Common.{◌≡◌, ◌∙◌, List, slice_index_or, ap}
 use Rattle.std.specs.Prelude.{remove}
 use Rattle.shared_desk.specs.Seats.{SeatFacts}
-use Rattle.desk_rows.proofs.SeatPairs.{both_of_desk, both_numbered}
-use Rattle.desk_rows.proofs.desks.with_both.Goals as goal
+use Rattle.session_rows.proofs.SeatPairs.{both_of_desk, both_numbered}
+use Rattle.session_rows.proofs.tests.desks.with_both.Goals as goal
 
 pub returns-clause-desks : goal.returns-clause-desks
 returns-clause-desks c =

@@ -1,5 +1,5 @@
 use Rattle.std.proofs.Common.{◌≡◌}
-use Rattle.desk_rows.proofs.tests.runs.are_told.Given as goal
+use Rattle.session_rows.proofs.tests.desk.runs.are_told.Given as goal
 
 abbrev pub invariant-loop-step : goal.invariant-loop-step
 invariant-loop-step g l = record {

@@ -10,7 +10,7 @@ use Rattle.book.specs.Answers.{design_look}
 use Rattle.book.specs.Changes.{Looked}
 use Rattle.book.specs.Kinds.{text_behind}
 use Rattle.book.proofs.CallerLemmas.{log_stands_in_book}
-use Rattle.desk_rows.proofs.calls.put_log.Goals as goal
+use Rattle.session_rows.proofs.tests.desk.calls.put_log.Goals as goal
 
 pub put_log-requires-clause-stands : goal.put_log-requires-clause-stands
 put_log-requires-clause-stands g c =

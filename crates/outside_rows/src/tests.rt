@@ -1,4 +1,0 @@
-mod exchanges;
-mod files;
-mod keepers;
-mod links;

@@ -1,2 +1,0 @@
-mod deeds;
-mod kept;
