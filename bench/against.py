@@ -6,7 +6,8 @@
 OTHER is the path of the other program. It is asked to write the files of `demo 7 200` (`OTHER files 7 200 FOLDER`: four
 texts and the logs demo.log, each.log and many.log); the desk then runs over the same files. For each command the two outputs are
 compared byte for byte, and the least wall time of five times RUNS runs (20 by default; by hyperfine where it is there, else by a clock of this script's; the two programs take
-turns, five times each) and the greatest memory are told, on one processor (`taskset -c 0`) and on all. The variable PEER_THREADS tells the other program how many threads it may use. Where valgrind is
+turns, five times each) and the greatest memory are told, on one processor (`taskset -c 0`) and on all. The variable PEER_THREADS tells the other program how many threads it may use; the desk has
+the setting of the heap that ./scandesk gives it. Where valgrind is
 there, the instructions of two commands follow, which don't depend on what else the machine does.
 """
 import json
@@ -19,6 +20,8 @@ import time
 
 TOP = os.path.dirname(os.path.dirname(os.path.abspath(__file__)))
 PROGRAM = os.path.join(TOP, 'crates', 'scandesk', 'out', 'scandesk')
+# What ./scandesk sets: large pages for the C library's heap.
+HEAP = 'glibc.malloc.hugetlb=1'
 # How often the two programs take turns, each time with so many runs as are asked for.
 ROUNDS = 5
 TEXTS = ['netlist.bench', 'scan.txt', 'patterns.txt', 'neighbours.csv']
@@ -50,9 +53,9 @@ def least_time(words, runs, folder, environment):
         return min(json.load(f)['results'][0]['times'])
 
 
-def least_times(both, runs, folder, environment):
+def least_times(both, runs, folder):
     """The least wall seconds of both, which take turns: where the machine's speed changes, it changes for both."""
-    rounds = [[least_time(words, runs, folder, environment) for words in both] for _ in range(ROUNDS)]
+    rounds = [[least_time(words, runs, folder, environment) for words, environment in both] for _ in range(ROUNDS)]
     return [min(times) for times in zip(*rounds)]
 
 
@@ -74,11 +77,12 @@ def instructions(words, folder):
 
 
 def compare(name, words, other, runs, folder, threads, where):
-    environment = dict(os.environ, PEER_THREADS=str(threads))
     prefix = ['taskset', '-c', '0'] if where == 'one' else []
-    own, own_memory = output_and_memory(prefix + [PROGRAM, *words], environment)
-    theirs, other_memory = output_and_memory(prefix + [other, *words], environment)
-    own_time, other_time = least_times([prefix + [PROGRAM, *words], prefix + [other, *words]], runs, folder, environment)
+    desk = prefix + [PROGRAM, *words], dict(os.environ, GLIBC_TUNABLES=HEAP)
+    beside = prefix + [other, *words], dict(os.environ, PEER_THREADS=str(threads))
+    own, own_memory = output_and_memory(*desk)
+    theirs, other_memory = output_and_memory(*beside)
+    own_time, other_time = least_times([desk, beside], runs, folder)
     same = 'same bytes' if own == theirs else 'OTHER BYTES'
     print('%-18s %-3s %8.1f ms %8.1f ms %6.2f   %6.0f MiB %6.0f MiB %6.2f   %s'
           % (name, where, own_time * 1e3, other_time * 1e3, own_time / other_time, own_memory, other_memory, own_memory / other_memory, same))

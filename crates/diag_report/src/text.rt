@@ -6,7 +6,7 @@ ghost use Rattle.scan_model.specs.Classes.{class_with};
 ghost use Rattle.scan_model.specs.Universe.{universe};
 ghost use Rattle.scan_model.specs.ReportText as text_of;
 ghost use Rattle.log_join.specs.Joining.{StandsFor, IsJoinedOf, FitsExpected};
-ghost use Rattle.diag_report.specs.LineEnds.{AddsLines};
+ghost use Rattle.diag_report.specs.LineEnds.{AddsLines, HasLines};
 ghost use Rattle.diag_report.specs.Layout.{title_lines, total_lines, layout};
 
 use crate::draft::{Draft, draft_with_room};
@@ -80,7 +80,30 @@ fn report_draft(alloc: Global, bits: usize, candidates: usize) -> Result<Draft, 
     draft_with_room(alloc, bytes, lines)
 }
 
+// Writes all lines of a report into a draft that has none.
 fn write_lines(
+    draft: &mut Draft,
+    parts: &Parts,
+    head: &Head,
+    tally: &Tally,
+    rows: &[Scored],
+) -> Result<(), NoMemory>
+    requires text { draft.old.text ≡ [] }
+    requires ends { draft.old.ends ≡ [] }
+    requires conflict { All (λ b. b.point < length (points_of parts.now)) tally.now.conflict }
+    requires masked { All (λ b. b.point < length (points_of parts.now)) tally.now.masked }
+    requires places { All (λ row. row.place < length (universe parts.now)) rows.now }
+    ensures { OnOk result (HasLines (layout (universe parts.now) parts.now head.now.design head.now.die head.now.logs tally.now rows.now) draft.new.text draft.new.ends) }
+{
+    title(draft, head)?;
+    totals(draft, tally, rows.len() as u64)?;
+    bit_lines(draft, parts, b"conflict", tally.conflict.as_slice())?;
+    bit_lines(draft, parts, b"masked", tally.masked.as_slice())?;
+    candidate_lines(draft, parts, rows)
+}
+
+// The report of these lines.
+fn written(
     alloc: Global,
     parts: &Parts,
     head: &Head,
@@ -94,11 +117,7 @@ fn write_lines(
 {
     let bits = tally.conflict.len().saturating_add(tally.masked.len());
     let mut draft = report_draft(alloc, bits, rows.len())?;
-    title(&mut draft, head)?;
-    totals(&mut draft, tally, rows.len() as u64)?;
-    bit_lines(&mut draft, parts, b"conflict", tally.conflict.as_slice())?;
-    bit_lines(&mut draft, parts, b"masked", tally.masked.as_slice())?;
-    candidate_lines(&mut draft, parts, rows)?;
+    write_lines(&mut draft, parts, head, tally, rows)?;
     Ok(finished(draft))
 }
 
@@ -119,5 +138,5 @@ pub fn make_text(
     ensures { (logs : List LogFacts) → StandsFor logs joined.now → IfOk result (λ r. r ≡ text_of.layout_by_class (universe parts.now) parts.now head.now.design head.now.die head.now.logs (class_with expected.now logs) ranked.now) }
 {
     let tally = tally_bits(alloc, parts, expected, joined)?;
-    write_lines(alloc, parts, head, &tally, ranked.as_slice())
+    written(alloc, parts, head, &tally, ranked.as_slice())
 }
