@@ -7,7 +7,7 @@ OTHER is the path of the other program. It is asked to write the files of `demo 
 texts and the logs demo.log, each.log and many.log); the desk then runs over the same files. For each command the two outputs are
 compared byte for byte, and the least wall time of five times RUNS runs (20 by default; by hyperfine where it is there, else by a clock of this script's; the two programs take
 turns, five times each) and the greatest memory are told, on one processor (`taskset -c 0`) and on all. The variable PEER_THREADS tells the other program how many threads it may use; the desk has
-the setting of the heap that ./scandesk gives it. Where valgrind is
+the setting of the C library's heap that ./scandesk gives it, or the caller's own GLIBC_TUNABLES (none where that is empty). Where valgrind is
 there, the instructions of two commands follow, which don't depend on what else the machine does.
 """
 import json
@@ -20,8 +20,8 @@ import time
 
 TOP = os.path.dirname(os.path.dirname(os.path.abspath(__file__)))
 PROGRAM = os.path.join(TOP, 'crates', 'scandesk', 'out', 'scandesk')
-# What ./scandesk sets: large pages for the C library's heap.
-HEAP = 'glibc.malloc.hugetlb=1'
+# As ./scandesk has it: large pages for the C library's heap, unless the caller has a setting of his own.
+HEAP = os.environ.get('GLIBC_TUNABLES', 'glibc.malloc.hugetlb=1')
 # How often the two programs take turns, each time with so many runs as are asked for.
 ROUNDS = 5
 TEXTS = ['netlist.bench', 'scan.txt', 'patterns.txt', 'neighbours.csv']
