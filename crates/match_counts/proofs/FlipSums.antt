@@ -131,6 +131,15 @@ absent_not_in n nets none there = let e : true ≡ false = sym (list_any_at (eqb
 pub tallied_push : (rows : List (List ℕ)) (r : List ℕ) (m : ℕ → Bool) → tallied (rows ++ r ∷ []) m ≡ tallied rows m + count_lanes (λ j. lane r j && m j)
 tallied_push rows r m = sum_by_push (λ r. count_lanes (λ j. lane r j && m j)) rows r
 
+-- masks with the same lanes count the same
+pub same_tally : (rows : List (List ℕ)) (m p : ℕ → Bool) → ((j : ℕ) → j < 512 → m j ≡ p j) → tallied rows m ≡ tallied rows p
+same_tally [] m p same = refl
+same_tally (r ∷ rows) m p same =
+    sum_by-cons (λ r. count_lanes (λ j. lane r j && m j)) r rows
+    ∙ ap (λ (n : ℕ). n + tallied rows m) (same_lanes (λ j. lane r j && m j) (λ j. lane r j && p j) (λ j lt. ap (λ (x : Bool). lane r j && x) (same j lt)))
+    ∙ ap (λ (n : ℕ). count_lanes (λ j. lane r j && p j) + n) (same_tally rows m p same)
+    ∙ sym (sum_by-cons (λ r. count_lanes (λ j. lane r j && p j)) r rows)
+
 -- a net that isn't among those with rows of their own has none
 pub own_not : (s : Scratch) (n : ℕ) (nets : List ℕ) → ((n : ℕ) → Contains nets n ↔ IsTrue (has_own_row s n)) → list_any (eqb n) nets ≡ false → has_own_row s n ≡ false
 own_not s n nets all absent = elim (cases_Bool (has_own_row s n)) [

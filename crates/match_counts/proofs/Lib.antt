@@ -2,10 +2,12 @@ mod BitCounting
 pub mod Sums
 pub mod Hits
 pub mod BlockSums
+mod PinReads
 mod SideRows
 mod BlockTables
 mod LaneSums
 mod FlipSums
+mod SoleReader
 mod OneFault
 mod Owned
 mod ShareLists

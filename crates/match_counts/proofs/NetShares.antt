@@ -22,9 +22,10 @@ use Rattle.match_counts.specs.declared.shown.Shown.{Shown}
 use Rattle.match_counts.specs.declared.side.Side.{Side}
 use Rattle.match_counts.specs.declared.side.Side.TheVariants.{Failing, Passing}
 use Rattle.match_counts.specs.Shares.{count_in, predicted_in}
-use Rattle.match_counts.specs.Flips.{tallied, list_on, IsFlipOf, flip_sum, pin_sum, count_on}
+use Rattle.match_counts.specs.Flips.{tallied, list_on, IsFlipOf, IsFlipIn, flip_sum, pin_sum, count_on}
 use Rattle.match_counts.specs.PointRows.{counts_on}
 use Rattle.match_counts.specs.Owners.{owner}
+use Rattle.match_counts.proofs.FlipSums.{same_tally}
 use Rattle.match_counts.proofs.OneFault.{one_net, two_nets, pin_only}
 use Rattle.match_counts.proofs.Owned.{of_net, straight_pin}
 
@@ -35,11 +36,13 @@ pub same_count : (a b x y : ℕ) → a ≡ b → x ≡ y → block_count a x ≡
 same_count a b x y first second = rw (first, second) refl
 
 module _ (t : ScanTest) (sound : IsScanTest t) (order : List ℕ) (ordered : IsEvaluationOrder t.netlist order) (f : Fault) (there : Contains (universe t) f) (logs : List LogFacts) (b : ℕ) where
-  pub net_count : (n : ℕ) (shown : Shown) (m : List ℕ) → owner t f ≡ n → n < length t.netlist.nets → ((j : ℕ) → j < 512 → captures t (pattern_of b j) ≡ true → lane m j ≡ mask t f (pattern_of b j) n) → IsFlipOf t logs b n shown
-      → block_count (tallied (list_on Failing shown) (lane m)) (tallied (list_on Passing shown) (lane m)) ≡ count_in t logs b f
-  net_count n shown m is lt masked flip =
+  pub net_count : (n : ℕ) (shown : Shown) (lanes m both : List ℕ) → ((j : ℕ) → j < 512 → lane both j ≡ (lane lanes j && lane m j)) → owner t f ≡ n → n < length t.netlist.nets
+      → ((j : ℕ) → j < 512 → captures t (pattern_of b j) ≡ true → lane m j ≡ mask t f (pattern_of b j) n) → IsFlipIn t logs b n lanes shown
+      → block_count (tallied (list_on Failing shown) (lane both)) (tallied (list_on Passing shown) (lane both)) ≡ count_in t logs b f
+  net_count n shown lanes m both of_both is lt masked flip =
       let own = of_net t f n is lt in
-      let on : (side : Side) → tallied (list_on side shown) (lane m) ≡ predicted_in t logs side f b = λ side. flip side (lane m) ∙ sym (one_net t sound order ordered f there own.logic logs side b n (lane m) own.touches own.silent masked) in
+      let on : (side : Side) → tallied (list_on side shown) (lane both) ≡ predicted_in t logs side f b = λ side. same_tally (list_on side shown) (lane both) (λ j. lane lanes j && lane m j) of_both
+      ∙ flip side (lane m) ∙ sym (one_net t sound order ordered f there own.logic logs side b n (lane m) own.touches own.silent masked) in
       same_count _ _ _ _ (on Failing) (on Passing)
 
   pub pin_count_is : (p : ℕ) (v : Stuck) (count : BlockCount) → f ≡ fault.Branch p v → HasSite t f → owner t f ≡ length t.netlist.nets → ((side : Side) → count_on side count ≡ pin_sum t (counts_on t logs side) b (fault.Branch p v)) → count ≡ count_in t logs b f

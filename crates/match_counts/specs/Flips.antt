@@ -1,14 +1,16 @@
 -- Where a flip of one net shows, and what is counted of it.
-use Rattle.std.specs.Prelude.{◌≡◌, ℕ, ◌^◌, ◌<◌, List, length, sum_by, Bool, true, ◌&&◌, slice_index_or, if◌then◌else◌}
+use Rattle.std.specs.Prelude.{◌≡◌, ℕ, ◌^◌, ◌<◌, List, length, sum_by, Bool, true, ◌&&◌, ◌||◌, slice_index_or, if◌then◌else◌}
 use Rattle.std.specs.List.{range_with_len}
 use Rattle.scan_model.specs.declared.circuit.PinPlace.{PinPlace}
 use Rattle.scan_model.specs.declared.fault.Fault.{Fault}
+use Rattle.scan_model.specs.declared.fault.Fault.TheVariants.{Branch}
+use Rattle.scan_model.specs.declared.fault.Stuck.TheVariants.{Zero, One}
 use Rattle.scan_model.specs.declared.logs.Bit.{Bit}
 use Rattle.scan_model.specs.declared.logs.LogFacts.{LogFacts}
 use Rattle.scan_model.specs.Values.{are_opposite}
 use Rattle.scan_model.specs.ScanTest.{ScanTest, points_of, point_at}
 use Rattle.scan_model.specs.Coverage.{bit_of}
-use Rattle.scan_model.specs.Masks.{flip_shows, straight, place_is_point}
+use Rattle.scan_model.specs.Masks.{mask, flip_shows, straight, place_is_point}
 use Rattle.lane_rows.specs.Lanes.{lane, count_lanes}
 use Rattle.lane_rows.specs.GoodRows.{pattern_of}
 use Rattle.packed_sim.specs.declared.good.PackedGood.{PackedGood}
@@ -24,6 +26,10 @@ use Rattle.match_counts.specs.PointRows.{counts_on, no_point_row}
 -- in lane j of block b a flip of net n shows at point k, at a bit that passes
 abbrev pub flip_lane : ScanTest → (Bit → Bool) → ℕ → ℕ → ℕ → ℕ → Bool
 flip_lane t passes b n k j = captures t (pattern_of b j) && (passes (bit_of (pattern_of b j) k) && flip_shows t (pattern_of b j) n k)
+
+-- in pattern w the pin flips gate g, held at 0 or at 1
+abbrev pub pin_flips : ScanTest → ℕ → ℕ → ℕ → Bool
+pin_flips t w p g = mask t (Branch p Zero) w g || mask t (Branch p One) w g
 
 -- the bits of block b in the lanes of a mask that pass and at which a flip of net n shows
 abbrev pub flip_sum : ScanTest → (Bit → Bool) → ℕ → ℕ → (ℕ → Bool) → ℕ
@@ -63,6 +69,10 @@ IsShown t g s b rows shown = (side : Side) (m : ℕ → Bool) → tallied (list_
 -- the lists have what a flip of net n shows in block b, over the logs
 abbrev pub IsFlipOf : ScanTest → List LogFacts → ℕ → ℕ → Shown → Type 0
 IsFlipOf t logs b n shown = (side : Side) (m : ℕ → Bool) → tallied (list_on side shown) m ≡ flip_sum t (counts_on t logs side) b n m
+
+-- in the lanes of a row the lists have what a flip of net n shows, which shows in no others
+abbrev pub IsFlipIn : ScanTest → List LogFacts → ℕ → ℕ → List ℕ → Shown → Type 0
+IsFlipIn t logs b n lanes shown = (side : Side) (m : ℕ → Bool) → tallied (list_on side shown) (λ j. lane lanes j && m j) ≡ flip_sum t (counts_on t logs side) b n m
 
 -- the scratch shows a flip of net n
 abbrev pub ShowsFlip : ScanTest → PackedGood → Scratch → ℕ → ℕ → Type 0

@@ -9,3 +9,6 @@ pub mod Walks
 pub mod Owners
 pub mod Totals
 pub mod Pieces
+pub mod Readers
+pub mod FlipOrder
+pub mod Regions

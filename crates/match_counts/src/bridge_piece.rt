@@ -10,7 +10,7 @@ ghost use Rattle.match_counts.specs.Shares.{count_in};
 ghost use Rattle.match_counts.specs.Flips.{count_on};
 ghost use Rattle.match_counts.specs.Owners.{IsSuspectOf, IsOwned, Shares, IsAmong};
 
-use crate::net_piece::show_flip;
+use crate::flip::show_flip;
 use crate::point_row::PointRow;
 use crate::share::{BlockCount, Share};
 use crate::shown::Shown;

@@ -13,9 +13,10 @@ ghost use Rattle.match_counts.specs.Totals.{total_at, no_total, AreKnown};
 
 use crate::block_piece::block_shares;
 use crate::block_work::BlockWork;
+use crate::flip_order::owned_nets;
 use crate::lane_tally::failing_count;
-use crate::owners::owned_nets;
 use crate::point_rows::point_rows;
+use crate::readers::reads_of;
 use crate::share::Total;
 use crate::suspect::Suspect;
 use crate::totals::{add_shares, blank_table};
@@ -50,7 +51,8 @@ pub(crate) fn count_blocks<R: Threads + Sync>(
     ensures known { (logs : List LogFacts) → StandsFor logs joined.now → OnOk result (AreKnown parts.now logs suspects.now (λ i. owning.owner parts.now (suspect_at suspects.now i).fault < length parts.now.netlist.nets + 3) totals.new) }
 {
     let _ = parts.points();
-    let nets = owned_nets(alloc, parts, owners)?;
+    let reads = reads_of(alloc, parts)?;
+    let nets = owned_nets(alloc, parts, &reads, owners)?;
     let mut table = blank_table(alloc, totals.len())?;
     let mut failing = 0u64;
     for block in 0..good.blocks().len() {
@@ -60,6 +62,7 @@ pub(crate) fn count_blocks<R: Threads + Sync>(
             good,
             block,
             rows: rows.as_slice(),
+            reads: &reads,
             suspects,
             owners,
         };

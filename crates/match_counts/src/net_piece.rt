@@ -1,20 +1,18 @@
-ghost use Rattle.std.specs.Prelude.{◌≡◌, ℕ, ◌+◌, ◌<◌, List, true, All, length, OnOk};
-ghost use Rattle.scan_model.specs.ScanTest.{points_of, HasSite};
+ghost use Rattle.std.specs.Prelude.{◌≡◌, ℕ, ◌<◌, true, All, length, OnOk};
+ghost use Rattle.scan_model.specs.ScanTest.{HasSite};
 ghost use Rattle.scan_model.specs.Masks.{mask};
-ghost use Rattle.scan_model.specs.declared.logs.LogFacts.{LogFacts};
 ghost use Rattle.lane_rows.specs.Lanes.{lane};
 ghost use Rattle.lane_rows.specs.GoodRows.{pattern_of};
 ghost use Rattle.packed_sim.specs.Belongs.{BelongsTo, IsScratchOf, captures};
-ghost use Rattle.match_counts.specs.PointRows.{ArePointRows};
-ghost use Rattle.match_counts.specs.Flips.{IsFlipOf, AreFew};
+ghost use Rattle.match_counts.specs.Regions.{IsMember, IsRegion};
 ghost use Rattle.match_counts.specs.Owners.{IsSuspectOf, IsOwned, AreOwners, Shares, IsAmong, suspect_at};
 ghost use Rattle.match_counts.specs.Owners as owning;
 
-use crate::point_row::PointRow;
+use crate::block_work::BlockWork;
+use crate::region::Region;
 use crate::share::Share;
 use crate::shown::Shown;
-use crate::suspect::Suspect;
-use lane_rows::{Groups, Row};
+use lane_rows::Row;
 use packed_sim::{PackedGood, Scratch};
 use scan_model::{Fault, NoMemory, Parts, Rows, Steps};
 use std::alloc::Global;
@@ -37,131 +35,81 @@ fn mask_of(parts: &Parts, good: &PackedGood, block: usize, fault: &Fault, net: u
     }
 }
 
-/// Adds the shares of a net's suspects, given where a flip of the net shows.
+/// Adds the shares of a net's suspects, given where a flip of the net shows: in some lanes of what is shown.
 fn share_group(
-    parts: &Parts,
-    good: &PackedGood,
-    block: usize,
-    rows: &[PointRow],
+    work: &BlockWork<'_>,
     shown: &Shown,
     net: u32,
-    suspects: &[Suspect],
+    lanes: Row,
     group: &[u32],
     shares: &mut Rows<Share>,
 ) -> Result<(), NoMemory>
-    requires good { BelongsTo parts.now good.now }
-    requires block { block < length good.now.rows }
-    requires net { net < length parts.now.netlist.nets }
-    requires suspects { All (IsSuspectOf parts.now) suspects.now }
-    requires group { All (IsOwned parts.now suspects.now net) group.now }
-    requires few { AreFew shown.now }
-    requires flip { (logs : List LogFacts) → ArePointRows parts.now logs block rows.now → IsFlipOf parts.now logs block net shown.now }
-    ensures { OnOk result (Shares parts.now rows.now block suspects.now (IsAmong group.now (length group.now)) shares.old shares.new) }
+    requires good { BelongsTo work.now.parts.now work.now.good.now }
+    requires suspects { All (IsSuspectOf work.now.parts.now) work.now.suspects.now }
+    requires member { IsMember work.now.parts.now work.now.rows.now work.now.block shown.now (record { net = net; lanes = lanes }) }
+    requires group { All (IsOwned work.now.parts.now work.now.suspects.now net) group.now }
+    ensures { OnOk result (Shares work.now.parts.now work.now.rows.now work.now.block work.now.suspects.now (IsAmong group.now (length group.now)) shares.old shares.new) }
 {
-    let _ = parts.circuit().order();
+    let _ = work.parts.circuit().order();
     for item in group {
-        let suspect = suspects[*item as usize];
-        let mask = mask_of(parts, good, block, &suspect.fault, net);
+        let suspect = work.suspects[*item as usize];
+        let mask = mask_of(work.parts, work.good, work.block, &suspect.fault, net);
         shares.push(Share {
             suspect: *item,
-            count: shown.count_in(mask),
+            count: shown.count_in(lanes.and(mask)),
         })?;
     }
     Ok(())
 }
 
-/// Finds where a flip of a net shows.
-pub(crate) fn show_flip<L: Ledger>(
-    parts: &Parts,
-    good: &PackedGood,
-    scratch: &mut Scratch,
-    block: usize,
-    rows: &[PointRow],
-    shown: &mut Shown,
-    net: u32,
-    steps: &mut Steps<L>,
-) -> Result<(), NoMemory>
-    requires good { BelongsTo parts.now good.now }
-    requires scratch { IsScratchOf good.now scratch.old }
-    requires block { block < length good.now.rows }
-    requires rows { length rows.now ≡ length (points_of parts.now) }
-    requires net { net < length parts.now.netlist.nets }
-    ensures scratch { IsScratchOf good.now scratch.new }
-    ensures few { OnOk result (AreFew shown.new) }
-    ensures flip { OnOk result ((logs : List LogFacts) → ArePointRows parts.now logs block rows.now → IsFlipOf parts.now logs block net shown.new) }
-{
-    let _ = parts.points();
-    good.flip(parts, scratch, block, net, Row::all(), steps);
-    let gathered = shown.gather(parts, good, scratch, block, rows);
-    good.clear(scratch);
-    gathered?;
-    Ok(())
-}
-
-/// Adds the shares of the suspects that a net owns: one flip of the net serves them all.
+/// Adds the shares of the suspects that a net owns.
 fn share_net<L: Ledger>(
-    parts: &Parts,
-    good: &PackedGood,
+    work: &BlockWork<'_>,
     scratch: &mut Scratch,
-    block: usize,
-    rows: &[PointRow],
-    shown: &mut Shown,
+    region: &mut Region,
     net: u32,
-    suspects: &[Suspect],
     group: &[u32],
     shares: &mut Rows<Share>,
     steps: &mut Steps<L>,
 ) -> Result<(), NoMemory>
-    requires good { BelongsTo parts.now good.now }
-    requires scratch { IsScratchOf good.now scratch.old }
-    requires block { block < length good.now.rows }
-    requires rows { length rows.now ≡ length (points_of parts.now) }
-    requires net { net < length parts.now.netlist.nets }
-    requires suspects { All (IsSuspectOf parts.now) suspects.now }
-    requires group { All (IsOwned parts.now suspects.now net) group.now }
-    ensures scratch { IsScratchOf good.now scratch.new }
-    ensures shares { OnOk result (Shares parts.now rows.now block suspects.now (IsAmong group.now (length group.now)) shares.old shares.new) }
+    requires good { BelongsTo work.now.parts.now work.now.good.now }
+    requires suspects { All (IsSuspectOf work.now.parts.now) work.now.suspects.now }
+    requires scratch { IsScratchOf work.now.good.now scratch.old }
+    requires region { IsRegion work.now.parts.now work.now.rows.now work.now.block region.old }
+    requires net { net < length work.now.parts.now.netlist.nets }
+    requires group { All (IsOwned work.now.parts.now work.now.suspects.now net) group.now }
+    ensures scratch { IsScratchOf work.now.good.now scratch.new }
+    ensures region { OnOk result (IsRegion work.now.parts.now work.now.rows.now work.now.block region.new) }
+    ensures shares { OnOk result (Shares work.now.parts.now work.now.rows.now work.now.block work.now.suspects.now (IsAmong group.now (length group.now)) shares.old shares.new) }
 {
     if group.is_empty() {
         return Ok(());
     }
-    show_flip(parts, good, scratch, block, rows, shown, net, steps)?;
-    share_group(
-        parts, good, block, rows, shown, net, suspects, group, shares,
-    )
+    let lanes = region.show(work, scratch, net, steps)?;
+    share_group(work, &region.shown, net, lanes, group, shares)
 }
 
-/// Adds the shares of all suspects that some nets own, and flips these nets alone.
+/// Adds the shares of all suspects that some nets own.
 pub(crate) fn share_nets<L: Ledger>(
     alloc: Global,
-    parts: &Parts,
-    good: &PackedGood,
+    work: &BlockWork<'_>,
     scratch: &mut Scratch,
-    block: usize,
-    rows: &[PointRow],
-    suspects: &[Suspect],
-    owners: &Groups,
     nets: &[u32],
     shares: &mut Rows<Share>,
     steps: &mut Steps<L>,
 ) -> Result<(), NoMemory>
-    requires good { BelongsTo parts.now good.now }
-    requires scratch { IsScratchOf good.now scratch.old }
-    requires block { block < length good.now.rows }
-    requires rows { length rows.now ≡ length (points_of parts.now) }
-    requires suspects { All (IsSuspectOf parts.now) suspects.now }
-    requires count { length owners.now ≡ length parts.now.netlist.nets + 3 }
-    requires owners { AreOwners parts.now suspects.now owners.now }
-    requires nets { All (λ n. n < length parts.now.netlist.nets) nets.now }
-    ensures scratch { IsScratchOf good.now scratch.new }
-    ensures shares { OnOk result (Shares parts.now rows.now block suspects.now (λ i. IsAmong nets.now (length nets.now) (owning.owner parts.now (suspect_at suspects.now i).fault)) shares.old shares.new) }
+    requires good { BelongsTo work.now.parts.now work.now.good.now }
+    requires suspects { All (IsSuspectOf work.now.parts.now) work.now.suspects.now }
+    requires owners { AreOwners work.now.parts.now work.now.suspects.now work.now.owners.now }
+    requires scratch { IsScratchOf work.now.good.now scratch.old }
+    requires nets { All (λ n. n < length work.now.parts.now.netlist.nets) nets.now }
+    ensures scratch { IsScratchOf work.now.good.now scratch.new }
+    ensures shares { OnOk result (Shares work.now.parts.now work.now.rows.now work.now.block work.now.suspects.now (λ i. IsAmong nets.now (length nets.now) (owning.owner work.now.parts.now (suspect_at work.now.suspects.now i).fault)) shares.old shares.new) }
 {
-    let mut shown = Shown::new(alloc);
+    let mut region = Region::new(alloc);
     for net in nets {
-        let group = owners.group(*net);
-        share_net(
-            parts, good, scratch, block, rows, &mut shown, *net, suspects, group, shares, steps,
-        )?;
+        let group = work.owners.group(*net);
+        share_net(work, scratch, &mut region, *net, group, shares, steps)?;
     }
     Ok(())
 }

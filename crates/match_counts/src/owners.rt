@@ -92,35 +92,3 @@ pub(crate) fn owners_of(
     let groups = Groups::of(alloc, &keys, parts.circuit().nets().len() + 3)?;
     Ok(groups)
 }
-
-/// Adds a net that has a suspect in its group.
-fn push_owner(nets: &mut Vec<u32>, net: u32, group: &[u32]) -> Result<(), NoMemory>
-    ensures within { OnOk result ((end : ℕ) → net < end → All (λ n. n < end) nets.old.items → All (λ n. n < end) nets.new.items) }
-    ensures kept { OnOk result ((n : ℕ) → Contains nets.old.items n → Contains nets.new.items n) }
-    ensures there { OnOk result (0 < length group.now → Contains nets.new.items net) }
-{
-    if group.is_empty() {
-        return Ok(());
-    }
-    nets.push(net)?;
-    Ok(())
-}
-
-/// The nets that own a suspect.
-pub(crate) fn owned_nets(
-    alloc: Global,
-    parts: &Parts,
-    owners: &Groups,
-) -> Result<Vec<u32>, NoMemory>
-    requires { length owners.now ≡ length parts.now.netlist.nets + 3 }
-    ensures within { IfOk result (λ nets. All (λ n. n < length parts.now.netlist.nets) nets.items) }
-    ensures all { IfOk result (λ nets. (n : ℕ) → n < length parts.now.netlist.nets → 0 < length (slice_index_or owners.now n []) → Contains nets.items n) }
-{
-    let count = parts.circuit().nets().len() as u32;
-    let mut nets = Vec::new(alloc);
-    for net in 0..count {
-        let group = owners.group(net);
-        push_owner(&mut nets, net, group)?;
-    }
-    Ok(nets)
-}

@@ -44,19 +44,7 @@ fn share_items<L: Ledger>(
     let rows = work.rows;
     let suspects = work.suspects;
     match kind {
-        WorkKind::Nets => share_nets(
-            alloc,
-            parts,
-            good,
-            scratch,
-            block,
-            rows,
-            suspects,
-            work.owners,
-            items,
-            shares,
-            steps,
-        ),
+        WorkKind::Nets => share_nets(alloc, work, scratch, items, shares, steps),
         WorkKind::Pins => share_pins(parts, good, block, rows, suspects, items, shares),
         WorkKind::Bridges => share_bridges(
             alloc, parts, good, scratch, block, rows, suspects, items, shares, steps,

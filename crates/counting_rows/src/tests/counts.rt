@@ -5,7 +5,7 @@ ghost use Rattle.scan_model.specs.Response.{expected_rows};
 ghost use Rattle.log_join.specs.Joining.{IsJoinedOf};
 
 use super::chains::{long_chain, long_netlist, long_patterns};
-use super::designs::{C17, ODD, S27, design, push_times};
+use super::designs::{C17, GATES_IN_ROWS, ODD, S27, design, push_times};
 use super::logs::joined_of;
 use diagnosis::{BundleFault, Design};
 use good_sim::expected_all;
@@ -98,8 +98,8 @@ struct Row {
     log: &'static [u8],
 }
 
-// c17 with bridges, s27 that captures and shifts, and a flop in no chain with a gate that reads a net twice.
-const ROWS: [Row; 3] = [
+// c17 with bridges, s27 that captures and shifts, a flop in no chain with a gate that reads a net twice, and rows of gates that one gate alone reads.
+const ROWS: [Row; 4] = [
     Row {
         netlist: C17,
         scan: "",
@@ -120,6 +120,13 @@ const ROWS: [Row; 3] = [
         patterns: "CAPTURE 1 0X\nSHIFT 10\nCAPTURE X 11\nCAPTURE 0 10\n",
         pairs: "",
         log: b"FAILLOG 1\ndie D1\ndesign d\ntested 0 3\nfail 1 cell c 1\nfail 2 cell c 0\nfail 3 cell c 1\nend\n",
+    },
+    Row {
+        netlist: GATES_IN_ROWS,
+        scan: "CHAIN c f\n",
+        patterns: "CAPTURE 0110 1\nCAPTURE 1X01 0\nCAPTURE 1001 1\nSHIFT 0\nCAPTURE 0101 X\nCAPTURE 1110 0\n",
+        pairs: "net_a,net_b\nq,w\n",
+        log: b"FAILLOG 1\ndie D1\ndesign d\ntested 0 4\nfail 0 out y\nfail 2 out y\nfail 2 cell c 0\nfail 4 out z\nend\n",
     },
 ];
 

@@ -12,6 +12,10 @@ pub(crate) const S27: &str =
 pub(crate) const ODD: &str =
     "INPUT(a)\nOUTPUT(y)\nf = DFF(y)\ng = DFF(n)\nh = DFF(f)\nn = XOR(a, a)\nm = AND(f, h)\ny = OR(m, n)\n";
 
+/// Two rows of gates of all kinds, each read by the next one alone, that end in one gate.
+pub(crate) const GATES_IN_ROWS: &str =
+    "INPUT(a)\nINPUT(b)\nINPUT(c)\nINPUT(d)\nOUTPUT(y)\nOUTPUT(z)\nf = DFF(y)\np = NOT(a)\nu = NOR(c, d)\nq = AND(p, b)\nv = XNOR(u, f)\nr = XOR(q, d)\nw = OR(v, d)\ns = BUFF(r)\nx = NAND(w, d)\ny = NAND(s, d)\nz = XOR(x, y)\n";
+
 pub(crate) fn push_times(text: &mut String, part: &str, times: u32) -> Result<(), NoMemory> {
     for _ in 0..times {
         text.push_str(part)?;

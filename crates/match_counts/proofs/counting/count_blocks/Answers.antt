@@ -17,7 +17,7 @@ block_shares-requires-clause-all g c κs within = λ i lt below.
     let owner_at = owner c.args.parts.now (suspect_at c.args.suspects.now i).fault in
     let there = c.requires.owners.all i lt in
     let In : List ℕ → Type 0 = λ nets. Contains nets owner_at in
-    subst In (sym c.deref.ensures.value) (c.in_ok-nets.ensures.all owner_at below (omega (arith, there.1)))
+    subst In (sym c.deref-in-loop-block-2.ensures.value) (c.in_ok-nets.ensures.all owner_at below (omega (arith, there.1)))
 
 pub loop-block-preserved : goal.loop-block-preserved
 loop-block-preserved g c =

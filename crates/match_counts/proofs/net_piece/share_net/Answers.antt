@@ -8,4 +8,4 @@ pub returns-then-is_empty-clause-shares : goal.returns-then-is_empty-clause-shar
 returns-then-is_empty-clause-shares g c =
     let group = c.args.group.now in
     let none : length group ≡ 0 = eqb-true (length group) 0 (sym c.if-is_empty.ensures) in
-    shares_none c.args.parts.now c.args.rows.now c.args.block c.args.suspects.now (IsAmong group (length group)) c.args.shares.now (λ i lt among. omega (arith, among.1, none))
+    shares_none c.args.work.now.parts.now c.args.work.now.rows.now c.args.work.now.block c.args.work.now.suspects.now (IsAmong group (length group)) c.args.shares.now (λ i lt among. omega (arith, among.1, none))

@@ -7,24 +7,26 @@ use Rattle.match_counts.proofs.net_piece.share_nets.Goals as goal
 pub loop-net-init : goal.loop-net-init
 loop-net-init g c = record {
   scratch = c.requires.scratch;
-  shares = shares_none c.args.parts.now c.args.rows.now c.args.block c.args.suspects.now _ c.args.shares.now (λ i lt among. omega (arith, among.1));
+  region = c.new-region.ensures c.args.work.now.parts.now c.args.work.now.rows.now c.args.work.now.block;
+  shares = shares_none c.args.work.now.parts.now c.args.work.now.rows.now c.args.work.now.block c.args.work.now.suspects.now _ c.args.shares.now (λ i lt among. omega (arith, among.1));
 }
 
 pub loop-net-preserved : goal.loop-net-preserved
 loop-net-preserved g c =
-    let t = c.args.parts.now in
+    let t = c.args.work.now.parts.now in
     let nets = c.args.nets.now in
     let k = c.loop-net.net-index in
     let net = get_or nets k 0 in
     let group = c.group-group.result.now in
-    let owner_at : ℕ → ℕ = λ i. owner t (suspect_at c.args.suspects.now i).fault in
+    let owner_at : ℕ → ℕ = λ i. owner t (suspect_at c.args.work.now.suspects.now i).fault in
     record {
-      scratch = c.in_ok-share_net.ensures.scratch;
-      shares = shares_join t c.args.rows.now c.args.block c.args.suspects.now (λ i. IsAmong nets k (owner_at i)) (IsAmong group (length group)) (λ i. IsAmong nets (k + 1) (owner_at i)) c.args.shares.now c.loop-net.shares c.share_net.new.shares c.loop-net.invariant.shares
+      scratch = c.share_net.ensures.scratch;
+      region = c.in_ok-share_net.ensures.region;
+      shares = shares_join t c.args.work.now.rows.now c.args.work.now.block c.args.work.now.suspects.now (λ i. IsAmong nets k (owner_at i)) (IsAmong group (length group)) (λ i. IsAmong nets (k + 1) (owner_at i)) c.args.shares.now c.loop-net.shares c.share_net.new.shares c.loop-net.invariant.shares
           c.in_ok-share_net.ensures.shares
           (λ i lt among. elim (among_more nets k (owner_at i) among) [
             | inl before ↦ inl before
-            | inr same ↦ inr (among_from group i (let In : List ℕ → Type 0 = λ xs. Contains xs i in subst In (ap (λ (x : ℕ). get_or c.args.owners.now x []) same ∙ sym c.group-group.ensures) (c.requires.owners.all i lt)))
+            | inr same ↦ inr (among_from group i (let In : List ℕ → Type 0 = λ xs. Contains xs i in subst In (ap (λ (x : ℕ). get_or c.args.work.now.owners.now x []) same ∙ sym c.group-group.ensures) (c.requires.owners.all i lt)))
           ]);
     }
 
@@ -32,5 +34,5 @@ pub returns-clause-shares : goal.returns-clause-shares
 returns-clause-shares g c =
     let nets = c.args.nets.now in
     let whole : c.loop-net.net-index ≡ length nets = omega arith in
-    let Upto : ℕ → Type 0 = λ n. Shares c.args.parts.now c.args.rows.now c.args.block c.args.suspects.now (λ i. IsAmong nets n (owner c.args.parts.now (suspect_at c.args.suspects.now i).fault)) c.args.shares.now c.loop-net.shares in
+    let Upto : ℕ → Type 0 = λ n. Shares c.args.work.now.parts.now c.args.work.now.rows.now c.args.work.now.block c.args.work.now.suspects.now (λ i. IsAmong nets n (owner c.args.work.now.parts.now (suspect_at c.args.work.now.suspects.now i).fault)) c.args.shares.now c.loop-net.shares in
     subst Upto whole c.loop-net.invariant.shares

@@ -2,7 +2,7 @@ use Rattle.std.proofs.Common.{Bool, ◌&&◌, ap, ◌∙◌}
 use Rattle.scan_model.specs.Masks.{flip_shows}
 use Rattle.lane_rows.specs.GoodRows.{pattern_of}
 use Rattle.match_counts.proofs.FlipSums.{shown_few, flip_shown}
-use Rattle.match_counts.proofs.net_piece.show_flip.Goals as goal
+use Rattle.match_counts.proofs.flip.show_flip.Goals as goal
 
 pub returns-clause-few : goal.returns-clause-few
 returns-clause-few g c = shown_few c.args.parts.now c.args.good.now c.flip.new.scratch c.args.block c.args.rows.now c.gather-gathered.new.self c.points.ensures.few c.in_ok-gathered.ensures
