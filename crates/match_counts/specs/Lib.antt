@@ -12,3 +12,4 @@ pub mod Pieces
 pub mod Readers
 pub mod FlipOrder
 pub mod Regions
+pub mod KeptFlips

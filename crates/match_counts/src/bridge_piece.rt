@@ -1,22 +1,22 @@
 ghost use Rattle.std.specs.Prelude.{◌≡◌, ℕ, ◌+◌, ◌^◌, ◌<◌, List, All, Contains, length, OnOk, IfOk};
 ghost use Rattle.scan_model.specs.declared.logs.LogFacts.{LogFacts};
 ghost use Rattle.scan_model.specs.declared.fault.Fault.TheVariants as fault;
-ghost use Rattle.scan_model.specs.ScanTest.{points_of};
+ghost use Rattle.scan_model.specs.ScanTest.{ScanTest};
 ghost use Rattle.scan_model.specs.Universe.{universe};
 ghost use Rattle.packed_sim.specs.Belongs.{BelongsTo, IsScratchOf};
 ghost use Rattle.match_counts.specs.declared.side.Side.{Side};
 ghost use Rattle.match_counts.specs.PointRows.{ArePointRows};
 ghost use Rattle.match_counts.specs.Shares.{count_in};
 ghost use Rattle.match_counts.specs.Flips.{count_on};
+ghost use Rattle.match_counts.specs.declared.point_row.PointRow.{PointRow};
+ghost use Rattle.match_counts.specs.KeptFlips.{IsKept, IsKeptPair};
 ghost use Rattle.match_counts.specs.Owners.{IsSuspectOf, IsOwned, Shares, IsAmong};
 
-use crate::flip::show_flip;
-use crate::point_row::PointRow;
+use crate::block_work::BlockWork;
+use crate::kept_flip::KeptFlip;
 use crate::share::{BlockCount, Share};
-use crate::shown::Shown;
-use crate::suspect::Suspect;
-use packed_sim::{PackedGood, Scratch};
-use scan_model::{BridgeKind, Fault, NoMemory, Parts, Rows, Steps};
+use packed_sim::Scratch;
+use scan_model::{BridgeKind, Fault, NoMemory, Rows, Steps};
 use std::alloc::Global;
 use std::sync::ledger::Ledger;
 
@@ -31,75 +31,112 @@ fn both(first: BlockCount, second: BlockCount) -> BlockCount
     }
 }
 
+/// Where flips of the nets of the last bridges show: of the net of the lower number, and of the other.
+#[derive(Debug, Drop)]
+struct KeptPair {
+    low: KeptFlip,
+    high: KeptFlip,
+}
+
 /// What a bridge explains and mispredicts in a block: in each lane it flips one of its nets at most.
 fn bridge_count<L: Ledger>(
-    parts: &Parts,
-    good: &PackedGood,
+    work: &BlockWork<'_>,
     scratch: &mut Scratch,
-    block: usize,
-    rows: &[PointRow],
-    shown: &mut Shown,
+    first: &mut KeptFlip,
+    second: &mut KeptFlip,
     pair: (u32, u32),
     kind: BridgeKind,
     steps: &mut Steps<L>,
 ) -> Result<BlockCount, NoMemory>
-    requires good { BelongsTo parts.now good.now }
-    requires scratch { IsScratchOf good.now scratch.old }
-    requires block { block < length good.now.rows }
-    requires rows { length rows.now ≡ length (points_of parts.now) }
-    requires first { pair.0 < length parts.now.netlist.nets }
-    requires second { pair.1 < length parts.now.netlist.nets }
-    ensures scratch { IsScratchOf good.now scratch.new }
-    ensures count { IfOk result (λ count. (logs : List LogFacts) → ArePointRows parts.now logs block rows.now → Contains (universe parts.now) (fault.Bridge pair.0 pair.1 kind) → count ≡ count_in parts.now logs block (fault.Bridge pair.0 pair.1 kind)) }
+    requires good { BelongsTo work.now.parts.now work.now.good.now }
+    requires scratch { IsScratchOf work.now.good.now scratch.old }
+    requires first { IsKept work.now.parts.now work.now.rows.now work.now.block first.old }
+    requires second { IsKept work.now.parts.now work.now.rows.now work.now.block second.old }
+    requires one { pair.0 < length work.now.parts.now.netlist.nets }
+    requires other { pair.1 < length work.now.parts.now.netlist.nets }
+    ensures scratch { IsScratchOf work.now.good.now scratch.new }
+    ensures first { OnOk result (IsKept work.now.parts.now work.now.rows.now work.now.block first.new) }
+    ensures second { OnOk result (IsKept work.now.parts.now work.now.rows.now work.now.block second.new) }
+    ensures count { IfOk result (λ count. (logs : List LogFacts) → ArePointRows work.now.parts.now logs work.now.block work.now.rows.now
+        → Contains (universe work.now.parts.now) (fault.Bridge pair.0 pair.1 kind) → count ≡ count_in work.now.parts.now logs work.now.block (fault.Bridge pair.0 pair.1 kind)) }
 {
-    let _ = parts.circuit().order();
-    show_flip(parts, good, scratch, block, rows, shown, pair.0, steps)?;
-    let first = shown.count_in(good.bridge_mask(parts, block, pair, kind, pair.0));
-    show_flip(parts, good, scratch, block, rows, shown, pair.1, steps)?;
-    let second = shown.count_in(good.bridge_mask(parts, block, pair, kind, pair.1));
-    Ok(both(first, second))
+    let _ = work.parts.circuit().order();
+    first.show(work, scratch, pair.0, steps)?;
+    second.show(work, scratch, pair.1, steps)?;
+    let first_mask = work
+        .good
+        .bridge_mask(work.parts, work.block, pair, kind, pair.0);
+    let second_mask = work
+        .good
+        .bridge_mask(work.parts, work.block, pair, kind, pair.1);
+    Ok(both(
+        first.shown.count_in(first_mask),
+        second.shown.count_in(second_mask),
+    ))
+}
+
+impl KeptPair {
+    fn new(alloc: Global) -> KeptPair
+        ensures { (t : ScanTest) (rows : List PointRow) (b : ℕ) → IsKeptPair t rows b result }
+    {
+        KeptPair {
+            low: KeptFlip::new(alloc),
+            high: KeptFlip::new(alloc),
+        }
+    }
+
+    /// The same over what is kept. The faults of a pair, and mostly pairs of one net, come one after another.
+    fn count<L: Ledger>(
+        &mut self,
+        work: &BlockWork<'_>,
+        scratch: &mut Scratch,
+        pair: (u32, u32),
+        kind: BridgeKind,
+        steps: &mut Steps<L>,
+    ) -> Result<BlockCount, NoMemory>
+        requires good { BelongsTo work.now.parts.now work.now.good.now }
+        requires scratch { IsScratchOf work.now.good.now scratch.old }
+        requires kept { IsKeptPair work.now.parts.now work.now.rows.now work.now.block self.old }
+        requires one { pair.0 < length work.now.parts.now.netlist.nets }
+        requires other { pair.1 < length work.now.parts.now.netlist.nets }
+        ensures scratch { IsScratchOf work.now.good.now scratch.new }
+        ensures kept { OnOk result (IsKeptPair work.now.parts.now work.now.rows.now work.now.block self.new) }
+        ensures count { IfOk result (λ count. (logs : List LogFacts) → ArePointRows work.now.parts.now logs work.now.block work.now.rows.now
+            → Contains (universe work.now.parts.now) (fault.Bridge pair.0 pair.1 kind) → count ≡ count_in work.now.parts.now logs work.now.block (fault.Bridge pair.0 pair.1 kind)) }
+    {
+        let (low, high) = (&mut self.low, &mut self.high);
+        if pair.0 < pair.1 {
+            bridge_count(work, scratch, low, high, pair, kind, steps)
+        } else {
+            bridge_count(work, scratch, high, low, pair, kind, steps)
+        }
+    }
 }
 
 /// Adds the shares of the suspects that are bridges.
 pub(crate) fn share_bridges<L: Ledger>(
     alloc: Global,
-    parts: &Parts,
-    good: &PackedGood,
+    work: &BlockWork<'_>,
     scratch: &mut Scratch,
-    block: usize,
-    rows: &[PointRow],
-    suspects: &[Suspect],
     group: &[u32],
     shares: &mut Rows<Share>,
     steps: &mut Steps<L>,
 ) -> Result<(), NoMemory>
-    requires good { BelongsTo parts.now good.now }
-    requires scratch { IsScratchOf good.now scratch.old }
-    requires block { block < length good.now.rows }
-    requires rows { length rows.now ≡ length (points_of parts.now) }
-    requires suspects { All (IsSuspectOf parts.now) suspects.now }
-    requires group { All (IsOwned parts.now suspects.now (length parts.now.netlist.nets + 1)) group.now }
-    ensures scratch { IsScratchOf good.now scratch.new }
-    ensures shares { OnOk result (Shares parts.now rows.now block suspects.now (IsAmong group.now (length group.now)) shares.old shares.new) }
+    requires good { BelongsTo work.now.parts.now work.now.good.now }
+    requires suspects { All (IsSuspectOf work.now.parts.now) work.now.suspects.now }
+    requires scratch { IsScratchOf work.now.good.now scratch.old }
+    requires group { All (IsOwned work.now.parts.now work.now.suspects.now (length work.now.parts.now.netlist.nets + 1)) group.now }
+    ensures scratch { IsScratchOf work.now.good.now scratch.new }
+    ensures shares { OnOk result (Shares work.now.parts.now work.now.rows.now work.now.block work.now.suspects.now (IsAmong group.now (length group.now)) shares.old shares.new) }
 {
-    let _ = parts.circuit();
-    let mut shown = Shown::new(alloc);
+    let _ = work.parts.circuit();
+    let mut kept = KeptPair::new(alloc);
     for item in group {
-        let suspect = suspects[*item as usize];
+        let suspect = work.suspects[*item as usize];
         let Fault::Bridge { a, b, kind } = suspect.fault else {
             unreachable!()
         };
-        let count = bridge_count(
-            parts,
-            good,
-            scratch,
-            block,
-            rows,
-            &mut shown,
-            (a, b),
-            kind,
-            steps,
-        )?;
+        let count = kept.count(work, scratch, (a, b), kind, steps)?;
         shares.push(Share {
             suspect: *item,
             count,

@@ -9,6 +9,7 @@ mod counting;
 mod flip;
 mod flip_order;
 mod gather;
+mod kept_flip;
 mod lane_tally;
 mod listing;
 mod loaded;

@@ -46,9 +46,7 @@ fn share_items<L: Ledger>(
     match kind {
         WorkKind::Nets => share_nets(alloc, work, scratch, items, shares, steps),
         WorkKind::Pins => share_pins(parts, good, block, rows, suspects, items, shares),
-        WorkKind::Bridges => share_bridges(
-            alloc, parts, good, scratch, block, rows, suspects, items, shares, steps,
-        ),
+        WorkKind::Bridges => share_bridges(alloc, work, scratch, items, shares, steps),
         WorkKind::Cells => share_cells(
             alloc, parts, good, scratch, block, rows, suspects, items, shares, steps,
         ),

@@ -9,10 +9,10 @@ use Rattle.match_counts.proofs.bridge_piece.share_bridges.Goals as goal
 
 pub loop-item-preserved : goal.loop-item-preserved
 loop-item-preserved g c =
-    let t = c.args.parts.now in
-    let rows = c.args.rows.now in
-    let b = c.args.block in
-    let suspects = c.args.suspects.now in
+    let t = c.args.work.now.parts.now in
+    let rows = c.args.work.now.rows.now in
+    let b = c.args.work.now.block in
+    let suspects = c.args.work.now.suspects.now in
     let group = c.args.group.now in
     let i = c.loop-item.item-index in
     let item = get_or group i 0 in
@@ -22,6 +22,7 @@ loop-item-preserved g c =
     let In : Fault → Type 0 = Contains (universe t) in
     record {
       scratch = c.in_ok-count.ensures.scratch;
+      kept = c.in_ok-count.ensures.kept;
       shares = shares_join t rows b suspects (IsAmong group i) (λ k. k ≡ item) (IsAmong group (i + 1)) c.args.shares.now c.loop-item.shares c.push.new.self c.loop-item.invariant.shares
           (shares_push t rows b suspects c.loop-item.shares c.push.new.self item c.in_ok-count.count c.in_ok-push.ensures.ok own.within
           (λ logs points. c.in_ok-count.ensures.count logs points (subst In c.in-Bridge.is (in_universe t s suspect)) ∙ ap (count_in t logs b) (sym c.in-Bridge.is)))
@@ -32,5 +33,5 @@ pub returns-clause-shares : goal.returns-clause-shares
 returns-clause-shares g c =
     let group = c.args.group.now in
     let whole : c.loop-item.item-index ≡ length group = omega arith in
-    let Upto : ℕ → Type 0 = λ n. Shares c.args.parts.now c.args.rows.now c.args.block c.args.suspects.now (IsAmong group n) c.args.shares.now c.loop-item.shares in
+    let Upto : ℕ → Type 0 = λ n. Shares c.args.work.now.parts.now c.args.work.now.rows.now c.args.work.now.block c.args.work.now.suspects.now (IsAmong group n) c.args.shares.now c.loop-item.shares in
     subst Upto whole c.loop-item.invariant.shares
