@@ -16,19 +16,6 @@ struct Listing {
     due: Vec<u32>,
 }
 
-/// Adds a net that has a suspect in its group.
-fn push_owner(nets: &mut Vec<u32>, net: u32, group: &[u32]) -> Result<(), NoMemory>
-    ensures within { OnOk result ((end : ℕ) → net < end → All (λ n. n < end) nets.old.items → All (λ n. n < end) nets.new.items) }
-    ensures kept { OnOk result ((n : ℕ) → Contains nets.old.items n → Contains nets.new.items n) }
-    ensures there { OnOk result (0 < length group.now → Contains nets.new.items net) }
-{
-    if group.is_empty() {
-        return Ok(());
-    }
-    nets.push(net)?;
-    Ok(())
-}
-
 /// Adds the nets that a gate alone reads.
 fn push_behind(
     due: &mut Vec<u32>,
@@ -64,7 +51,7 @@ impl Listing {
         })
     }
 
-    /// Lists a net that wasn't seen. What stands behind it is due.
+    /// Lists a net that wasn't seen and owns a suspect. What stands behind it is due: of a net without one nothing behind it shows either.
     fn put(
         &mut self,
         parts: &Parts,
@@ -84,7 +71,10 @@ impl Listing {
             return Ok(());
         }
         self.seen[net as usize] = true;
-        push_owner(&mut self.nets, net, owners.group(net))?;
+        if owners.group(net).is_empty() {
+            return Ok(());
+        }
+        self.nets.push(net)?;
         push_behind(&mut self.due, parts, reads, net)
     }
 

@@ -131,29 +131,7 @@ impl Region {
         Ok(Row::all())
     }
 
-    /// The lanes in which a net shows where the root does: behind the last member if that alone reads the net, else as a root.
-    fn lanes_of<L: Ledger>(
-        &mut self,
-        work: &BlockWork<'_>,
-        scratch: &mut Scratch,
-        net: u32,
-        steps: &mut Steps<L>,
-    ) -> Result<Row, NoMemory>
-        requires good { BelongsTo work.now.parts.now work.now.good.now }
-        requires scratch { IsScratchOf work.now.good.now scratch.old }
-        requires region { IsRegion work.now.parts.now work.now.rows.now work.now.block self.old }
-        requires net { net < length work.now.parts.now.netlist.nets }
-        ensures scratch { IsScratchOf work.now.good.now scratch.new }
-        ensures region { OnOk result (IsRegion work.now.parts.now work.now.rows.now work.now.block self.new) }
-        ensures member { IfOk result (λ lanes. IsMember work.now.parts.now work.now.rows.now work.now.block self.new.shown (record { net = net; lanes = lanes })) }
-    {
-        match self.lanes_behind(work, net) {
-            Some(lanes) => Ok(lanes),
-            None => self.begin(work, scratch, net, steps),
-        }
-    }
-
-    /// Takes a net as a member. The answer is its lanes.
+    /// Takes a net as a member: behind the last one if that alone reads the net, else as the root of a region. The answer is its lanes.
     fn enter<L: Ledger>(
         &mut self,
         work: &BlockWork<'_>,
@@ -169,7 +147,10 @@ impl Region {
         ensures region { OnOk result (IsRegion work.now.parts.now work.now.rows.now work.now.block self.new) }
         ensures member { IfOk result (λ lanes. IsMember work.now.parts.now work.now.rows.now work.now.block self.new.shown (record { net = net; lanes = lanes })) }
     {
-        let lanes = self.lanes_of(work, scratch, net, steps)?;
+        let lanes = match self.lanes_behind(work, net) {
+            Some(lanes) => lanes,
+            None => self.begin(work, scratch, net, steps)?,
+        };
         self.members.push(Member { net, lanes })?;
         Ok(lanes)
     }

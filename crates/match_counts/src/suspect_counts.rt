@@ -66,7 +66,7 @@ fn counts_over<R: Threads + Sync>(
 }
 
 /// The faults that explain at least one failing bit, with their counts, in the order of their places. Suspects alone are
-/// counted, 512 patterns at a time, in as many threads as there are processors: one flip of a net serves all faults there.
+/// counted, 512 patterns at a time, in as many threads as there are processors: one flip serves all faults of a net, and all nets of a region.
 pub fn counts<R: Threads + Sync>(
     rt: &R,
     alloc: Global,
