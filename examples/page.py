@@ -284,6 +284,30 @@ def the_map(screen, front, rank):
     due('back at the candidate', screen.driver.switch_to.active_element.text == line.split(' tpsf ')[1].split(' ', 1)[1])
 
 
+def the_conflict(screen, front):
+    """Two logs of a die differ at one bit: it is neither hit nor missed."""
+    die = '/designs/block/dies/torn'
+    one = day('first.log').replace('wafer3.17', 'torn')
+    front.ask(f'{die}/logs', one.encode(), 'POST')
+    front.ask(f'{die}/logs', one.replace('fail 14 out g0_90\n', '').encode(), 'POST')
+    screen.type('#die', 'torn')
+    screen.press('#open button')
+    until('the report of a torn die', lambda: 'torn' in screen.words('#report-title') and screen.words('#where').startswith('1 to '))
+    due('the conflict', screen.numbers()[0] == '11' and screen.numbers()[2] == '1', screen.numbers())
+    for i, text in enumerate([one, one.replace('fail 14 out g0_90\n', '')]):
+        path = os.path.join(front.room, f'torn{i}.log')
+        with open(path, 'w', encoding='ascii') as log:
+            log.write(text)
+        screen.one('#files').send_keys(path)
+        answers(screen, 4 + i)
+    screen.press('#table td button')
+    until('the map of a torn die', lambda: 'unsure 1' in screen.words('#legend'))
+    due('the counts of a torn die', 'as many as the report counts' in screen.words('#map-told'), screen.words('#map-told'))
+    screen.type('#die', 'wafer3.17')
+    screen.press('#open button')
+    until('the day again', lambda: 'wafer3.17' in screen.words('#report-title') and screen.words('#where') == '1 to 31 of 31')
+
+
 def the_strip(screen, front):
     """Explained patterns, where the desk has them."""
     try:
@@ -403,6 +427,7 @@ def try_all(screen, front, room):
     the_uploads(screen, room)
     for rank in (1, 8, 14):
         the_map(screen, front, rank)
+    the_conflict(screen, front)
     strip = the_strip(screen, front)
     the_signoff(screen)
     the_zoom(screen)

@@ -245,8 +245,22 @@ the_day_over_http() {
     "$top/examples/http.sh" "$program" || wrong=$((wrong + 1))
 }
 
+# The sentences of the page are those of docs/formats.md.
+the_sentences() {
+    runs=$((runs + 1))
+    "$top/examples/sentences.sh" || wrong=$((wrong + 1))
+}
+
+# The day in a browser, where there is one.
+the_day_in_a_browser() {
+    runs=$((runs + 1))
+    "$top/examples/page.py" "$program" || wrong=$((wrong + 1))
+}
+
 the_day
 the_day_over_http
+the_sentences
+the_day_in_a_browser
 the_rules
 the_answers
 the_rows

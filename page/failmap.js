@@ -24,13 +24,14 @@ function markOf(isPredicted, logs, unsure, point, pattern, order) {
   return logs.some((log) => sawPass(log, point, pattern, order)) ? 'extra' : 'untold';
 }
 
-// Whether the predicted fails of a pattern, which come in the order of the points, tell which of two points comes first.
-function orderOf(predicted) {
+// The predicted fails of a pattern come in the order of the points, so they tell which of two points comes first. It is asked for
+// the patterns in which a log was cut off.
+function orderOf(predicted, logs) {
+  const cut = new Set(logs.filter((log) => log.isCut).map((log) => String(log.lastFail)));
   const places = new Map();
-  let number = 0;
-  for (const line of predicted.split('\n')) {
+  for (const line of cut.size ? predicted.split('\n') : []) {
     const words = line.split(' ');
-    if (words[0] === 'fail') places.set(words.slice(1).join(' '), number++);
+    if (words[0] === 'fail' && cut.has(words[1])) places.set(words.slice(1).join(' '), places.size);
   }
   return (pattern) => (one, other) => {
     const [a, b] = [places.get(`${pattern} ${one}`), places.get(`${pattern} ${other}`)];
@@ -40,7 +41,7 @@ function orderOf(predicted) {
 
 // All marks: of each point its patterns, and how many there are of each kind.
 export function marksOf(predicted, logs, unsure) {
-  const order = orderOf(predicted);
+  const order = orderOf(predicted, logs);
   const log = readLog(predicted);
   const points = new Map();
   const counts = { hit: 0, missed: 0, extra: 0, untold: 0, unsure: 0 };

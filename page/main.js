@@ -50,14 +50,21 @@ function hideAll() {
   failMap.hide();
 }
 
+let opening = 0;
+
 async function show() {
   const { design, die, revision } = named();
   if (!design || !die) return;
+  opening += 1;
+  const turn = opening;
   [$('design').value, $('die').value] = [design, die];
   $('told').textContent = 'reading ..';
   hideAll();
   const many = await revisionsOf(design, die);
-  report = await Report.open(design, die, revision ?? many);
+  const opened = await Report.open(design, die, revision ?? many);
+  // Another one was asked for meanwhile.
+  if (turn !== opening) return;
+  report = opened;
   tellHead(many);
   await candidates.show(report);
   $('told').textContent = '';

@@ -17,16 +17,17 @@ export function candidateOf(line) {
 export function faultOf(fault) {
   const words = fault.split(' ');
   const stuck = { sa0: 'stuck at 0', sa1: 'stuck at 1' }[words.at(-1)];
+  const [, one, two, three] = words;
   switch (words[0]) {
-    case 'stem': return { kind: 'stem', nets: [words[1]], words: `stem ${stuck}` };
+    case 'stem': return { kind: 'stem', nets: [one], words: `net ${stuck}` };
     case 'branch': return words.length === 4
-      ? { kind: 'branch', nets: [words[1]], words: `branch to the output, ${stuck}` }
-      : { kind: 'branch', nets: [words[1], words[3]], words: `branch to operand ${words[4]}, ${stuck}` };
+      ? { kind: 'branch', nets: [one], words: `output pin ${stuck}` }
+      : { kind: 'branch', nets: [one, three], words: `pin ${words[4]} of ${three} ${stuck}` };
     case 'bridge': return {
-      kind: 'bridge', nets: [words[1], words[2]],
-      words: { dom: 'short: the first drives the second', and: 'short: wired AND', or: 'short: wired OR' }[words[3]],
+      kind: 'bridge', nets: [one, two],
+      words: { dom: `short: ${one} drives ${two}`, and: 'short: wired AND', or: 'short: wired OR' }[three],
     };
-    default: return { kind: 'cell', nets: [], words: `chain ${words[1]}, cell ${words[2]}: ${words[3]}` };
+    default: return { kind: 'cell', nets: [], words: `cell ${two} of chain ${one} ${three}` };
   }
 }
 

@@ -69,9 +69,10 @@ export class Uploads {
       return answer;
     } catch (error) {
       if (!(error instanceof Refusal)) throw error;
+      const told = [`${file.name}: ${await error.sentence()} (`, element('code', null, error.words || 'no answer'), ')'];
+      if (error.line && error.section !== 'neighbours') told.push(element('pre', null, pointedLine(await file.text(), error).slice(0, 400)));
       entry.className = 'bad';
-      entry.replaceChildren(`${file.name}: ${await error.sentence()} (`, element('code', null, error.words || 'no answer'), ')');
-      if (error.line && error.section !== 'neighbours') entry.append(element('pre', null, pointedLine(await file.text(), error).slice(0, 400)));
+      entry.replaceChildren(...told);
       return null;
     }
   }
