@@ -1,14 +1,16 @@
 #!/usr/bin/env python3
-"""Hostile clients before nginx (deploy/try) while testers upload: each upload has to be answered, and what isn't let in reaches no worker.
+"""Hostile clients before nginx (deploy/try) while testers upload: each upload has to be answered, and
+what isn't let in reaches no worker.
 
     python3 bench/front.py [PROGRAM]       (from the top; it needs nginx and curl)
 
-From 127.0.0.2 come 500 connections that stay silent and 500 that send a byte a second, 400 of a head and 100 of a body behind a head
-with the right account; one that nginx closes is opened again. Where slowhttptest is installed, it adds 500 more with slow heads. From
-127.0.0.1 ten testers upload a log a second each for twenty seconds, over a connection each, and 100 requests come without an account or
-with a wrong password. The desk gets as many sessions as there are uploads, and three of the day, and one at the end: were it asked
-anything else, it would end too early. All is over in a minute.
-"""
+From 127.0.0.2 come 500 connections that stay silent and 500 that send a byte a second, 400 of a
+head and 100 of a body behind a head with the right account; one that nginx closes is opened again.
+Where slowhttptest is installed, it adds 500 more with slow heads. From 127.0.0.1 ten testers upload
+a log a second each for twenty seconds, over a connection each, and 100 requests come without an
+account or with a wrong password. The desk gets as many sessions as there are uploads, and three of
+the day, and one at the end: were it asked anything else, it would end too early. All is over in a
+minute."""
 import asyncio
 import base64
 import http.client

@@ -1,14 +1,15 @@
 #!/usr/bin/env python3
-"""Goes through the day in a real browser: the page (page/) at deploy/try, beside the bytes of the reports.
+"""Goes through the day in a real browser: the page (page/) at deploy/try, beside the bytes of the
+reports.
 
     examples/page.py [PROGRAM]
 
-A headless Chromium shows the report of the day; what stands on the screen is compared with examples/day/report.expected, the fail map with
-what the two logs and the predicted log say, the answers to uploads with those of the desk, and the sentence of a refusal with
-docs/formats.md. Then a report of LINES lines (60,000), then the page is spoiled four times, which has to be found. All is done by keys alone.
-It needs nginx, curl, Chromium and selenium (Debian: nginx curl chromium chromium-driver python3-selenium); without them it says so, and
-nothing is tried.
-"""
+A headless Chromium shows the report of the day; what stands on the screen is compared with
+examples/day/report.expected, the fail map with what the two logs and the predicted log say, the
+answers to uploads with those of the desk, and the sentence of a refusal with docs/formats.md. Then
+a report of LINES lines (60,000), then the page is spoiled four times, which has to be found. All is
+done by keys alone. It needs nginx, curl, Chromium and selenium (Debian: nginx curl chromium
+chromium-driver python3-selenium); without them it says so, and nothing is tried."""
 import base64
 import hashlib
 import os
@@ -81,6 +82,7 @@ class Front:
         self.address = self.process.stdout.readline().strip()
         found = re.fullmatch(r'(https?)://(\w+:\w+)@([\d.:]+)/#block/wafer3.17', self.address)
         if not found:
+            self.end()
             raise OSError(f'deploy/try did not start: {self.address}')
         self.origin = f'{found[1]}://{found[3]}'
         self.account = 'Basic ' + base64.b64encode(found[2].encode()).decode()
@@ -284,25 +286,40 @@ def the_map(screen, front, rank):
     due('back at the candidate', screen.driver.switch_to.active_element.text == line.split(' tpsf ')[1].split(' ', 1)[1])
 
 
+def drop(screen, name, text):
+    """A file that is dropped on the page."""
+    screen.driver.execute_script('''
+        const files = new DataTransfer();
+        files.items.add(new File([arguments[1]], arguments[0]));
+        document.querySelector('#drop').dispatchEvent(new DragEvent('drop', { dataTransfer: files, bubbles: true, cancelable: true }));''', name, text)
+
+
 def the_conflict(screen, front):
-    """Two logs of a die differ at one bit: it is neither hit nor missed."""
-    die = '/designs/block/dies/torn'
+    """A second log comes while the first report is shown, and differs from the first log at one bit."""
+    logs = '/designs/block/dies/torn/logs'
     one = day('first.log').replace('wafer3.17', 'torn')
-    front.ask(f'{die}/logs', one.encode(), 'POST')
-    front.ask(f'{die}/logs', one.replace('fail 14 out g0_90\n', '').encode(), 'POST')
+    other = one.replace('fail 14 out g0_90\n', '')
+    front.ask(logs, one.encode(), 'POST')
     screen.type('#die', 'torn')
     screen.press('#open button')
-    until('the report of a torn die', lambda: 'torn' in screen.words('#report-title') and screen.words('#where').startswith('1 to '))
-    due('the conflict', screen.numbers()[0] == '11' and screen.numbers()[2] == '1', screen.numbers())
-    for i, text in enumerate([one, one.replace('fail 14 out g0_90\n', '')]):
-        path = os.path.join(front.room, f'torn{i}.log')
-        with open(path, 'w', encoding='ascii') as log:
-            log.write(text)
-        screen.one('#files').send_keys(path)
-        answers(screen, 4 + i)
+    until('the report of another die', lambda: 'torn' in screen.words('#report-title') and screen.words('#where').startswith('1 to '))
+    front.ask(logs, other.encode(), 'POST')
+    told = sign(screen, 'kim')
+    due('a sign-off while a log came', told.startswith('signoff 1: revision 1 ') and 'A new log came since: revision 2' in told, told)
+    drop(screen, 'one.log', one)
+    due('a log that is dropped', answers(screen, 4)[0] == 'one.log: log 1, was there already', answers(screen, 4)[0])
+    drop(screen, 'other.log', other)
+    answers(screen, 5)
+    until('the news of a log', lambda: 'A new log came: show revision 2' in screen.words('#latest'))
+    screen.type('#revision', '2')
+    screen.press('#revisions button')
+    until('the second revision', lambda: screen.numbers()[2] == '1')
+    due('the conflict', screen.numbers()[0] == '11', screen.numbers())
+    until('its candidates', lambda: screen.words('#where').startswith('1 to '))
     screen.press('#table td button')
-    until('the map of a torn die', lambda: 'unsure 1' in screen.words('#legend'))
-    due('the counts of a torn die', 'as many as the report counts' in screen.words('#map-told'), screen.words('#map-told'))
+    # The bit at which the logs differ is neither hit nor missed.
+    until('the map of the conflict', lambda: 'unsure 1' in screen.words('#legend'))
+    due('the counts beside a conflict', 'as many as the report counts' in screen.words('#map-told'), screen.words('#map-told'))
     screen.type('#die', 'wafer3.17')
     screen.press('#open button')
     until('the day again', lambda: 'wafer3.17' in screen.words('#report-title') and screen.words('#where') == '1 to 31 of 31')
@@ -438,6 +455,8 @@ def try_all(screen, front, room):
 
 def main():
     program = sys.argv[1] if len(sys.argv) > 1 else None
+    # However the run ends, so do the browser and deploy/try.
+    signal.signal(signal.SIGTERM, lambda *_: sys.exit(1))
     path = os.environ['PATH'] = os.environ['PATH'] + ':/usr/sbin:/sbin'
     for tool in ('chromedriver', 'nginx', 'curl'):
         if not shutil.which(tool, path=path):

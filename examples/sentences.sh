@@ -1,6 +1,7 @@
 #!/bin/sh
-# The sentences that the page shows beside a refusal (page/sentences.json) are those of docs/formats.md: of each rule where it is broken,
-# and of each other refusal where it is given. Compares the two; with `--write` the page's file is made anew. It needs nothing installed.
+# The sentences that the page shows beside a refusal (page/sentences.json) are those of
+# docs/formats.md: of each rule where it is broken, and of each other refusal where it is given.
+# Compares the two; with `--write` the page's file is made anew. It needs nothing installed.
 top=$(CDPATH='' cd -- "$(dirname -- "$0")/.." && pwd) || exit 1
 
 sentences() {

@@ -1,6 +1,7 @@
 // Requests to the desk, and what its refusals say.
 
-// Rule by rule and reply by reply the sentences of docs/formats.md; examples/sentences.sh checks that they are the same.
+// Rule by rule and reply by reply the sentences of docs/formats.md; examples/sentences.sh checks
+// that they are the same.
 const sentences = fetch(new URL('/sentences.json', location.origin)).then((reply) => reply.json());
 
 // What nginx itself refuses (deploy/nginx.conf).
@@ -10,8 +11,8 @@ const FRONT = {
   'the desk is away': "the desk doesn't answer; it may be starting again",
 };
 
-// A reply other than 200 and 201. `rule` is the number of the rule that is broken, `section` and `line` where a text breaks it, and
-// `number` what the desk tells beside a rule (`rule 85 have N`).
+// A reply other than 200 and 201. `rule` is the number of the rule that is broken, `section` and
+// `line` where a text breaks it, and `number` what the desk tells beside a rule (`rule 85 have N`).
 export class Refusal extends Error {
   constructor(status, body) {
     const words = body.trim();
@@ -36,8 +37,8 @@ export class Refusal extends Error {
   }
 }
 
-// The reply of the desk to a request, of which the body isn't read yet. An address with an account in it isn't one that scripts may
-// ask, so the origin alone is taken.
+// The reply of the desk to a request, of which the body isn't read yet. An address with an account
+// in it isn't one that scripts may ask, so the origin alone is taken.
 export async function ask(path, options = {}) {
   let reply;
   try {
@@ -66,7 +67,8 @@ export function isRule(error, rule) {
   return error instanceof Refusal && error.rule === rule;
 }
 
-// Greater than any number of revisions or sign-offs: what is asked for with it is refused, and the refusal tells how many there are.
+// Greater than any number of revisions or sign-offs: what is asked for with it is refused, and the
+// refusal tells how many there are.
 const PAST = 4294967295;
 
 async function have(path, rule) {

@@ -24,8 +24,8 @@ function markOf(isPredicted, logs, unsure, point, pattern, order) {
   return logs.some((log) => sawPass(log, point, pattern, order)) ? 'extra' : 'untold';
 }
 
-// The predicted fails of a pattern come in the order of the points, so they tell which of two points comes first. It is asked for
-// the patterns in which a log was cut off.
+// The predicted fails of a pattern come in the order of the points, so they tell which of two
+// points comes first. It is asked for the patterns in which a log was cut off.
 function orderOf(predicted, logs) {
   const cut = new Set(logs.filter((log) => log.isCut).map((log) => String(log.lastFail)));
   const places = new Map();

@@ -1,8 +1,10 @@
-// Fail logs that were dropped on the page. The desk doesn't give them back, so the fail map has what is known here.
+// Fail logs that were dropped on the page. The desk doesn't give them back, so the fail map has
+// what is known here.
 
 const WORDS = /[^ \t]+/g;
 
-// A log as the desk reads it, once the desk has taken it: its names, its range, and its failing bits, each point with its patterns.
+// A log as the desk reads it, once the desk has taken it: its names, its range, and its failing
+// bits, each point with its patterns.
 export function readLog(text) {
   const log = { die: '', design: '', first: 0, last: 0, isCut: false, fails: new Map(), lastFail: -1 };
   for (const line of text.split('\n')) {
@@ -27,16 +29,17 @@ function addFail(log, pattern, point) {
 
 export const lists = (log, point, pattern) => log.fails.get(point)?.has(pattern) ?? false;
 
-// Whether one point is observed before another in a pattern, as far as their names tell: outputs come before cells, and of one chain
-// the cells nearest to scan-out come first. Undefined where the names don't tell.
+// Whether one point is observed before another in a pattern, as far as their names tell: outputs
+// come before cells, and of one chain the cells nearest to scan-out come first. Undefined where the
+// names don't tell.
 function isBefore(one, other) {
   const [a, b] = [one.split(' '), other.split(' ')];
   if (a[0] !== b[0]) return a[0] === 'out';
   return a[0] === 'cell' && a[1] === b[1] ? Number(a[2]) > Number(b[2]) : undefined;
 }
 
-// Whether a log saw a bit pass that it doesn't list. A log that was cut off tells of bits up to its last failing one: true, false, or
-// undefined where the order of the points isn't known here.
+// Whether a log saw a bit pass that it doesn't list. A log that was cut off tells of bits up to its
+// last failing one: true, false, or undefined where the order of the points isn't known here.
 export function sawPass(log, point, pattern, order) {
   if (pattern < log.first || pattern > log.last || lists(log, point, pattern)) return false;
   if (!log.isCut || pattern < log.lastFail) return true;

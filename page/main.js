@@ -76,7 +76,6 @@ function tellHead(many) {
   $('report').hidden = false;
   $('report-title').textContent = `Report of die ${report.die}, design ${report.design}`;
   $('revision').value = report.revision;
-  $('revision').max = many;
   $('latest').textContent = `of ${grouped(many)}: over the first ${report.revision === 1 ? 'log' : `${grouped(report.revision)} logs`}`;
   const classes = [['Failing', 'failing', report.failing], ['Passing', 'passing', report.passing],
     ['Conflict', 'conflict', report.conflicts], ['Masked', 'masked', report.masked]];

@@ -34,7 +34,8 @@ export function faultOf(fault) {
 // Equal counts: no tester result tells such faults apart.
 export const isAlike = (one, other) => one.tfsf === other.tfsf && one.tfsp === other.tfsp && one.tpsf === other.tpsf;
 
-// Whether one comes directly before the other in a report: the ranks follow each other, and TFSF falls, then TPSF rises, then the place.
+// Whether one comes directly before the other in a report: the ranks follow each other, and TFSF
+// falls, then TPSF rises, then the place.
 export function isNext(one, other) {
   if (other.rank !== one.rank + 1) return false;
   if (one.tfsf !== other.tfsf) return one.tfsf > other.tfsf;
@@ -76,8 +77,8 @@ export class Report {
     return linesOf(page).map(candidateOf);
   }
 
-  // The ranks of the first and of the last candidate with the counts of this one. Equal counts stand together, so each is sought by
-  // halving, and no more than a page is held.
+  // The ranks of the first and of the last candidate with the counts of this one. Equal counts
+  // stand together, so each is sought by halving, and no more than a page is held.
   async firstAlike(candidate, options) {
     // The first is `low` or later, and `high` is alike.
     let low = 1;
@@ -128,8 +129,8 @@ export class Report {
     }
   }
 
-  // Those candidates that a test takes: how many there are, and of them those from number `skip` on, a page of them; with each group
-  // of equal counts that is shown its first and last rank.
+  // Those candidates that a test takes: how many there are, and of them those from number `skip`
+  // on, a page of them; with each group of equal counts that is shown its first and last rank.
   async filtered(test, skip, options) {
     const shown = [];
     const bounds = new Map();

@@ -1,4 +1,5 @@
-// Sign-offs: the digest of the bytes that are shown is made here, and the desk compares it with that of its report.
+// Sign-offs: the digest of the bytes that are shown is made here, and the desk compares it with
+// that of its report.
 
 import { $, Refusal, ask, dieAt, element, isRule, revisionsOf, signoffsOf, text } from './desk.js';
 
@@ -11,8 +12,8 @@ async function digestOf(bytes) {
   return [...digest].map((byte) => byte.toString(16).padStart(2, '0')).join('');
 }
 
-// Whether the lines on the screen stand in the report's bytes: each rises over the one before, and where no filter leaves lines out,
-// they follow each other.
+// Whether the lines on the screen stand in the report's bytes: each rises over the one before, and
+// where no filter leaves lines out, they follow each other.
 function stand(bytes, lines, isFiltered) {
   const wanted = lines.map((line) => new TextEncoder().encode(`${line}\n`));
   let next = 0;

@@ -1,4 +1,5 @@
-// Patterns that one fault explains, as a strip. A pattern that is chosen marks the candidates that fit it.
+// Patterns that one fault explains, as a strip. A pattern that is chosen marks the candidates that
+// fit it.
 
 import { $, Refusal, element, linesOf, text } from './desk.js';
 

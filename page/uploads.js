@@ -6,7 +6,8 @@ import { readLog } from './logs.js';
 // The first bytes of a log have its names, which stand before its fails.
 const FRONT = 65536;
 
-// The line of a text to which a refusal points. Of a bundle the lines count from the marker of the section on.
+// The line of a text to which a refusal points. Of a bundle the lines count from the marker of the
+// section on.
 function pointedLine(text, { section, line }) {
   const lines = text.split('\n');
   const marker = section === 'log' || section === 'bundle' ? -1 : lines.findIndex((one) => one.trimEnd() === `%${section}`);
@@ -14,7 +15,8 @@ function pointedLine(text, { section, line }) {
 }
 
 export class Uploads {
-  // `come` is told the design and the die of a log that was taken, and of a bundle the design alone.
+  // `come` is told the design and the die of a log that was taken, and of a bundle the design
+  // alone.
   constructor(logs, come) {
     this.logs = logs;
     this.come = come;
@@ -32,7 +34,8 @@ export class Uploads {
     window.addEventListener('drop', (event) => this.take([...event.dataTransfer.files]));
   }
 
-  // Bundles first, since logs need their design; one after another, so that logs get their numbers in the order of their names.
+  // Bundles first, since logs need their design; one after another, so that logs get their numbers
+  // in the order of their names.
   async take(files) {
     const kinds = await Promise.all(files.map(async (file) => ({ file, front: await file.slice(0, FRONT).text() })));
     const isBundle = ({ front }) => front.startsWith('%');
