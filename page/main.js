@@ -84,7 +84,7 @@ function tellHead(many) {
     part.style.flexGrow = count;
     return part;
   }));
-  const pair = (name, count, ...sign) => element('div', null, ...sign, element('dt', null, name), element('dd', null, grouped(count)));
+  const pair = (name, count, ...sign) => element('div', null, element('dt', null, ...sign, name), element('dd', null, grouped(count)));
   $('numbers').replaceChildren(...classes.map(([name, style, count]) => pair(name, count, element('i', { class: style, 'aria-hidden': 'true' }))),
     pair('Candidates', report.candidates));
 }
