@@ -1,6 +1,6 @@
 #!/bin/sh
-# Runs the worked day of the README, the examples of docs/formats.md, the table of examples/rows, and stores that are changed by
-# hand, and compares what is printed with what is expected. The program is the built one, or that of the first word.
+# Runs the worked day of the README, the examples of docs/formats.md, the table of examples/rows, stores that are changed by
+# hand, and a small lot of dies, and compares what is printed with what is expected. The program is the built one, or that of the first word.
 top=$(CDPATH='' cd -- "$(dirname -- "$0")/.." && pwd) || exit 1
 program=${1:-$top/crates/scandesk/out/scandesk}
 # Without words the program says that it doesn't understand; where it isn't there, it is built first.
@@ -222,6 +222,25 @@ the_stores() {
     "$top/examples/stores.py" "$program" . || wrong=$((wrong + 1))
 }
 
+make_the_lot() {
+    "$top/examples/lot/make.py" "$program" "$work/lot" 12 4 || return 1
+    cd "$work/lot" || return 1
+    "$top/examples/lot/diagnose.sh" "$program" && "$top/examples/lot/pareto.sh" >/dev/null 2>&1
+}
+
+# A small lot of dies: the Pareto of their reports is that of an independent model's, and the three planted causes stand first.
+the_lot() {
+    if ! command -v sqlite3 >/dev/null; then
+        echo 'skipped: the Pareto of a lot, since sqlite3 is not installed'
+        return
+    fi
+    runs=$((runs + 1))
+    if ! make_the_lot || ! cmp -s pareto.tsv "$top/examples/lot/small.expected"; then
+        wrong=$((wrong + 1))
+        echo "the Pareto of the lot isn't as it should be"
+    fi
+}
+
 # What can't be written ends with status 6.
 the_full_device() {
     [ -w /dev/full ] || return
@@ -252,6 +271,7 @@ the_answers
 the_rows
 the_requests
 the_stores
+the_lot
 the_little_memory
 the_full_device
 echo "$runs examples, $wrong wrong"
