@@ -193,6 +193,44 @@ the_rows() {
     done <rows
 }
 
+# The texts that are refused, in the same folder.
+the_texts() {
+    cd "$work/rows" || exit 1
+    grep -v -e '^#' -e '^$' texts >refused
+    while IFS='|' read -r status file text words written; do
+        printf '%b' "$text" >"$file"
+        # The words have no blanks.
+        # shellcheck disable=SC2086
+        expect_line "$status" "$written" $words
+    done <refused
+}
+
+# fronts FILE FRONT WORD..: for each front of a file, in the file FRONT, the status and what is written, in one line.
+fronts() {
+    file=$1
+    front=$2
+    shift 2
+    for size in $(seq 0 "$(wc -c <"$file")"); do
+        head -c "$size" "$file" >"$front"
+        printed=$("$program" "$@")
+        printf '%s %s\n' $? "$(printf '%s' "$printed" | tr '\n' ' ')"
+    done
+}
+
+# A netlist and a log that were cut off anywhere; fronts that are read the same are counted.
+the_fronts() {
+    cd "$work/rows" || exit 1
+    runs=$((runs + 1))
+    {
+        fronts c17.bench front.bench check front.bench none.scan shift.pat none.csv
+        fronts a.log front.log diagnose c17 D1 c17.bench none.scan one.pat none.csv front.log
+    } | uniq -c | sed 's/^ *//' >fronts.printed
+    cmp -s fronts.printed fronts.expected && return
+    wrong=$((wrong + 1))
+    echo 'fronts of files: printed (<) and due (>):'
+    diff fronts.printed fronts.expected | head -n 10
+}
+
 # The bodies of the requests of docs/formats.md.
 the_bodies() {
     "$program" pack s27.bench s27.scan s27.pat none.csv >s27.bundle
@@ -213,6 +251,19 @@ the_requests() {
     the_bodies
     runs=$((runs + 1))
     "$top/examples/requests.py" "$program" . || wrong=$((wrong + 1))
+}
+
+# Whole connections, at once and byte by byte.
+the_sessions() {
+    runs=$((runs + 1))
+    "$top/examples/sessions.py" "$program" || wrong=$((wrong + 1))
+}
+
+# What each fault of two designs predicts, and the report over it.
+the_predicted() {
+    cd "$work/rows" || exit 1
+    runs=$((runs + 1))
+    "$top/examples/predicted.py" "$program" || wrong=$((wrong + 1))
 }
 
 # Stores that are changed by hand between two runs.
@@ -269,7 +320,11 @@ the_day_over_http
 the_rules
 the_answers
 the_rows
+the_texts
+the_fronts
 the_requests
+the_sessions
+the_predicted
 the_stores
 the_lot
 the_little_memory
