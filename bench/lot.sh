@@ -1,6 +1,7 @@
 #!/bin/sh
-# How fast a made lot of 500 dies is diagnosed: dies a second, and a second and core, for designs of 20 and of 200 blocks. From the top, with
-# ./scandesk built; the word is another program with the same words for the diagnosis. Needs xargs, taskset and, for the last row, GNU parallel.
+# How fast a made lot of 500 dies is diagnosed: dies a second, and a second and core, for designs of
+# 20 and of 200 blocks. From the top, with ./scandesk built; the word is another program with the
+# same words for the diagnosis. Needs xargs, taskset and, for the last row, GNU parallel.
 top=$(CDPATH='' cd -- "$(dirname -- "$0")/.." && pwd) || exit 1
 program=$top/crates/scandesk/out/scandesk
 work=$(mktemp -d) || exit 1

@@ -3,8 +3,9 @@
 
     examples/predicted.py PROGRAM
 
-The designs are c17 and s27 with three patterns, whose files stand in the caller's folder. In the report over its own log a fault explains each fail, and no
-bit that passed speaks against it; where it predicts nothing, there are no candidates. All logs and reports together have the SHA-256 that an
+The designs are c17 and s27 with three patterns, whose files stand in the caller's folder. In the
+report over its own log a fault explains each fail, and no bit that passed speaks against it; where
+it predicts nothing, there are no candidates. All logs and reports together have the SHA-256 that an
 independent model gives. The last line tells how many faults were tried and how many were wrong.
 """
 import hashlib

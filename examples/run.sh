@@ -1,9 +1,11 @@
 #!/bin/sh
-# Runs the worked day of the README, the examples of docs/formats.md, the table of examples/rows, stores that are changed by
-# hand, and a small lot of dies, and compares what is printed with what is expected. The program is the built one, or that of the first word.
+# Runs the worked day of the README, the examples of docs/formats.md, the table of examples/rows,
+# stores that are changed by hand, and a small lot of dies, and compares what is printed with what
+# is expected. The program is the built one, or that of the first word.
 top=$(CDPATH='' cd -- "$(dirname -- "$0")/.." && pwd) || exit 1
 program=${1:-$top/crates/scandesk/out/scandesk}
-# Without words the program says that it doesn't understand; where it isn't there, it is built first.
+# Without words the program says that it doesn't understand; where it isn't there, it is built
+# first.
 [ -x "$program" ] || "$top/scandesk" >/dev/null
 work=$(mktemp -d) || exit 1
 trap 'rm -rf "$work"' EXIT
@@ -111,7 +113,8 @@ expect_told_rule() {
     esac
 }
 
-# The tables of rules: a row has the rule, where it is broken, an example and its line. Printed as KIND|RULE|LINE|EXAMPLE.
+# The tables of rules: a row has the rule, where it is broken, an example and its line. Printed as
+# KIND|RULE|LINE|EXAMPLE.
 rules() {
     awk '
         /^## / { kind = ""; split("Netlist:netlist Scan:scan Pattern:patterns Neighbour:neighbours Fail:log Bundle:bundle", kinds, " ")
@@ -136,7 +139,8 @@ the_rules() {
     done <"$work/rules"
 }
 
-# The answers of the program: a row has the status, its cause, the line, and an example with what it writes.
+# The answers of the program: a row has the status, its cause, the line, and an example with what it
+# writes.
 answers() {
     awk '/^## / { on = $0 ~ /^## The program/ } on && /^\| [0-9]+ \|/ { split($0, cell, " *[|] *"); print cell[2] "|" cell[5] "|" cell[6] }' "$top/docs/formats.md"
 }
@@ -205,7 +209,8 @@ the_texts() {
     done <refused
 }
 
-# fronts FILE FRONT WORD..: for each front of a file, in the file FRONT, the status and what is written, in one line.
+# fronts FILE FRONT WORD..: for each front of a file, in the file FRONT, the status and what is
+# written, in one line.
 fronts() {
     file=$1
     front=$2
@@ -279,7 +284,8 @@ make_the_lot() {
     "$top/examples/lot/diagnose.sh" "$program" && "$top/examples/lot/pareto.sh" >/dev/null 2>&1
 }
 
-# A small lot of dies: the Pareto of their reports is that of an independent model's, and the three planted causes stand first.
+# A small lot of dies: the Pareto of their reports is that of an independent model's, and the three
+# planted causes stand first.
 the_lot() {
     if ! command -v sqlite3 >/dev/null; then
         echo 'skipped: the Pareto of a lot, since sqlite3 is not installed'

@@ -1,13 +1,15 @@
 #!/usr/bin/env python3
-"""Sends whole connections to a program that serves, at once and byte by byte, and compares what comes back.
+"""Sends whole connections to a program that serves, at once and byte by byte, and compares what
+comes back.
 
     examples/sessions.py PROGRAM
 
-In examples/sessions NAME.asked has the bytes of a connection, and NAME.sent those that are due to it, by an independent model. Each is sent to
-a desk without deeds, or behind the connection NAME.first where that is there. Where the last reply closes, the program closes the connection;
-elsewhere it ends once the other side has. Then each front of fronts.of comes over a connection of its own, one after another to one desk: the
-connection is cut off there, and fronts.due has what is due to it. The last line tells how many connections were compared and how many were
-wrong.
+In examples/sessions NAME.asked has the bytes of a connection, and NAME.sent those that are due to
+it, by an independent model. Each is sent to a desk without deeds, or behind the connection
+NAME.first where that is there. Where the last reply closes, the program closes the connection;
+elsewhere it ends once the other side has. Then each front of fronts.of comes over a connection of
+its own, one after another to one desk: the connection is cut off there, and fronts.due has what is
+due to it. The last line tells how many connections were compared and how many were wrong.
 """
 import glob
 import os

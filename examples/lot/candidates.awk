@@ -1,5 +1,6 @@
-# The candidate lines of reports as DIE,RANK,PLACE,TFSF,TFSP,TPSF,SITE. A file is named by its die. The site of a fault is its text without
-# the last word, which says how the site fails; a bridge has its two nets in one order.
+# The candidate lines of reports as DIE,RANK,PLACE,TFSF,TFSP,TPSF,SITE. A file is named by its die.
+# The site of a fault is its text without the last word, which says how the site fails; a bridge has
+# its two nets in one order.
 BEGIN { OFS = "," }
 FNR == 1 { die = FILENAME; sub(/^.*\//, "", die) }
 /^candidate / {

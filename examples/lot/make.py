@@ -3,11 +3,13 @@
 
     examples/lot/make.py PROGRAM FOLDER DIES BLOCKS
 
-FOLDER gets the files of a design of `demo` with so many blocks (`demo.bench`, `demo.scan`, `demo.pat`, `demo.csv`), a fail log for each
-die (`logs/DIE.log`), and the cause that each has (`causes.csv`: DIE,CAUSE,FAULT). Three faults stand for what is wrong with the process: the
-first is the cause in 40 of 100 dies, the second in 25, the third in 15; each other die has a fault of its own. A die's log is the one that its
-fault predicts, as PROGRAM serves it, but jittered (one fail in 32 isn't seen, and a die in 16 has a fail from elsewhere) and cut where the
-tester had its fill. The draws have a fixed seed, so the same words make the same lot.
+FOLDER gets the files of a design of `demo` with so many blocks (`demo.bench`, `demo.scan`,
+`demo.pat`, `demo.csv`), a fail log for each die (`logs/DIE.log`), and the cause that each has
+(`causes.csv`: DIE,CAUSE,FAULT). Three faults stand for what is wrong with the process: the first is
+the cause in 40 of 100 dies, the second in 25, the third in 15; each other die has a fault of its
+own. A die's log is the one that its fault predicts, as PROGRAM serves it, but jittered (one fail in
+32 isn't seen, and a die in 16 has a fail from elsewhere) and cut where the tester had its fill. The
+draws have a fixed seed, so the same words make the same lot.
 """
 
 import http.client

@@ -1,4 +1,5 @@
-# Draws the first fifteen rows of pareto.tsv: a bar for the votes of each, and a line for their share of all votes.
+# Draws the first fifteen rows of pareto.tsv: a bar for the votes of each, and a line for their
+# share of all votes.
 set terminal svg size 900,520 font "sans,12" background "white"
 set output "pareto.svg"
 set datafile separator tab

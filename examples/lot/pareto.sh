@@ -1,6 +1,6 @@
 #!/bin/sh
-# The Pareto of the reports of a lot, in the lot's folder: pareto.tsv, its first ten rows on standard output, and where gnuplot is
-# installed a drawing of them, pareto.svg.
+# The Pareto of the reports of a lot, in the lot's folder: pareto.tsv, its first ten rows on
+# standard output, and where gnuplot is installed a drawing of them, pareto.svg.
 LOT=$(CDPATH='' cd -- "$(dirname -- "$0")" && pwd) || exit 1
 export LOT
 sqlite3 :memory: <"$LOT/pareto.sql" || exit 1

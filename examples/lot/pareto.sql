@@ -1,4 +1,5 @@
--- The Pareto of a lot: which sites the reports of its dies point to, in the folder that has `reports/DIE`.
+-- The Pareto of a lot: which sites the reports of its dies point to, in the folder that has
+-- `reports/DIE`.
 .bail on
 CREATE TABLE candidates (die TEXT, rank INTEGER, place INTEGER, tfsf INTEGER, tfsp INTEGER, tpsf INTEGER, site TEXT);
 .mode csv
