@@ -1,9 +1,11 @@
 #!/bin/sh
-# Runs the worked day of the README, the examples of docs/formats.md, the table of examples/rows, and stores that are changed by
-# hand, and compares what is printed with what is expected. The program is the built one, or that of the first word.
+# Runs the worked day of the README, the examples of docs/formats.md, the table of examples/rows,
+# stores that are changed by hand, and a small lot of dies, and compares what is printed with what
+# is expected. The program is the built one, or that of the first word.
 top=$(CDPATH='' cd -- "$(dirname -- "$0")/.." && pwd) || exit 1
 program=${1:-$top/crates/scandesk/out/scandesk}
-# Without words the program says that it doesn't understand; where it isn't there, it is built first.
+# Without words the program says that it doesn't understand; where it isn't there, it is built
+# first.
 [ -x "$program" ] || "$top/scandesk" >/dev/null
 work=$(mktemp -d) || exit 1
 trap 'rm -rf "$work"' EXIT
@@ -111,7 +113,8 @@ expect_told_rule() {
     esac
 }
 
-# The tables of rules: a row has the rule, where it is broken, an example and its line. Printed as KIND|RULE|LINE|EXAMPLE.
+# The tables of rules: a row has the rule, where it is broken, an example and its line. Printed as
+# KIND|RULE|LINE|EXAMPLE.
 rules() {
     awk '
         /^## / { kind = ""; split("Netlist:netlist Scan:scan Pattern:patterns Neighbour:neighbours Fail:log Bundle:bundle", kinds, " ")
@@ -136,7 +139,8 @@ the_rules() {
     done <"$work/rules"
 }
 
-# The answers of the program: a row has the status, its cause, the line, and an example with what it writes.
+# The answers of the program: a row has the status, its cause, the line, and an example with what it
+# writes.
 answers() {
     awk '/^## / { on = $0 ~ /^## The program/ } on && /^\| [0-9]+ \|/ { split($0, cell, " *[|] *"); print cell[2] "|" cell[5] "|" cell[6] }' "$top/docs/formats.md"
 }
@@ -193,6 +197,45 @@ the_rows() {
     done <rows
 }
 
+# The texts that are refused, in the same folder.
+the_texts() {
+    cd "$work/rows" || exit 1
+    grep -v -e '^#' -e '^$' texts >refused
+    while IFS='|' read -r status file text words written; do
+        printf '%b' "$text" >"$file"
+        # The words have no blanks.
+        # shellcheck disable=SC2086
+        expect_line "$status" "$written" $words
+    done <refused
+}
+
+# fronts FILE FRONT WORD..: for each front of a file, in the file FRONT, the status and what is
+# written, in one line.
+fronts() {
+    file=$1
+    front=$2
+    shift 2
+    for size in $(seq 0 "$(wc -c <"$file")"); do
+        head -c "$size" "$file" >"$front"
+        printed=$("$program" "$@")
+        printf '%s %s\n' $? "$(printf '%s' "$printed" | tr '\n' ' ')"
+    done
+}
+
+# A netlist and a log that were cut off anywhere; fronts that are read the same are counted.
+the_fronts() {
+    cd "$work/rows" || exit 1
+    runs=$((runs + 1))
+    {
+        fronts c17.bench front.bench check front.bench none.scan shift.pat none.csv
+        fronts a.log front.log diagnose c17 D1 c17.bench none.scan one.pat none.csv front.log
+    } | uniq -c | sed 's/^ *//' >fronts.printed
+    cmp -s fronts.printed fronts.expected && return
+    wrong=$((wrong + 1))
+    echo 'fronts of files: printed (<) and due (>):'
+    diff fronts.printed fronts.expected | head -n 10
+}
+
 # The bodies of the requests of docs/formats.md.
 the_bodies() {
     "$program" pack s27.bench s27.scan s27.pat none.csv >s27.bundle
@@ -215,11 +258,47 @@ the_requests() {
     "$top/examples/requests.py" "$program" . || wrong=$((wrong + 1))
 }
 
+# Whole connections, at once and byte by byte.
+the_sessions() {
+    runs=$((runs + 1))
+    "$top/examples/sessions.py" "$program" || wrong=$((wrong + 1))
+}
+
+# What each fault of two designs predicts, and the report over it.
+the_predicted() {
+    cd "$work/rows" || exit 1
+    runs=$((runs + 1))
+    "$top/examples/predicted.py" "$program" || wrong=$((wrong + 1))
+}
+
 # Stores that are changed by hand between two runs.
 the_stores() {
     cd "$work/bodies" || exit 1
     runs=$((runs + 1))
     "$top/examples/stores.py" "$program" . || wrong=$((wrong + 1))
+}
+
+make_the_lot() {
+    "$top/examples/lot/make.py" "$program" "$work/lot" 12 4 || return 1
+    cd "$work/lot" || return 1
+    "$top/examples/lot/diagnose.sh" "$program" || return 1
+    cat reports/* | sha256sum >reports.sha256
+    "$top/examples/lot/pareto.sh" >/dev/null 2>&1
+}
+
+# A small lot of dies: their reports are those of an independent model, and so is their Pareto, in
+# which the three planted causes stand first.
+the_lot() {
+    if ! command -v sqlite3 >/dev/null; then
+        echo 'skipped: the Pareto of a lot, since sqlite3 is not installed'
+        return
+    fi
+    runs=$((runs + 1))
+    if ! make_the_lot || ! cmp -s reports.sha256 "$top/examples/lot/small.sha256" ||
+        ! cmp -s pareto.tsv "$top/examples/lot/small.expected"; then
+        wrong=$((wrong + 1))
+        echo "the reports of a lot, or their Pareto, aren't those of the model"
+    fi
 }
 
 # What can't be written ends with status 6.
@@ -264,8 +343,13 @@ the_day_in_a_browser
 the_rules
 the_answers
 the_rows
+the_texts
+the_fronts
 the_requests
+the_sessions
+the_predicted
 the_stores
+the_lot
 the_little_memory
 the_full_device
 echo "$runs examples, $wrong wrong"

@@ -19,11 +19,15 @@ from requests import body_of, reply_to, request, serve
 SIGNOFFS = '/designs/s27/dies/D1/signoffs'
 DIGEST = 'a18da399681001adde28d6ab4468d9b58dc884b4d0de8bad094a9173161b11db'
 
-# A store that was changed so is served as it was.
+# A log of the die that passes, between its first and its sign-off.
+PASSES = b'FAILLOG 1\ndie D1\ndesign s27\ntested 0 0\nend\n'.hex()
+
+# A store that was changed so is served, with so many deeds.
 SERVED = [
-    '',
-    'UPDATE designs SET seat = 4294967295 WHERE n = 0',
-    "UPDATE logs SET body = CAST(body || x'0A' AS BLOB) WHERE n = 1",
+    ('', 3),
+    ('UPDATE designs SET seat = 4294967295 WHERE n = 0', 3),
+    ("UPDATE logs SET body = CAST(body || x'0A' AS BLOB) WHERE n = 1", 3),
+    (f"UPDATE signoffs SET n = 3 WHERE n = 2; INSERT INTO logs VALUES (2, 0, x'733237', x'4431', x'{PASSES}')", 4),
 ]
 
 # Rows that are no deeds: the store is a fault.
@@ -54,6 +58,7 @@ SPOILED = [
     (f"UPDATE signoffs SET digest = x'{'07' * 32}' WHERE n = 2", 2),
     ('INSERT INTO logs SELECT 3, seat, design, die, body FROM logs WHERE n = 1', 3),
     ("INSERT INTO designs SELECT 3, seat, name, body FROM designs WHERE n = 0", 3),
+    ('INSERT INTO signoffs SELECT 3, seat, design, die, revision, signer, digest FROM signoffs WHERE n = 2', 3),
 ]
 
 
@@ -81,12 +86,12 @@ def fill(program, folder, store):
     return serving.wait() == 0 and rows_of(store) == due
 
 
-def is_served(program, store):
-    """Whether a run over the store has the sign-off, and ends well."""
+def is_served(program, store, deeds):
+    """Whether a run over the store has the sign-off, and ends well with so many deeds."""
     serving, port = serve(program, 1, store)
     came = reply_to(port, request('GET', SIGNOFFS + '/1', None))
     due = f'signoff 1\nrevision 1\nsigner ann\ndigest {DIGEST}\n'.encode()
-    return came == ('200', due) and serving.stdout.read() == 'sessions 1 deeds 3\n' and serving.wait() == 0
+    return came == ('200', due) and serving.stdout.read() == f'sessions 1 deeds {deeds}\n' and serving.wait() == 0
 
 
 def ends_with(program, store, status, line):
@@ -106,8 +111,8 @@ def is_refused(program, store, status, line):
 
 def trials(program):
     """Each change, and what is tried with the store that it was made to."""
-    for statements in SERVED:
-        yield statements, lambda store: is_served(program, store)
+    for statements, deeds in SERVED:
+        yield statements, lambda store, deeds=deeds: is_served(program, store, deeds)
     for statements in FAULTS:
         yield statements, lambda store: is_refused(program, store, 7, 'store fault')
     for statements, row in SPOILED:

@@ -1,4 +1,3 @@
-mod chains;
 mod counts;
 mod demo;
 mod designs;

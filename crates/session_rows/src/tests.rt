@@ -10,14 +10,12 @@ use std::alloc::Global;
 use std::sync::Wait;
 use std::thread::Threads;
 
-mod bodies;
 mod cut;
 mod desk;
 mod desks;
 mod failing;
 mod gate;
 mod heads;
-mod hostile;
 mod incoming;
 mod pages;
 mod piece_link;
@@ -27,7 +25,8 @@ mod rows;
 mod sign_bodies;
 mod texts;
 
-// A connection over a new desk of one seat, whose keeper fails in the calls with these numbers, and what comes of it.
+// A connection over a new desk of one seat, whose keeper fails in the calls with these numbers, and
+// what comes of it.
 #[derive(Clone, Copy)]
 struct Row<'a> {
     failing: &'a [u64],

@@ -1,11 +1,8 @@
 mod circuits;
 mod dies;
 mod faults;
-mod fronts;
 mod netlists;
 mod predicted;
-mod ranking;
 mod readers;
-mod refusals;
 mod reports;
 mod responses;

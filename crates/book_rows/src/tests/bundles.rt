@@ -1,9 +1,8 @@
-//! Bundles that are read.
+//! A bundle that is read. Those that are refused are among the examples.
 use super::texts::{NETLIST, joined};
-use diagnosis::{BundleFault, Design, Section, read_bundle};
+use diagnosis::{Design, read_bundle};
 use scan_model::{Name, NoMemory};
 use std::alloc::Global;
-use text_parts::TextFault;
 
 // Whether the design has its name, the bundle as its text, and one pattern.
 fn is_of(design: &Design, bundle: &[u8]) -> bool {
@@ -30,30 +29,4 @@ fn is_read(alloc: Global) -> Result<bool, NoMemory> {
 #[test]
 fn a_bundle_is_read(rt: HostRuntime) {
     assert!(rt; matches!(&is_read(rt.alloc()), Ok(true)));
-}
-
-// Whether the fault is that a section is missing where the fifteenth line begins.
-fn is_missing(fault: &BundleFault) -> bool {
-    match fault {
-        BundleFault::Text { section, fault } => {
-            *section == Section::Bundle && *fault == TextFault { line: 15, rule: 81 }
-        }
-        _ => false,
-    }
-}
-
-fn bundle_without_scan(alloc: Global) -> Result<Name, NoMemory> {
-    let parts: &[&[u8]] = &[NETLIST, b"%patterns\nCAPTURE 11111\n%neighbours\n"];
-    joined(alloc, parts)
-}
-
-fn misses_a_section(alloc: Global) -> Result<bool, NoMemory> {
-    let bundle = bundle_without_scan(alloc)?;
-    let read = read_bundle(alloc, b"c17", bundle.as_slice());
-    Ok(matches!(&read, Err(fault) if is_missing(fault)))
-}
-
-#[test]
-fn a_missing_section_is_found(rt: HostRuntime) {
-    assert!(rt; matches!(misses_a_section(rt.alloc()), Ok(true)));
 }

@@ -1,4 +1,5 @@
-//! What a book over a keeper in memory answers.
+//! What a book answers that is full, and one whose keeper fails. A design that comes again is among
+//! the examples (docs/formats.md).
 use super::texts::{NETLIST, joined};
 use book::{Book, Design, Put, PutFault, log_of, read_bundle};
 use desk_outside::{Deed, MemKeeper};
@@ -12,13 +13,8 @@ pub const FAILS: &[u8] = b"FAILLOG 1\ndie D1\ndesign c17\ntested 0 0\nfail 0 out
 pub const PASSES: &[u8] = b"FAILLOG 1\ndie D1\ndesign c17\ntested 0 0\nend\n";
 
 // The bundle of c17 with one pattern.
-fn bundle_of(alloc: Global, pattern: &[u8]) -> Result<Name, NoMemory> {
-    let parts: &[&[u8]] = &[
-        NETLIST,
-        b"%scan\n%patterns\nCAPTURE ",
-        pattern,
-        b"\n%neighbours\n",
-    ];
+pub fn bundle(alloc: Global) -> Result<Name, NoMemory> {
+    let parts: &[&[u8]] = &[NETLIST, b"%scan\n%patterns\nCAPTURE 11111\n%neighbours\n"];
     joined(alloc, parts)
 }
 
@@ -29,9 +25,8 @@ fn design_of(alloc: Global, bundle: &[u8]) -> Result<Arc<Design>, NoMemory> {
     }
 }
 
-// c17 with one pattern.
-fn c17(alloc: Global, pattern: &[u8]) -> Result<Arc<Design>, NoMemory> {
-    let bundle = bundle_of(alloc, pattern)?;
+fn c17(alloc: Global) -> Result<Arc<Design>, NoMemory> {
+    let bundle = bundle(alloc)?;
     design_of(alloc, bundle.as_slice())
 }
 
@@ -56,15 +51,9 @@ pub fn opened<R: Threads + Sync>(
     }
 }
 
-// Puts c17 with this pattern.
-fn put_c17(
-    alloc: Global,
-    book: &mut Book<MemKeeper>,
-    by: u32,
-    pattern: &[u8],
-) -> Result<Put, PutFault> {
-    let design = c17(alloc, pattern)?;
-    book.put_design(by, &design)
+fn put_c17(alloc: Global, book: &mut Book<MemKeeper>) -> Result<Put, PutFault> {
+    let design = c17(alloc)?;
+    book.put_design(0, &design)
 }
 
 // Puts a log of die D1, as a caller does that looks for the design first.
@@ -91,19 +80,11 @@ pub fn is_same(put: &Result<Put, PutFault>, at: u64) -> bool {
 }
 
 pub fn creates_c17(alloc: Global, book: &mut Book<MemKeeper>) -> bool {
-    is_created(&put_c17(alloc, book, 0, b"11111"), 1)
+    is_created(&put_c17(alloc, book), 1)
 }
 
-fn knows_c17(alloc: Global, book: &mut Book<MemKeeper>, by: u32) -> bool {
-    is_same(&put_c17(alloc, book, by, b"11111"), 1)
-}
-
-// Another design of its name is refused.
-fn refuses_other(alloc: Global, book: &mut Book<MemKeeper>) -> bool {
-    matches!(
-        &put_c17(alloc, book, 0, b"00000"),
-        Err(PutFault::NameTaken { .. })
-    )
+fn knows_c17(alloc: Global, book: &mut Book<MemKeeper>) -> bool {
+    is_same(&put_c17(alloc, book), 1)
 }
 
 pub fn creates_log(alloc: Global, book: &mut Book<MemKeeper>, text: &[u8], at: u64) -> bool {
@@ -112,27 +93,6 @@ pub fn creates_log(alloc: Global, book: &mut Book<MemKeeper>, text: &[u8], at: u
 
 fn knows_log(alloc: Global, book: &mut Book<MemKeeper>) -> bool {
     is_same(&put_log(alloc, book, FAILS), 1)
-}
-
-// The same design comes twice, and then another of its name.
-fn puts_once(alloc: Global, book: &mut Book<MemKeeper>) -> bool {
-    creates_c17(alloc, book)
-        && knows_c17(alloc, book, 1)
-        && refuses_other(alloc, book)
-        && book.deeds() == 1
-}
-
-fn is_put_once(alloc: Global, book: &mut Result<Book<MemKeeper>, NoMemory>) -> bool {
-    match book {
-        Ok(book) => puts_once(alloc, book),
-        Err(_) => false,
-    }
-}
-
-#[test]
-fn a_design_is_put_once(rt: HostRuntime) {
-    let mut book = opened(&rt, rt.alloc(), 0, 10);
-    assert!(rt; is_put_once(rt.alloc(), &mut book));
 }
 
 fn has_no_room(alloc: Global, book: &mut Book<MemKeeper>) -> bool {
@@ -146,7 +106,7 @@ fn has_no_room(alloc: Global, book: &mut Book<MemKeeper>) -> bool {
 fn is_full(alloc: Global, book: &mut Result<Book<MemKeeper>, NoMemory>) -> bool {
     match book {
         Ok(book) => {
-            creates_c17(alloc, book) && has_no_room(alloc, book) && knows_c17(alloc, book, 0)
+            creates_c17(alloc, book) && has_no_room(alloc, book) && knows_c17(alloc, book)
         }
         Err(_) => false,
     }
@@ -165,8 +125,8 @@ fn fails_at_log(alloc: Global, book: &mut Book<MemKeeper>) -> bool {
         && book.faults() == 1
 }
 
-// A log that is not kept at first is as new when it comes again. (The opening asks for row 0, and the design's deed is the
-// second call.)
+// A log that is not kept at first is as new when it comes again. (The opening asks for row 0, and
+// the design's deed is the second call.)
 fn fails_once(alloc: Global, book: &mut Result<Book<MemKeeper>, NoMemory>) -> bool {
     match book {
         Ok(book) => {

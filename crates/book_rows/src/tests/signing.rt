@@ -1,9 +1,9 @@
-//! Sign-offs.
+//! A sign-off. What is told where there is none is among the examples (docs/formats.md).
 ghost use Rattle.std.specs.Prelude.{◌<◌, length};
 ghost use Rattle.book.specs.Changes.{IsViewIn};
 
 use super::changes::{FAILS, PASSES, creates_c17, creates_log, is_created, is_same, opened};
-use book::{Book, Checked, DieView, LookFault, Put, PutFault, check_report};
+use book::{Book, Checked, DieView, Put, PutFault, check_report};
 use desk_outside::MemKeeper;
 use scan_model::{Digest, Name, NoMemory};
 use std::alloc::Global;
@@ -88,7 +88,8 @@ fn knows_sign<R: Threads + Sync>(rt: &R, alloc: Global, book: &mut Book<MemKeepe
     is_same(&sign(rt, alloc, book, &right()), 1)
 }
 
-// The wrong digest is refused with the right one, which is then taken, once for its revision whatever comes after it.
+// The wrong digest is refused with the right one, which is then taken, once for its revision
+// whatever comes after it.
 fn stays_signed<R: Threads + Sync>(
     rt: &R,
     alloc: Global,
@@ -112,37 +113,4 @@ fn stays_signed<R: Threads + Sync>(
 fn a_sign_off_stays_with_its_revision(rt: HostRuntime) {
     let mut book = opened(&rt, rt.alloc(), 0, 10);
     assert!(rt; stays_signed(&rt, rt.alloc(), &mut book));
-}
-
-fn has_no_die(book: &Book<MemKeeper>) -> bool {
-    matches!(
-        &book.look_die(b"c17", b"D1", None),
-        Err(LookFault::UnknownDie)
-    )
-}
-
-fn has_one_revision(book: &Book<MemKeeper>) -> bool {
-    matches!(
-        &book.look_die(b"c17", b"D1", Some(2)),
-        Err(LookFault::UnknownRevision { have: 1 })
-    )
-}
-
-// There is no die before its log, and no second revision after it.
-fn tells_what_is_there(alloc: Global, book: &mut Result<Book<MemKeeper>, NoMemory>) -> bool {
-    match book {
-        Ok(book) => {
-            creates_c17(alloc, book)
-                && has_no_die(book)
-                && creates_log(alloc, book, FAILS, 1)
-                && has_one_revision(book)
-        }
-        Err(_) => false,
-    }
-}
-
-#[test]
-fn a_revision_that_is_not_there_is_told(rt: HostRuntime) {
-    let mut book = opened(&rt, rt.alloc(), 0, 10);
-    assert!(rt; tells_what_is_there(rt.alloc(), &mut book));
 }

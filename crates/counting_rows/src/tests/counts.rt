@@ -1,11 +1,11 @@
-//! The same counts as by plain simulation of all faults.
+//! The same counts as by plain simulation of all faults. Counts past the 512th pattern, and of a
+//! long chain, are among the examples (examples/rows).
 ghost use Rattle.std.specs.Prelude.{◌≡◌, length};
 ghost use Rattle.scan_model.specs.ScanTest.{points_of};
 ghost use Rattle.scan_model.specs.Response.{expected_rows};
 ghost use Rattle.log_join.specs.Joining.{IsJoinedOf};
 
-use super::chains::{long_chain, long_netlist, long_patterns};
-use super::designs::{C17, GATES_IN_ROWS, ODD, S27, design, push_times};
+use super::designs::{C17, GATES_IN_ROWS, ODD, S27, design};
 use super::logs::joined_of;
 use diagnosis::{BundleFault, Design};
 use good_sim::expected_all;
@@ -98,7 +98,8 @@ struct Row {
     log: &'static [u8],
 }
 
-// c17 with bridges, s27 that captures and shifts, a flop in no chain with a gate that reads a net twice, and rows of gates that one gate alone reads.
+// c17 with bridges, s27 that captures and shifts, a flop in no chain with a gate that reads a net
+// twice, and rows of gates that one gate alone reads.
 const ROWS: [Row; 4] = [
     Row {
         netlist: C17,
@@ -144,49 +145,4 @@ fn small_designs(rt: HostRuntime) {
             row.netlist
         );
     }
-}
-
-/// 600 patterns of c17.
-fn two_blocks(alloc: Global) -> Result<String, NoMemory> {
-    let mut text = String::new(alloc);
-    push_times(&mut text, "CAPTURE 11111\nCAPTURE 10110\n", 256)?;
-    push_times(&mut text, "CAPTURE 00000\nCAPTURE 01101\n", 44)?;
-    Ok(text)
-}
-
-fn design_of_two_blocks(alloc: Global) -> Result<Design, BundleFault> {
-    let patterns = two_blocks(alloc)?;
-    design(alloc, C17, "", &patterns, "net_a,net_b\n10,19\n")
-}
-
-/// Fails in the second block of 512 alone.
-#[test]
-fn fails_in_the_second_block_alone(rt: HostRuntime) {
-    let design = design_of_two_blocks(rt.alloc());
-    let log =
-        b"FAILLOG 1\ndie D1\ndesign d\ntested 0 599\nfail 512 out 22\nfail 575 out 23\nfail 576 out 22\nfail 599 out 22\nend\n";
-    assert!(rt; is_equal(&rt, rt.alloc(), &design, log));
-}
-
-fn long_design_of(alloc: Global, netlist: &str, scan: &str) -> Result<Design, BundleFault> {
-    let patterns = long_patterns(alloc)?;
-    design(alloc, netlist, scan, &patterns, "")
-}
-
-fn long_design_over(alloc: Global, netlist: &str) -> Result<Design, BundleFault> {
-    let scan = long_chain(alloc)?;
-    long_design_of(alloc, netlist, &scan)
-}
-
-fn long_design(alloc: Global) -> Result<Design, BundleFault> {
-    let netlist = long_netlist(alloc)?;
-    long_design_over(alloc, &netlist)
-}
-
-#[test]
-fn a_chain_of_70_cells(rt: HostRuntime) {
-    let design = long_design(rt.alloc());
-    let log =
-        b"FAILLOG 1\ndie D1\ndesign d\ntested 0 2\nfail 0 cell c 65\nfail 0 cell c 3\nfail 1 cell c 40\nfail 2 cell c 64\nend\n";
-    assert!(rt; is_equal(&rt, rt.alloc(), &design, log));
 }

@@ -1,4 +1,5 @@
-//! Connections that are cut off anywhere, and connections that fail.
+//! Connections that fail, in each of their calls. Those that are cut off anywhere are among the
+//! examples (examples/sessions.py).
 use super::texts::*;
 use super::*;
 
@@ -16,112 +17,6 @@ const SENT: [&[u8]; 4] = [
     b"HTTP/1.1 100 Continue\r\n\r\n",
     CREATED_LOG_1,
 ];
-
-// So many bytes from the front of what is asked, from the first number to before the second, and what is due to each.
-struct Front {
-    sizes: (usize, usize),
-    sent: &'static [&'static [u8]],
-    marks: &'static [u64],
-    end: SessionEnd,
-}
-
-// The parts that are asked have 270, 29, 85 and 57 bytes.
-const FRONTS: [Front; 8] = [
-    Front {
-        sizes: (0, 1),
-        sent: &[],
-        marks: &[],
-        end: SessionEnd::Ended,
-    },
-    Front {
-        sizes: (1, 270),
-        sent: &[],
-        marks: &[],
-        end: SessionEnd::Cut,
-    },
-    Front {
-        sizes: (270, 271),
-        sent: &[CREATED_C17],
-        marks: &[1],
-        end: SessionEnd::Ended,
-    },
-    Front {
-        sizes: (271, 299),
-        sent: &[CREATED_C17],
-        marks: &[1],
-        end: SessionEnd::Cut,
-    },
-    Front {
-        sizes: (299, 300),
-        sent: &[CREATED_C17, C17_SHOWN],
-        marks: &[1, 1],
-        end: SessionEnd::Ended,
-    },
-    Front {
-        sizes: (300, 384),
-        sent: &[CREATED_C17, C17_SHOWN],
-        marks: &[1, 1],
-        end: SessionEnd::Cut,
-    },
-    Front {
-        sizes: (384, 441),
-        sent: &[CREATED_C17, C17_SHOWN, b"HTTP/1.1 100 Continue\r\n\r\n"],
-        marks: &[1, 1],
-        end: SessionEnd::Cut,
-    },
-    Front {
-        sizes: (441, 442),
-        sent: &SENT,
-        marks: &[1, 1, 2],
-        end: SessionEnd::Ended,
-    },
-];
-
-// Whether a connection over which these bytes come is answered as is due.
-fn is_answered<R: Threads + Wait + Sync>(
-    rt: &R,
-    alloc: Global,
-    asked: &[u8],
-    front: &Front,
-) -> bool {
-    let row = Row {
-        failing: &[],
-        max_deeds: 100,
-        asked: &[asked],
-        sent: front.sent,
-        marks: front.marks,
-        end: front.end,
-    };
-    is_served_so(rt, alloc, &row, false)
-}
-
-fn are_answered<R: Threads + Wait + Sync>(
-    rt: &R,
-    alloc: Global,
-    asked: &[u8],
-    front: &Front,
-) -> bool {
-    for size in front.sizes.0..front.sizes.1 {
-        if size > asked.len() || !is_answered(rt, alloc, &asked[..size], front) {
-            return false;
-        }
-    }
-    true
-}
-
-#[test]
-fn each_front_of_a_session_is_answered(rt: HostRuntime) -> Result<(), NoMemory> {
-    let asked = joined(rt.alloc(), &ASKED)?;
-    assert!(rt; asked.len() == 441);
-    for front in &FRONTS {
-        assert!(rt;
-            are_answered(&rt, rt.alloc(), asked.as_slice(), front),
-            "from {}",
-            front.sizes.0
-        );
-    }
-    Ok(())
-}
 
 // A connection that asks for all and fails in the call with this number.
 fn failing(alloc: Global, call: u64, by_bytes: bool) -> Result<PieceLink<MemLink>, NoMemory> {
@@ -147,15 +42,16 @@ fn ends_with_its_deeds<R: Threads + Wait + Sync, L: Link>(
     Ok(has_its_deeds(&outcome, end))
 }
 
-// Connections that fail in the call with a number from the first to before the second, and how their sessions end.
+// Connections that fail in the call with a number from the first to before the second, and how
+// their sessions end.
 struct Fails {
     calls: (u64, u64),
     by_bytes: bool,
     end: SessionEnd,
 }
 
-// At once there are two reads, and seven writes: the interim reply, and the heads and bodies of three others. Byte by byte
-// there is a read for each of 441 bytes, and one at the end.
+// At once there are two reads, and seven writes: the interim reply, and the heads and bodies of
+// three others. Byte by byte there is a read for each of 441 bytes, and one at the end.
 const FAILS: [Fails; 4] = [
     Fails {
         calls: (1, 10),

@@ -1,9 +1,12 @@
+//! Pages of a report that is kept, through a door. Other pages are among the examples
+//! (examples/sessions).
 use super::*;
 use desk_http::serve_door;
 use desk_outside::MemDoor;
 use sha2::Sha256;
 
-// Puts a bundle of 240 buffers in a row, which has 3,932 bytes, and a log of a die whose output fails.
+// Puts a bundle of 240 buffers in a row, which has 3,932 bytes, and a log of a die whose output
+// fails.
 fn uploads(alloc: Global) -> Result<Name, NoMemory> {
     let mut text = Name::copy_of(
         alloc,
@@ -27,7 +30,8 @@ fn door_of(alloc: Global, asked: &[&[u8]]) -> Result<MemDoor, NoMemory> {
     MemDoor::make(alloc, links)
 }
 
-// Serves both connections over a new desk. Answers how many look-ups found a kept report, or none where a connection fails.
+// Serves both connections over a new desk. Answers how many look-ups found a kept report, or none
+// where a connection fails.
 fn hits_over<R: Threads + Wait + Sync>(
     rt: &R,
     alloc: Global,
@@ -58,15 +62,6 @@ fn has_digest(sent: &[u8], digest: &[u8; 64]) -> bool {
     hex::encode_to_slice(bytes, &mut shown).is_ok() && shown.as_slice() == digest.as_slice()
 }
 
-// What is asked behind the uploads, over a second connection; the SHA-256, by an independent model, of what is sent over it; and how many look-ups find a kept
-// report.
-struct Pages {
-    shown: &'static str,
-    asked: &'static [&'static [u8]],
-    digest: &'static [u8; 64],
-    hits: u64,
-}
-
 const PAGE_1: &[u8] = b"GET /designs/row/dies/D1/reports/1/pages/1 HTTP/1.1\r\n\r\n";
 
 const PAGE_101: &[u8] = b"GET /designs/row/dies/D1/reports/1/pages/101 HTTP/1.1\r\n\r\n";
@@ -76,63 +71,36 @@ const PAGE_201: &[u8] = b"GET /designs/row/dies/D1/reports/1/pages/201 HTTP/1.1\
 const POST_LOG: &[u8] =
     b"POST /designs/row/dies/D1/logs HTTP/1.1\r\nContent-Length: 43\r\n\r\nFAILLOG 1\ndie D1\ndesign row\ntested 0 0\nend\n";
 
-const PAGES: [Pages; 3] = [
-    Pages {
-        shown: "three pages are one report",
-        asked: &[PAGE_1, PAGE_101, PAGE_201],
-        digest: b"4ae7891dbb64104706d650bae3f2c7398b853e1a2daf139450a45517ed0faaba",
-        hits: 2,
-    },
-    Pages {
-        shown: "a log between two pages changes none",
-        asked: &[
-            PAGE_1,
-            POST_LOG,
-            PAGE_101,
-            PAGE_201,
-            b"GET /designs/row/dies/D1/reports/1/pages/251 HTTP/1.1\r\n\r\n",
-            b"GET /designs/row/dies/D1/reports/1 HTTP/1.1\r\n\r\n",
-        ],
-        digest: b"2a08715a8899ff11205a23f1a21d2dfdc75f5d51c3e35d933f7157d23946dcdb",
-        hits: 4,
-    },
-    Pages {
-        shown: "a report that is kept is signed",
-        asked: &[
-            PAGE_201,
-            POST_LOG,
-            b"POST /designs/row/dies/D1/signoffs HTTP/1.1\r\nContent-Length: 110\r\n\r\n{\"revision\": 1, \"signer\": \"ann\", \"digest\": \"b20f25846508daa8f986db0514ba20119789205bc0a20b71e415d91f3e57ac88\"}",
-            b"GET /designs/row/dies/D1/signoffs/1 HTTP/1.1\r\n\r\n",
-        ],
-        digest: b"2d27285d83a33b7e7baeaef5f55734fa9de0854ba9158a9edf3ecb873dc128df",
-        hits: 1,
-    },
+// What is asked behind the uploads, over a second connection.
+const ASKED: [&[u8]; 6] = [
+    PAGE_1,
+    POST_LOG,
+    PAGE_101,
+    PAGE_201,
+    b"GET /designs/row/dies/D1/reports/1/pages/251 HTTP/1.1\r\n\r\n",
+    b"GET /designs/row/dies/D1/reports/1 HTTP/1.1\r\n\r\n",
 ];
 
-// Whether both connections of the door are answered so.
+// The SHA-256, by an independent model, of what is sent over it.
+const DIGEST: &[u8; 64] = b"2a08715a8899ff11205a23f1a21d2dfdc75f5d51c3e35d933f7157d23946dcdb";
+
+// Whether both connections of the door are answered so, and four look-ups find the kept report.
 fn are_sent<R: Threads + Wait + Sync>(
     rt: &R,
     alloc: Global,
     door: &mut Result<MemDoor, NoMemory>,
-    pages: &Pages,
 ) -> bool {
     match door {
         Ok(door) => {
-            matches!(hits_over(rt, alloc, door), Ok(Some(found)) if found == pages.hits)
-                && matches!(door.done(), [_, home] if has_digest(home.sent.as_slice(), pages.digest))
+            matches!(hits_over(rt, alloc, door), Ok(Some(4)))
+                && matches!(door.done(), [_, home] if has_digest(home.sent.as_slice(), DIGEST))
         }
         Err(_) => false,
     }
 }
 
 #[test]
-fn pages_of_one_report(rt: HostRuntime) {
-    for pages in &PAGES {
-        let mut door = door_of(rt.alloc(), pages.asked);
-        assert!(rt;
-            are_sent(&rt, rt.alloc(), &mut door, pages),
-            "{}",
-            pages.shown
-        );
-    }
+fn a_log_between_two_pages_changes_none(rt: HostRuntime) {
+    let mut door = door_of(rt.alloc(), &ASKED);
+    assert!(rt; are_sent(&rt, rt.alloc(), &mut door));
 }

@@ -26,8 +26,6 @@ pub(super) const SIGN_FIRST: &[u8] =
 
 pub(super) const GET_SIGN: &[u8] = b"GET /designs/c17/dies/D1/signoffs/1 HTTP/1.1\r\n\r\n";
 
-pub(super) const GET_FIRST: &[u8] = b"GET /designs/c17/dies/D1/reports/1 HTTP/1.1\r\n\r\n";
-
 pub(super) const GET_C17: &[u8] = b"GET /designs/c17 HTTP/1.1\r\n\r\n";
 
 pub(super) const C17_SHOWN: &[u8] =
@@ -65,9 +63,6 @@ pub(super) const KEPT_SIGN: &[u8] =
 
 pub(super) const SIGN_TEXT: &[u8] =
     b"HTTP/1.1 200 OK\r\nContent-Type: text/plain\r\nContent-Length: 104\r\n\r\nsignoff 1\nrevision 1\nsigner ann\ndigest f8b658ff1c7535fcdb3e94bbc59998aca3c639ea60abb600f85c4b974ff6ae23\n";
-
-pub(super) const FIRST_REPORT: &[u8] =
-    b"HTTP/1.1 200 OK\r\nContent-Type: text/plain\r\nContent-Length: 311\r\n\r\nREPORT 1\ndesign c17\ndie D1\nlogs 1\nfailing 1\npassing 1\nconflicts 0\nmasked 0\ncandidates 4\ncandidate 1 fault 0 tfsf 1 tfsp 0 tpsf 0 stem 1 sa0\ncandidate 2 fault 11 tfsf 1 tfsp 0 tpsf 0 stem 10 sa1\ncandidate 3 fault 18 tfsf 1 tfsp 0 tpsf 0 stem 22 sa0\ncandidate 4 fault 22 tfsf 1 tfsp 0 tpsf 0 branch 3 to 10 2 sa0\n";
 
 pub(super) const NO_DESIGN: &[u8] =
     b"HTTP/1.1 404 Not Found\r\nContent-Type: text/plain\r\nContent-Length: 8\r\n\r\nrule 83\n";

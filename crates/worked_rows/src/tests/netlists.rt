@@ -1,34 +1,10 @@
-//! The longest netlist, and the cones of nets.
+//! The cones of nets, and their names. The longest netlist is among the examples of
+//! docs/formats.md.
 use super::circuits::c17;
 use bench_reader::{NamedCircuit, read_netlist, read_netlist_named};
 use scan_model::{Circuit, NoMemory, Rows};
-use std::alloc::{AllocError, Global};
+use std::alloc::Global;
 use text_parts::ReadFault;
-
-fn inputs(alloc: Global, count: u32) -> Result<String, AllocError> {
-    let mut text = String::new(alloc);
-    for i in 0..count {
-        text.push_str(format!(in alloc; "INPUT(n{i})\n")?.as_str())?;
-    }
-    Ok(text)
-}
-
-// Whether a netlist of inputs is refused at its first net past the limit.
-fn is_refused_past_the_limit(alloc: Global, inputs: &Result<String, AllocError>) -> bool {
-    match inputs {
-        Ok(text) => stops_at(&read_netlist(alloc, text.as_bytes()), 65537, 9),
-        Err(_) => false,
-    }
-}
-
-fn stops_at(circuit: &Result<Circuit, ReadFault>, line: u64, rule: u32) -> bool {
-    matches!(circuit, Err(ReadFault::Text(fault)) if fault.line == line && fault.rule == rule)
-}
-
-#[test]
-fn the_first_net_past_the_limit(rt: HostRuntime) {
-    assert!(rt; is_refused_past_the_limit(rt.alloc(), &inputs(rt.alloc(), 65537)));
-}
 
 fn lists(cone: &Result<Rows<u32>, NoMemory>, nets: &[u32]) -> bool {
     matches!(cone, Ok(found) if found.as_slice() == nets)
@@ -44,8 +20,8 @@ fn leads_back_to(circuit: &Circuit, net: u32, nets: &[u32]) -> bool {
     circuit.nets().len() == 11 && net < 11 && lists(&circuit.cone_in(net), nets)
 }
 
-// Whether the fan-out cone of c17's net 6 has the nets 6 to 10, the fan-in cone of its net 3, the net 2 by number, is itself,
-// and that of its net 10, by number 5, has the nets 1, 3 and 10.
+// Whether the fan-out cone of c17's net 6 has the nets 6 to 10, the fan-in cone of its net 3, the
+// net 2 by number, is itself, and that of its net 10, by number 5, has the nets 1, 3 and 10.
 fn has_its_cones(circuit: &Result<Circuit, ReadFault>) -> bool {
     match circuit {
         Ok(circuit) => {

@@ -1,15 +1,16 @@
 //! Responses: the outputs, then the cells from the last position to the first.
-use super::circuits::{design, design_of_s27};
+use super::circuits::design_of_s27;
 use chain_faults::{faulty_load, faulty_unload};
 use diagnosis::{BundleFault, Design};
-use fault_universe::{fault_at, universe_len};
+use fault_universe::fault_at;
 use good_sim::plain_response;
 use scan_model::{CellKind, NoMemory, Parts, Rows, Tri};
 use std::alloc::Global;
 
 const X: Tri = Tri::Unknown;
 
-/// The response in the first pattern under the fault at a place; without a fault where there is none.
+/// The response in the first pattern under the fault at a place; without a fault where there is
+/// none.
 fn first_response(alloc: Global, parts: &Parts, place: u32) -> Result<Rows<Tri>, NoMemory> {
     if parts.patterns().is_empty() {
         return Ok(Rows::new(alloc));
@@ -70,33 +71,6 @@ fn captures_and_a_shift_of_s27(rt: HostRuntime) {
             row.pattern
         );
     }
-}
-
-/// A netlist in other letter case, with comments, and without an end of its last line.
-fn inverter(alloc: Global) -> Result<Design, BundleFault> {
-    let netlist = "# c\r\ninput(a)\r\nOUTPUT ( y )  # out\r\ny = nand(a)";
-    design(alloc, netlist, "", "CAPTURE 1\n", "")
-}
-
-fn has_sizes(design: &Result<Design, BundleFault>) -> bool {
-    match design {
-        Ok(design) => {
-            let parts = design.parts();
-            parts.circuit().nets().len() == 2
-                && parts.circuit().pins().len() == 2
-                && universe_len(parts) == 4
-        }
-        Err(_) => false,
-    }
-}
-
-fn inverts(alloc: Global, design: &Result<Design, BundleFault>) -> bool {
-    has_sizes(design) && responds(alloc, design, 4, &[Tri::Zero])
-}
-
-#[test]
-fn a_netlist_in_other_letter_case(rt: HostRuntime) {
-    assert!(rt; inverts(rt.alloc(), &inverter(rt.alloc())));
 }
 
 #[test]

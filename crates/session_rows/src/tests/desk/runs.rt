@@ -1,4 +1,5 @@
-//! What two seats of a desk are told, one after the other: a full book, a keeper that fails once, and sign-offs.
+//! What two seats of a desk are told, one after the other: a full book, a keeper that fails once,
+//! and sign-offs.
 ghost use Rattle.std.specs.Prelude.{◌≡◌};
 
 use super::asks::{Ask, Deed, Look, Told, is_told};
@@ -14,8 +15,9 @@ use std::thread::Threads;
 // What a seat asks, and what it is told.
 type Step = (Ask, Told);
 
-// A desk whose keeper fails in these calls; what its seats are told, the first before and after the second; and the seats of the
-// deeds at the end. The opening asks for row 0, and each deed is a call.
+// A desk whose keeper fails in these calls; what its seats are told, the first before and after the
+// second; and the seats of the deeds at the end. The opening asks for row 0, and each deed is a
+// call.
 #[derive(Clone, Copy)]
 struct Run {
     shown: &'static str,
@@ -27,7 +29,7 @@ struct Run {
     by: &'static [u32],
 }
 
-const RUNS: [Run; 7] = [
+const RUNS: [Run; 3] = [
     Run {
         shown: "a full book knows what it has",
         failing: &[],
@@ -63,38 +65,6 @@ const RUNS: [Run; 7] = [
         by: &[0, 0, 1, 0],
     },
     Run {
-        shown: "the first design fails once",
-        failing: &[2],
-        max_deeds: 10,
-        first: &[],
-        second: &[
-            (Ask::Do(Deed::C17), (0, "failed", 0)),
-            (Ask::Do(Deed::C17), (1, "created", 1)),
-            (Ask::Do(Deed::Other), (2, "created", 2)),
-            (Ask::Do(Deed::Fails), (3, "created", 1)),
-            (Ask::Do(Deed::Passes), (4, "created", 2)),
-            (Ask::Do(Deed::OtherPasses), (5, "created", 1)),
-        ],
-        last: &[],
-        by: &[1, 1, 1, 1, 1],
-    },
-    Run {
-        shown: "the second design fails once",
-        failing: &[3],
-        max_deeds: 10,
-        first: &[],
-        second: &[
-            (Ask::Do(Deed::C17), (1, "created", 1)),
-            (Ask::Do(Deed::Other), (1, "failed", 0)),
-            (Ask::Do(Deed::Other), (2, "created", 2)),
-            (Ask::Do(Deed::Fails), (3, "created", 1)),
-            (Ask::Do(Deed::Passes), (4, "created", 2)),
-            (Ask::Do(Deed::OtherPasses), (5, "created", 1)),
-        ],
-        last: &[],
-        by: &[1, 1, 1, 1, 1],
-    },
-    Run {
         shown: "the first log fails once",
         failing: &[4],
         max_deeds: 10,
@@ -105,38 +75,6 @@ const RUNS: [Run; 7] = [
             (Ask::Do(Deed::Fails), (2, "failed", 0)),
             (Ask::Do(Deed::Fails), (3, "created", 1)),
             (Ask::Do(Deed::Passes), (4, "created", 2)),
-            (Ask::Do(Deed::OtherPasses), (5, "created", 1)),
-        ],
-        last: &[],
-        by: &[1, 1, 1, 1, 1],
-    },
-    Run {
-        shown: "the second log fails once",
-        failing: &[5],
-        max_deeds: 10,
-        first: &[],
-        second: &[
-            (Ask::Do(Deed::C17), (1, "created", 1)),
-            (Ask::Do(Deed::Other), (2, "created", 2)),
-            (Ask::Do(Deed::Fails), (3, "created", 1)),
-            (Ask::Do(Deed::Passes), (3, "failed", 0)),
-            (Ask::Do(Deed::Passes), (4, "created", 2)),
-            (Ask::Do(Deed::OtherPasses), (5, "created", 1)),
-        ],
-        last: &[],
-        by: &[1, 1, 1, 1, 1],
-    },
-    Run {
-        shown: "the log of the other design fails once",
-        failing: &[6],
-        max_deeds: 10,
-        first: &[],
-        second: &[
-            (Ask::Do(Deed::C17), (1, "created", 1)),
-            (Ask::Do(Deed::Other), (2, "created", 2)),
-            (Ask::Do(Deed::Fails), (3, "created", 1)),
-            (Ask::Do(Deed::Passes), (4, "created", 2)),
-            (Ask::Do(Deed::OtherPasses), (4, "failed", 0)),
             (Ask::Do(Deed::OtherPasses), (5, "created", 1)),
         ],
         last: &[],

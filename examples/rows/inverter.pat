@@ -1,0 +1,1 @@
+CAPTURE 1
