@@ -5,10 +5,12 @@ mod chains;
 mod effect;
 mod evaluate;
 mod expected;
+mod fails;
 mod force;
 mod observe;
 mod response;
 mod source;
 
 pub use expected::expected_all;
+pub use fails::is_fail;
 pub use response::plain_response;

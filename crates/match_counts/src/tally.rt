@@ -2,19 +2,13 @@ ghost use Rattle.std.specs.Prelude.{◌≡◌, ℕ, ◌+◌, ◌^◌, ◌<◌, �
 ghost use Rattle.scan_model.specs.declared.values.Tri.{Tri};
 ghost use Rattle.scan_model.specs.declared.logs.Bit.{Bit};
 ghost use Rattle.scan_model.specs.declared.logs.LogFacts.{LogFacts};
-ghost use Rattle.scan_model.specs.Values as logic;
 ghost use Rattle.log_join.specs.Joining.{StandsFor, FitsExpected};
 ghost use Rattle.fault_universe.specs.BitRows.{row_bits};
 ghost use Rattle.match_counts.specs.Tally.{counted, counts_over, AreAtMost};
 
+use good_sim::is_fail;
 use log_join::Joined;
 use scan_model::{Bit, BitClass, Counts, Expected, Tri};
-
-fn are_opposite(a: Tri, b: Tri) -> bool
-    ensures { result ≡ logic.are_opposite a b }
-{
-    matches!((a, b), (Tri::Zero, Tri::One) | (Tri::One, Tri::Zero))
-}
 
 /// Counts one bit.
 fn count_bit(counts: Counts, class: BitClass, predicted: bool) -> Counts
@@ -55,7 +49,7 @@ pub(crate) fn count_row(
     for point in 0..values.len() as u32 {
         let bit = Bit { pattern, point };
         let class = joined.class(expected, &bit);
-        let predicted = are_opposite(expected.get(&bit), values[point as usize]);
+        let predicted = is_fail(expected.get(&bit), values[point as usize]);
         sum = count_bit(sum, class, predicted);
     }
     sum

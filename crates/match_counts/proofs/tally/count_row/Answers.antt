@@ -15,10 +15,10 @@ loop-point-preserved c =
     let values = c.args.values.now in
     let row = get_or c.args.expected.now w [] in
     let inside : k < length values = omega arith in
-    let predicted : c.are_opposite-predicted.result ≡ are_opposite (value_at row k) (value_at values k) = c.are_opposite-predicted.ensures ∙ rw (c.get.ensures, get_or_default values k _ Unknown inside) refl in
+    let predicted : c.is_fail-predicted.result ≡ are_opposite (value_at row k) (value_at values k) = c.is_fail-predicted.ensures ∙ rw (c.get.ensures, get_or_default values k _ Unknown inside) refl in
     record {
       counts = λ logs good bad bits stands is_row is_values start.
-          row_more logs good bad bits w k row values c.loop-point.sum c.count_bit-sum.result c.class-class.result c.are_opposite-predicted.result
+          row_more logs good bad bits w k row values c.loop-point.sum c.count_bit-sum.result c.class-class.result c.is_fail-predicted.result
           (c.loop-point.invariant.counts logs good bad bits stands is_row is_values start) is_row is_values (c.class-class.ensures logs stands) predicted c.count_bit-sum.ensures.counts;
       at_most = λ n most. AreAtMost-le (n + k + 1) (n + (k + 1)) c.count_bit-sum.result (omega arith) (c.count_bit-sum.ensures.at_most (n + k) (c.loop-point.invariant.at_most n most));
     }
