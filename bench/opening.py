@@ -1,7 +1,9 @@
 #!/usr/bin/env python3
 """Times the opening of a store of 100,000 deeds: 100 designs, 99,000 logs of 2 KiB and 900 sign-offs.
 
-    python3 bench/opening.py          (from the top; ./scandesk must have been built)
+    python3 bench/opening.py [LOGS]   (from the top; ./scandesk must have been built)
+
+With another number of logs there is a sign-off for each 110 of them.
 
 The rows of designs and logs are written into the database by this script; the sign-offs are made over HTTP, with the digests of the
 reports that the desk sends. Then the desk is started again over the store, and told are the seconds until it serves and its greatest memory.
@@ -18,7 +20,8 @@ import time
 sys.path.insert(0, os.path.dirname(os.path.abspath(__file__)))
 from pages import PROGRAM, ask, connect, free_port
 
-DESIGNS, LOGS, SIGNS = 100, 99000, 900
+DESIGNS, LOGS = 100, int(sys.argv[1]) if len(sys.argv) > 1 else 99000
+SIGNS = LOGS // 110
 OF_A_DIE = 10
 BUNDLE = (b'%netlist\nINPUT(1)\nINPUT(2)\nINPUT(3)\nINPUT(6)\nINPUT(7)\nOUTPUT(22)\nOUTPUT(23)\n10 = NAND(1, 3)\n11 = NAND(3, 6)\n'
           b'16 = NAND(2, 11)\n19 = NAND(11, 7)\n22 = NAND(10, 16)\n23 = NAND(16, 19)\n%scan\n%patterns\nCAPTURE 11111\n%neighbours\n')
@@ -85,7 +88,7 @@ def main():
         s.close()
         last = desk.stdout.read().decode()
         _, status, usage = os.wait4(desk.pid, 0)
-        print('%s: opened in %.1f s, %d MiB, the file has %d MiB, status %d'
+        print('%s: opened in %.2f s, %d MiB, the file has %d MiB, status %d'
               % (last.strip(), took, usage.ru_maxrss // 1024, os.path.getsize(store) >> 20, status))
 
 

@@ -346,6 +346,7 @@ def the_strip(screen, front):
 
 def sign(screen, signer):
     """What is told of a sign-off."""
+    until('the form of a sign-off', lambda: screen.is_shown('#signer'))
     screen.type('#signer', signer)
     screen.one('#signer').send_keys(Keys.ENTER)
     return until('an answer to a sign-off', lambda: screen.driver.execute_script(
