@@ -129,7 +129,7 @@ log_with design tested fail more = text (codes "FAILLOG 1" ∷ codes "die D1" �
 abbrev log_a : List ℕ
 log_a = log_with (codes "design c17") (codes "tested 0 0") (codes "fail 0 out 22") (codes "end" ∷ [])
 
-whole : log_reading c17 log_a ≡ Ok (record { first = 0; last = 0; truncated = false; fails = record { pattern = 0; point = 0 } ∷ [] })
+whole : log_reading c17 log_a ≡ Ok (record { ranges = record { first = 0; last = 0 } ∷ []; truncated = false; fails = record { pattern = 0; point = 0 } ∷ []; cuts = [] })
 whole = refl
 
 nowhere : log_fault c17 (log_with (codes "design c17") (codes "tested 0 0") (codes "fail 0 out 99") (codes "end" ∷ [])) ≡ Some (5, 58)
@@ -172,5 +172,5 @@ out_of_shift : log_fault s27 (log_with (codes "design c17") (codes "tested 0 0")
 out_of_shift = refl
 
 a_cell : log_reading s27 (log_with (codes "design c17") (codes "tested 0 0") (codes "fail 0 cell c0 0") (codes "truncated" ∷ []))
-    ≡ Ok (record { first = 0; last = 0; truncated = true; fails = record { pattern = 0; point = 3 } ∷ [] })
+    ≡ Ok (record { ranges = record { first = 0; last = 0 } ∷ []; truncated = true; fails = record { pattern = 0; point = 3 } ∷ []; cuts = [] })
 a_cell = refl

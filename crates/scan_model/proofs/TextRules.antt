@@ -1,5 +1,5 @@
 -- Each rule table of a text rises, so what it finds on a line is the lowest rule that the line breaks.
-use Rattle.std.proofs.Common.{◌≡◌, ℕ, ◌<◌, Bool, true, false, not, cond, List, [], ◌∷◌, ◌++◌, length, take, eqb, Option, Some, None, refl, ◌∙◌, inl, inr}
+use Rattle.std.proofs.Common.{◌≡◌, ℕ, Bool, true, false, not, cond, List, [], ◌∷◌, ◌++◌, length, take, eqb, Option, Some, None, refl, ◌∙◌, inl, inr}
 use Rattle.scan_model.specs.declared.circuit.Net.{Net}
 use Rattle.scan_model.specs.Lines.{line_at}
 use Rattle.scan_model.specs.Words.{words, has_words}

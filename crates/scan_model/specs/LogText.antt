@@ -290,10 +290,10 @@ range_in ls = slice_index_or (filter_map range_of ls) 0 (0, 0)
 
 abbrev pub log_of_lines : LogFrame → List LogLine → LogFacts
 log_of_lines frame ls = record {
-  first = (range_in ls).0;
-  last = (range_in ls).1;
+  ranges = record { first = (range_in ls).0; last = (range_in ls).1 } ∷ [];
   truncated = list_any is_truncated ls;
   fails = bits_listed frame ls;
+  cuts = [];
 }
 
 -- what reading a log gives: its first fault, or the log that it stands for

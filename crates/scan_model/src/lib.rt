@@ -22,7 +22,7 @@ pub use circuit::{Circuit, Driver, GateKind, MakeFault, Net, Pin, PinPlace};
 pub use digest::Digest;
 pub use expected::Expected;
 pub use fault::{BridgeKind, CellKind, Fault, Stuck};
-pub use logs::{Bit, BitClass, Counts, LogFacts, Scored};
+pub use logs::{Bit, BitClass, Counts, LogFacts, Range, Scored};
 pub use pair_index::{PairPlace, nets_number};
 pub use parts::{Chain, Pair, Pairs, Parts, Pattern, PatternKind, Point};
 pub use rows::{Name, NoMemory, Rows};
