@@ -90,7 +90,8 @@ fn cover_whole_word(words: &mut [u64], points: usize, word: usize, mask: u64)
     }
 }
 
-/// Covers those of the 64 patterns from 64 * word on that the mask names, at each point before its end.
+/// Covers those of the 64 patterns from 64 * word on that the mask names, at each point before its
+/// end.
 fn cover_word(words: &mut [u64], points: usize, word: usize, mask: u64, ends: &[u32])
     requires few { word < 2 ^ 32 }
     requires ends { length ends.now ≡ points }
@@ -104,7 +105,8 @@ fn cover_word(words: &mut [u64], points: usize, word: usize, mask: u64, ends: &[
     }
 }
 
-/// The tested patterns at each point before its end, of the 64 from 64 * word on. Points that end later need no masks of their own.
+/// The tested patterns at each point before its end, of the 64 from 64 * word on. Points that end
+/// later need no masks of their own.
 fn cover_tested(words: &mut [u64], points: usize, word: usize, mask: u64, ends: &[u32], least: u32)
     requires few { word < 2 ^ 32 }
     requires ends { length ends.now ≡ points }
