@@ -8,3 +8,5 @@ pub mod LineFacts
 pub mod Places
 pub mod IsFrame
 pub mod Rising
+pub mod Marked
+pub mod Groups

@@ -385,16 +385,16 @@ is_in_group Outputs (Cell h pos) = false
 is_in_group (Chain g) (Output k) = false
 is_in_group (Chain g) (Cell h pos) = g == h
 
--- the points of a group, in rising order
-abbrev pub group_points : LogFrame → CutGroup → List ℕ
-group_points frame g = filter (λ k. is_in_group g (slice_index_or frame.points k (Output 0))) (range_with_len 0 (length frame.points))
+-- those of these points that are in a group, by their places in rising order
+abbrev pub group_points : List Point → CutGroup → List ℕ
+group_points points g = filter (λ k. is_in_group g (slice_index_or points k (Output 0))) (range_with_len 0 (length points))
 
 abbrev pub log_of_lines : LogFrame → List LogLine → LogFacts
 log_of_lines frame ls = record {
   ranges = filter_map range_of ls;
   truncated = list_any is_truncated ls;
   fails = bits_listed frame ls;
-  cuts = map (group_points frame) (each_once (filter_map (group_cut frame) ls));
+  cuts = map (group_points frame.points) (each_once (filter_map (group_cut frame) ls));
 }
 
 -- what reading a log gives: its first fault, or the log that it stands for

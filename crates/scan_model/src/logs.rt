@@ -32,7 +32,7 @@ pub enum LogVersion {
 #[derive(Clone, Copy, Debug, PartialEq, Eq)]
 pub enum CutGroup {
     Outputs,
-    Chain(usize),
+    Chain(u32),
 }
 
 /// What a fail log says: the ranges of tested patterns, whether the log was cut short, the failing bits in bit order, and
