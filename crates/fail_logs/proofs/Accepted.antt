@@ -56,7 +56,7 @@ none_is false b e = (refl, e)
 
 -- ---- one line
 
-ranges_there : (h : Headers) → not (has_all h) ≡ false → has_ranges h.ranges ≡ true
+pub ranges_there : (h : Headers) → not (has_all h) ≡ false → has_ranges h.ranges ≡ true
 ranges_there h placed = (and_parts h.design (has_ranges h.ranges) (and_parts h.die (h.design && has_ranges h.ranges) (holds (has_all h) placed)).1).1
 
 ranges_at_fail : (version : LogVersion) (h : Headers) (l : LogLine) (p : ℕ) → pattern_named l ≡ Some p → is_misplaced version h l ≡ false → has_ranges h.ranges ≡ true

@@ -23,7 +23,7 @@ or_true false = refl
 
 -- ---- the lines with words, with one more line
 
-filled_push : (ws : List (List (List ℕ))) (w : List (List ℕ)) → filter has_words (ws ++ w ∷ []) ≡ filter has_words ws ++ cond (has_words w) (w ∷ []) []
+pub filled_push : (ws : List (List (List ℕ))) (w : List (List ℕ)) → filter has_words (ws ++ w ∷ []) ≡ filter has_words ws ++ cond (has_words w) (w ∷ []) []
 filled_push ws w = filter-append has_words ws (w ∷ []) ∙ go (has_words w) refl
   where
     go : (b : Bool) → has_words w ≡ b → filter has_words ws ++ filter has_words (w ∷ []) ≡ filter has_words ws ++ cond (has_words w) (w ∷ []) []

@@ -10,3 +10,4 @@ pub mod IsFrame
 pub mod Rising
 pub mod Marked
 pub mod Groups
+pub mod GivesV1

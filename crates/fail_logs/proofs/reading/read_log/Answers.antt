@@ -5,6 +5,9 @@ use Rattle.text_parts.specs.Gives.{Gives}
 use Rattle.fail_logs.proofs.Judged.{log_first, log_none}
 use Rattle.fail_logs.proofs.reading.read_log.Goals as goal
 
+pub returns-clause-reading : goal.returns-clause-reading
+returns-clause-reading c = subst (λ (f : LogFrame). Gives (λ (log : LogFacts). log) c.read_framed.result (log_reading f c.args.bytes.now)) c.in_ok-frame.ensures.value c.read_framed.ensures.reading
+
 pub returns-clause-first : goal.returns-clause-first
 returns-clause-first c =
     let frame = log_frame c.args.parts.now c.args.design.now c.args.die.now in
