@@ -1,7 +1,8 @@
 -- The lines of a predicted log: their words, their forms, and the headers that they give.
-use Rattle.std.proofs.Common.{◌≡◌, ℕ, ◌<◌, Bool, true, false, ◌||◌, List, [], ◌∷◌, ◌++◌, map, Option, None, refl, sym, ap, ◌∙◌, append-nil, arith, unwrap_or}
+use Rattle.std.proofs.Common.{◌≡◌, ℕ, ◌<◌, Bool, true, false, ◌||◌, List, [], ◌∷◌, ◌++◌, length, map, Option, None, refl, sym, ap, ◌∙◌, append-nil, arith, unwrap_or}
 use Rattle.std.specs.Prelude.{codes, decimal, filter_map, slice_index_or}
 use Rattle.std.specs.List.{list_any}
+use Rattle.std.proofs.lemmas.Bool.{lt-ltb}
 use Rattle.scan_model.specs.declared.parts.Point.{Point}
 use Rattle.scan_model.specs.declared.parts.Point.TheVariants.{Output, Cell}
 use Rattle.scan_model.specs.declared.fault.Fault.{Fault}
@@ -106,7 +107,7 @@ module _ (t : ScanTest) (design die : List ℕ) (last : ℕ) (bits : List Bit) w
   truncated_by rest = none_of t is_truncated (not_truncated t) bits rest
 
   pub has_headers : (rest : List LogLine) → has_all (headers_in (header_forms design die last ++ rest)) ≡ true
-  has_headers rest = refl
+  has_headers rest = lt-ltb 0 (length (filter_map range_of (header_forms design die last ++ rest))) (omega arith)
 
   pub ranges_are : (rest : List LogLine) → filter_map range_of rest ≡ [] → last < 4294967296 → filter_map range_of (header_forms design die last ++ (map (fail_form t) bits ++ rest)) ≡ record { first = 0; last = last } ∷ []
   ranges_are rest none small =

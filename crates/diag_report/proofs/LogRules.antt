@@ -138,7 +138,7 @@ cell_accepted frame h p c s w i last number position there tested le all =
     broken : Option ℕ → Option ℕ → List Range → Bool → Option ℕ
     broken o q range headers = lowest ((54, not (is_some o && is_some q)) ∷ (58, not (ltb (unwrap_or q 0) (chain_length frame c))) ∷ (59, is_untested range o) ∷ (63, not headers) ∷ [])
 
-pub end_accepted : (frame : LogFrame) (h : Headers) (last : ℕ) → h.ranges ≡ whole last ∷ [] → has_all h ≡ true → lowest (later_rules frame h end_line) ≡ None
+pub end_accepted : (frame : LogFrame) (h : Headers) (last : ℕ) → h.ranges ≡ whole last ∷ [] → has_all h ≡ true → lowest (later_rules frame First h end_line) ≡ None
 end_accepted frame h last tested all = ap (λ (r : List Range). broken r (has_all h)) tested ∙ ap (λ (b : Bool). broken (whole last ∷ []) b) all
   where
     broken : List Range → Bool → Option ℕ
