@@ -11,3 +11,4 @@ pub mod Whole
 pub mod Judged
 pub mod CutGroups
 pub mod Marks
+pub mod Before

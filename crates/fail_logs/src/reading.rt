@@ -1,13 +1,15 @@
 //! A whole log.
 
-ghost use Rattle.std.specs.Prelude.{◌≡◌, ◌≤◌, ◌+◌, [], length, is_some, IfOk};
+ghost use Rattle.std.specs.Prelude.{◌≡◌, ◌≤◌, ◌+◌, [], length, is_some, true, IfOk};
 ghost use Rattle.scan_model.specs.Lines.{text_lines};
 ghost use Rattle.scan_model.specs.TextFaults.{HasNoFault, IsFirstFault, lowest, first_fault, refused_or};
 ghost use Rattle.scan_model.specs.LogText.{log_frame, log_breaks, log_reading, log_rule, log_fault, log_end_rules, later_lines};
+ghost use Rattle.scan_model.specs.LogTextV1.{is_version_1, log_v1};
 ghost use Rattle.scan_model.specs.Coverage.{FitsLog};
 ghost use Rattle.scan_model.specs.ScanTest.{points_of};
 ghost use Rattle.text_parts.specs.Gives.{Gives, IfFault};
 ghost use Rattle.text_parts.specs.Views.{nows};
+ghost use Rattle.fail_logs.specs.GivesV1.{GivesV1};
 ghost use Rattle.fail_logs.specs.Frames.{frame_view, places_view, IsSmall};
 ghost use Rattle.fail_logs.specs.IsFrame.{IsFrame};
 ghost use Rattle.fail_logs.specs.LineFacts.{facts_of, kept_facts};
@@ -95,7 +97,8 @@ fn read_framed(alloc: Global, frame: &Frame<'_>, bytes: &[u8]) -> Result<LogFact
     })
 }
 
-/// What a fail log of the design and the die stands for, or its first fault by rules 51 to 64.
+/// What a fail log of the design and the die stands for, or its first fault by rules 51 to 64. A log of version 1 is faulty
+/// where it was before version 2 came, and else lists and covers the same bits.
 pub fn read_log(
     alloc: Global,
     parts: &Parts,
@@ -105,6 +108,7 @@ pub fn read_log(
 ) -> Result<LogFacts, ReadFault>
     ensures reading { Gives (λ log. log) result (log_reading (log_frame parts.now design.now die.now) bytes.now) }
     ensures first { IfFault result (IsFirstFault (log_breaks (log_frame parts.now design.now die.now) (text_lines bytes.now)) (length (text_lines bytes.now) + 1)) }
+    ensures v1 { is_version_1 (text_lines bytes.now) ≡ true → GivesV1 result (log_v1 (log_frame parts.now design.now die.now) bytes.now) }
     ensures none { IfOk result (λ log. HasNoFault (log_breaks (log_frame parts.now design.now die.now) (text_lines bytes.now)) (length (text_lines bytes.now) + 1)) }
     ensures fits { IfOk result (FitsLog (length parts.now.patterns) (length (points_of parts.now))) }
 {
