@@ -23,7 +23,7 @@ pub use circuit::{Circuit, Driver, GateKind, MakeFault, Net, Pin, PinPlace};
 pub use digest::Digest;
 pub use expected::Expected;
 pub use fault::{BridgeKind, CellKind, Fault, Stuck};
-pub use logs::{Bit, BitClass, Counts, LogFacts, Range, Scored};
+pub use logs::{Bit, BitClass, Counts, CutGroup, LogFacts, LogForm, LogVersion, Range, Scored};
 pub use masks::{mark_patterns, pattern_mask};
 pub use pair_index::{PairPlace, nets_number};
 pub use parts::{Chain, Pair, Pairs, Parts, Pattern, PatternKind, Point};

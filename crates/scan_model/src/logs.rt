@@ -14,6 +14,27 @@ pub struct Range {
     pub last: u32,
 }
 
+/// Whose bits a log lists: those of a test's points, or those of the points that a compactor leaves.
+#[derive(Clone, Copy, Debug, PartialEq, Eq)]
+pub enum LogForm {
+    FailLog,
+    CompactLog,
+}
+
+/// The version of a log's form.
+#[derive(Clone, Copy, Debug, PartialEq, Eq)]
+pub enum LogVersion {
+    First,
+    Second,
+}
+
+/// The points that a tester can cut on their own: the outputs, or the cells of the chain at a place.
+#[derive(Clone, Copy, Debug, PartialEq, Eq)]
+pub enum CutGroup {
+    Outputs,
+    Chain(u32),
+}
+
 /// What a fail log says: the ranges of tested patterns, whether the log was cut short, the failing bits in bit order, and
 /// for each group that the tester cut on its own the points of the group in rising order.
 #[derive(Debug, Drop)]

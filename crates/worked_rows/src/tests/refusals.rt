@@ -7,7 +7,7 @@ use text_parts::{ReadFault, TextFault};
 // A text of a section, and the line and the rule of its first fault.
 type Row = (Section, &'static str, u64, u32);
 
-const ROWS: [Row; 27] = [
+const ROWS: [Row; 28] = [
     (
         Section::Netlist,
         "INPUT(c)\na = AND(b, c)\nb = OR(a, c)\n",
@@ -37,6 +37,12 @@ const ROWS: [Row; 27] = [
         "FAILLOG 1\ndie D1\ndesign d\ntested 0 0\nfail 0 out 99\nend\n",
         5,
         58,
+    ),
+    (
+        Section::Log,
+        "FAILLOG 1\ndie D1\ndesign d\ntested 0 0\nfail 0 out 22\ncut out\nend\n",
+        6,
+        53,
     ),
     (
         Section::Log,
@@ -129,4 +135,32 @@ fn an_output_of_a_shift(rt: HostRuntime) {
     let text = "FAILLOG 1\ndie D1\ndesign d\ntested 0 0\nfail 0 out G17\nend\n";
     let design = design_of_s27(rt.alloc(), "SHIFT 101\n");
     assert!(rt; is_refused_in(rt.alloc(), &design, (Section::Log, text, 5, 60)));
+}
+
+// Logs of version 2 for s27 with one pattern that captures, and the line and the rule of their first fault.
+const OF_VERSION_2: [(&str, u64, u32); 7] = [
+    ("fail 0 out G17\ntested 0 0\nend\n", 6, 64),
+    ("cut chain c0\ntested 0 0\nend\n", 6, 64),
+    ("cut chain c1\nend\n", 5, 58),
+    ("cut cell c0\nend\n", 5, 53),
+    ("cut out c0\nend\n", 5, 53),
+    ("tested 0 1\nend\n", 5, 57),
+    ("tested 0 0\ndie D1\nend\n", 6, 63),
+];
+
+fn is_refused_behind_the_headers(alloc: Global, row: (&str, u64, u32)) -> bool {
+    let (lines, line, rule) = row;
+    let design = design_of_s27(alloc, "CAPTURE 0000 000\n");
+    match format!(in alloc; "FAILLOG 2\ndie D1\ndesign d\ntested 0 0\n{lines}") {
+        Ok(text) => fault_of(alloc, &design, (Section::Log, text.as_str()))
+            == Some((Section::Log, TextFault { line, rule })),
+        Err(_) => false,
+    }
+}
+
+#[test]
+fn refused_logs_of_version_2(rt: HostRuntime) {
+    for row in OF_VERSION_2 {
+        assert!(rt; is_refused_behind_the_headers(rt.alloc(), row), "{}", row.0);
+    }
 }

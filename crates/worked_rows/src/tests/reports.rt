@@ -111,3 +111,65 @@ fn the_second_and_the_last_page_of_a_long_report(rt: HostRuntime) {
     let log = b"FAILLOG 1\ndie D1\ndesign d\ntested 0 0\nfail 0 out b240\nend\n";
     assert!(rt; has_its_pages(&report(&rt, rt.alloc(), design, log)));
 }
+
+// The candidates of a fail at output 22 of c17, over three patterns of which two are tested.
+const SEEN_TO_PASS: &str =
+    "candidates 4\ncandidate 1 fault 0 tfsf 1 tfsp 0 tpsf 1 stem 1 sa0\ncandidate 2 fault 11 tfsf 1 tfsp 0 tpsf 1 stem 10 sa1\ncandidate 3 fault 18 tfsf 1 tfsp 0 tpsf 1 stem 22 sa0\ncandidate 4 fault 22 tfsf 1 tfsp 0 tpsf 1 branch 3 to 10 2 sa0\n";
+
+// The same where the outputs are cut.
+const NOT_SEEN: &str =
+    "candidates 4\ncandidate 1 fault 0 tfsf 1 tfsp 0 tpsf 0 stem 1 sa0\ncandidate 2 fault 11 tfsf 1 tfsp 0 tpsf 0 stem 10 sa1\ncandidate 3 fault 18 tfsf 1 tfsp 0 tpsf 0 stem 22 sa0\ncandidate 4 fault 22 tfsf 1 tfsp 0 tpsf 0 branch 3 to 10 2 sa0\n";
+
+#[test]
+fn two_ranges_with_a_pattern_between(rt: HostRuntime) {
+    let design = design_of_c17(rt.alloc(), "CAPTURE 11111\nCAPTURE 11111\nCAPTURE 11111\n");
+    let log = b"FAILLOG 2\ndie D1\ndesign d\ntested 0 0\ntested 2 2\nfail 0 out 22\nend\n";
+    let answer = report(&rt, rt.alloc(), design, log);
+    assert!(rt; begin(&answer, (5, "failing 1\npassing 3\n"), (9, SEEN_TO_PASS)));
+}
+
+#[test]
+fn outputs_that_are_cut_on_their_own(rt: HostRuntime) {
+    let design = design_of_c17(rt.alloc(), "CAPTURE 11111\nCAPTURE 11111\nCAPTURE 11111\n");
+    let log = b"FAILLOG 2\ndie D1\ndesign d\ntested 0 0\ntested 2 2\nfail 0 out 22\ncut out\nend\n";
+    let answer = report(&rt, rt.alloc(), design, log);
+    assert!(rt; begin(&answer, (5, "failing 1\npassing 0\n"), (9, NOT_SEEN)));
+}
+
+// The places of the candidates of a fail at the output of s27 where its chain is cut.
+const BEHIND_A_CUT_CHAIN: [u32; 10] = [7, 11, 16, 19, 23, 24, 29, 37, 45, 53];
+
+fn has_candidates(alloc: Global, report: &Report, places: &[u32]) -> bool {
+    for (i, place) in places.iter().enumerate() {
+        let line = format!(in alloc;
+            "candidate {} fault {place} tfsf 1 tfsp 0 tpsf 0 ",
+            i as u64 + 1
+        );
+        match line {
+            Ok(line) => {
+                if !begins(report, i as u64 + 10, line.as_str()) {
+                    return false;
+                }
+            }
+            Err(_) => return false,
+        }
+    }
+    begins(report, 9, "candidates 10\n")
+}
+
+#[test]
+fn a_chain_that_is_cut_on_its_own(rt: HostRuntime) {
+    let design = design_of_s27(rt.alloc(), "CAPTURE 0000 000\n");
+    let log = b"FAILLOG 2\ndie D1\ndesign d\ntested 0 0\ncut chain c0\nfail 0 out G17\nend\n";
+    let answer = report(&rt, rt.alloc(), design, log);
+    assert!(rt;
+        begin(
+            &answer,
+            (5, "failing 1\npassing 0\n"),
+            (7, "conflicts 0\nmasked 0\n")
+        )
+    );
+    assert!(rt;
+        answer.is_ok_and(|report| has_candidates(rt.alloc(), &report, &BEHIND_A_CUT_CHAIN))
+    );
+}
