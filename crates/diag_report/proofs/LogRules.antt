@@ -1,15 +1,20 @@
 -- The rules of a log on its lines, one by one.
 use Rattle.std.proofs.Common.{◌≡◌, ℕ, suc, ◌+◌, ◌<◌, ◌≤◌, Bool, true, false, not, ◌&&◌, ◌||◌, cond, ltb, leb, is_some, List, [], ◌∷◌, ◌++◌, length, map, take, Option, Some, None, unwrap_or, refl, ap, ◌∙◌, arith}
 use Rattle.std.specs.Prelude.{option_map, slice_index_or}
-use Rattle.std.specs.List.{list_any}
 use Rattle.std.proofs.lemmas.Bool.{eq-eqb, ne_eqb}
 use Rattle.std.proofs.lemmas.Bool.Decides.{nat_tests}
 use Rattle.scan_model.specs.Lines.{has_refused_byte, line_at}
 use Rattle.scan_model.specs.Words.{words, has_words, number_of}
 use Rattle.scan_model.specs.TextFaults.{lowest, or_else, fault_from}
 use Rattle.scan_model.specs.ReportText.{spaced}
-use Rattle.scan_model.specs.LogText.{LogFrame, Headers, tested_line, out_line, cell_line, end_line, log_line, later_lines, headers_in, has_all, is_titled, is_closed, is_untested, has_output, chain_length, later_rules, rules_of_words, log_rules, log_end_rules, log_rule}
-use Rattle.diag_report.proofs.PlainWords.{IsLine, AreLines, none_refused, words_of_line, word_lines_back, later_back}
+use Rattle.scan_model.specs.declared.logs.Range.{Range}
+use Rattle.scan_model.specs.declared.logs.LogForm.{LogForm}
+use Rattle.scan_model.specs.declared.logs.LogForm.TheVariants.{FailLog}
+use Rattle.scan_model.specs.declared.logs.LogVersion.{LogVersion}
+use Rattle.scan_model.specs.declared.logs.LogVersion.TheVariants.{First}
+use Rattle.scan_model.specs.Coverage.{some_holds}
+use Rattle.scan_model.specs.LogText.{LogFrame, Headers, tested_line, out_line, cell_line, end_line, log_line, later_lines, headers_in, has_all, has_ranges, title_of, title_version, version_of, is_closed, is_untested, has_output, chain_length, later_rules, rules_of_words, log_rules, log_end_rules, log_rule}
+use Rattle.diag_report.proofs.PlainWords.{IsLine, AreLines, none_refused, words_of_line, later_back, title_back}
 use Rattle.diag_report.proofs.LogForms.{title_words}
 
 -- ---- a line among lines
@@ -34,66 +39,71 @@ inside : (before : List (List (List ℕ))) (ws : List (List ℕ)) (after : List 
 inside [] ws after = omega arith
 inside (x ∷ before) ws after = omega (arith, inside before ws after)
 
-rules_are : (frame : LogFrame) (titled closed refused : Bool) (h k : Headers) (v ws : List (List ℕ)) → titled ≡ true → closed ≡ false → refused ≡ false → h ≡ k → v ≡ ws → has_words ws ≡ true
-    → lowest ((51, refused) ∷ rules_of_words frame titled closed h v) ≡ lowest (later_rules frame k (log_line ws))
-rules_are frame titled closed refused h k v ws is_titled is_unclosed is_plain same_headers same_words some =
-    ap (λ (r : Bool). lowest ((51, r) ∷ rules_of_words frame titled closed h v)) is_plain ∙ ap (λ (b : Bool). lowest (rules_of_words frame b closed h v)) is_titled
-    ∙ ap (λ (b : Bool). lowest (rules_of_words frame true b h v)) is_unclosed ∙ ap (λ (x : Headers). lowest (rules_of_words frame true false x v)) same_headers
-    ∙ ap (λ (x : List (List ℕ)). lowest (rules_of_words frame true false k x)) same_words ∙ ap (λ (b : Bool). lowest (cond (not b) [] (later_rules frame k (log_line ws)))) some
+rules_are : (frame : LogFrame) (title : Option LogVersion) (closed refused : Bool) (h k : Headers) (v ws : List (List ℕ)) → title ≡ Some First → closed ≡ false → refused ≡ false → h ≡ k → v ≡ ws → has_words ws ≡ true
+    → lowest ((51, refused) ∷ rules_of_words frame title closed h v) ≡ lowest (later_rules frame First k (log_line frame.form First ws))
+rules_are frame title closed refused h k v ws is_titled is_unclosed is_plain same_headers same_words some =
+    ap (λ (r : Bool). lowest ((51, r) ∷ rules_of_words frame title closed h v)) is_plain ∙ ap (λ (o : Option LogVersion). lowest (rules_of_words frame o closed h v)) is_titled
+    ∙ ap (λ (b : Bool). lowest (rules_of_words frame (Some First) b h v)) is_unclosed ∙ ap (λ (x : Headers). lowest (rules_of_words frame (Some First) false x v)) same_headers
+    ∙ ap (λ (x : List (List ℕ)). lowest (rules_of_words frame (Some First) false k x)) same_words ∙ ap (λ (b : Bool). lowest (cond (not b) [] (later_rules frame First k (log_line frame.form First ws)))) some
 
-module _ (frame : LogFrame) (x : List (List ℕ)) (xs : List (List (List ℕ))) (ws : List (List ℕ)) (after : List (List (List ℕ))) (names : AreLines (x ∷ (xs ++ ws ∷ after))) where
+-- the rules at a line
+abbrev rules_at : LogFrame → List (List ℕ) → List ℕ → List (ℕ × Bool)
+rules_at frame before line = log_rules frame (title_of frame.form before) (is_closed (later_lines frame.form before)) (headers_in (later_lines frame.form before)) line
+
+module _ (frame : LogFrame) (x : List (List ℕ)) (xs : List (List (List ℕ))) (ws : List (List ℕ)) (after : List (List (List ℕ))) (names : AreLines (x ∷ (xs ++ ws ∷ after))) (first : version_of frame.form x ≡ First) where
   abbrev ls : List (List ℕ)
   ls = map spaced (x ∷ (xs ++ ws ∷ after))
 
   front_names : AreLines (x ∷ xs)
   front_names = front_lines (x ∷ xs) (ws ∷ after) names
 
-  titled : is_titled (map spaced (x ∷ xs)) ≡ true
-  titled = ap (list_any has_words) (word_lines_back (x ∷ xs) front_names) ∙ ap (λ (b : Bool). b || list_any has_words xs) front_names.0.0
-
   -- the rules of a later line that no closing line precedes
-  pub later_rule : is_closed (map log_line xs) ≡ false → log_rule frame ls (length (x ∷ xs)) ≡ lowest (later_rules frame (headers_in (map log_line xs)) (log_line ws))
+  pub later_rule : is_closed (map (log_line frame.form First) xs) ≡ false → log_rule frame ls (length (x ∷ xs)) ≡ lowest (later_rules frame First (headers_in (map (log_line frame.form First) xs)) (log_line frame.form First ws))
   later_rule unclosed =
       let own : IsLine ws = (back_lines (x ∷ xs) (ws ∷ after) names).0 in
       let at = inside (x ∷ xs) ws after in
-      let forms = later_back x xs front_names in
-      ap (λ (b : Bool). lowest (cond b (log_end_rules (is_titled ls) (is_closed (later_lines ls)))
-      (log_rules frame (is_titled (take (length (x ∷ xs)) ls)) (is_closed (later_lines (take (length (x ∷ xs)) ls))) (headers_in (later_lines (take (length (x ∷ xs)) ls))) (line_at ls (length (x ∷ xs))))))
+      let forms : later_lines frame.form (map spaced (x ∷ xs)) ≡ map (log_line frame.form First) xs = later_back frame.form x xs front_names ∙ ap (λ (v : LogVersion). map (log_line frame.form v) xs) first in
+      let titled : title_of frame.form (map spaced (x ∷ xs)) ≡ Some First = title_back frame.form x xs front_names ∙ ap Some first in
+      ap (λ (b : Bool). lowest (cond b (log_end_rules (is_some (title_of frame.form ls)) (is_closed (later_lines frame.form ls))) (rules_at frame (take (length (x ∷ xs)) ls) (line_at ls (length (x ∷ xs))))))
       (ne_eqb (length (x ∷ xs)) (length ls) (λ e. omega (arith, at, e)))
-      ∙ ap (λ (front : List (List ℕ)). lowest (log_rules frame (is_titled front) (is_closed (later_lines front)) (headers_in (later_lines front)) (line_at ls (length (x ∷ xs))))) (take_front (x ∷ xs) (ws ∷ after))
-      ∙ ap (λ (l : List ℕ). lowest (log_rules frame (is_titled (map spaced (x ∷ xs))) (is_closed (later_lines (map spaced (x ∷ xs)))) (headers_in (later_lines (map spaced (x ∷ xs)))) l)) (line_there (x ∷ xs) ws after)
-      ∙ rules_are frame _ _ _ _ (headers_in (map log_line xs)) _ ws titled (ap is_closed forms ∙ unclosed) (none_refused ws own.1) (ap headers_in forms) (words_of_line ws own) own.0
+      ∙ ap (λ (front : List (List ℕ)). lowest (rules_at frame front (line_at ls (length (x ∷ xs))))) (take_front (x ∷ xs) (ws ∷ after))
+      ∙ ap (λ (l : List ℕ). lowest (rules_at frame (map spaced (x ∷ xs)) l)) (line_there (x ∷ xs) ws after)
+      ∙ rules_are frame _ _ _ _ (headers_in (map (log_line frame.form First) xs)) _ ws titled (ap is_closed forms ∙ unclosed) (none_refused ws own.1) (ap headers_in forms) (words_of_line ws own) own.0
 
 -- the rules of the title
-title_are : (frame : LogFrame) (closed refused : Bool) (h : Headers) (v : List (List ℕ)) → refused ≡ false → v ≡ title_words → lowest ((51, refused) ∷ rules_of_words frame false closed h v) ≡ None
-title_are frame closed refused h v is_plain same =
-    ap (λ (r : Bool). lowest ((51, r) ∷ rules_of_words frame false closed h v)) is_plain ∙ ap (λ (x : List (List ℕ)). lowest (rules_of_words frame false closed h x)) same
+title_are : (frame : LogFrame) (closed refused : Bool) (h : Headers) (v : List (List ℕ)) → frame.form ≡ FailLog → refused ≡ false → v ≡ title_words → lowest ((51, refused) ∷ rules_of_words frame None closed h v) ≡ None
+title_are frame closed refused h v form is_plain same =
+    ap (λ (r : Bool). lowest ((51, r) ∷ rules_of_words frame None closed h v)) is_plain ∙ ap (λ (x : List (List ℕ)). lowest (rules_of_words frame None closed h x)) same
+    ∙ ap (λ (o : LogForm). lowest ((52, not (is_some (title_version o title_words))) ∷ [])) form
 
-pub title_rule : (frame : LogFrame) (after : List (List (List ℕ))) → AreLines (title_words ∷ after) → log_rule frame (map spaced (title_words ∷ after)) 0 ≡ None
-title_rule frame after names =
+pub title_rule : (frame : LogFrame) (after : List (List (List ℕ))) → frame.form ≡ FailLog → AreLines (title_words ∷ after) → log_rule frame (map spaced (title_words ∷ after)) 0 ≡ None
+title_rule frame after form names =
     let ls : List (List ℕ) = map spaced (title_words ∷ after) in
-    ap (λ (b : Bool). lowest (cond b (log_end_rules (is_titled ls) (is_closed (later_lines ls))) (log_rules frame (is_titled (take 0 ls)) (is_closed (later_lines (take 0 ls))) (headers_in (later_lines (take 0 ls))) (line_at ls 0))))
+    ap (λ (b : Bool). lowest (cond b (log_end_rules (is_some (title_of frame.form ls)) (is_closed (later_lines frame.form ls))) (rules_at frame (take 0 ls) (line_at ls 0))))
     (ne_eqb 0 (length ls) (λ e. absurd (omega (arith, e))))
-    ∙ title_are frame (is_closed (later_lines (take 0 ls))) (has_refused_byte (spaced title_words)) (headers_in (later_lines (take 0 ls))) (words (spaced title_words)) (none_refused title_words names.0.1) (words_of_line title_words names.0)
+    ∙ title_are frame (is_closed (later_lines frame.form (take 0 ls))) (has_refused_byte (spaced title_words)) (headers_in (later_lines frame.form (take 0 ls))) (words (spaced title_words)) form (none_refused title_words names.0.1) (words_of_line title_words names.0)
 
 -- the rules past the last line
-pub end_rule : (frame : LogFrame) (x : List (List ℕ)) (xs : List (List (List ℕ))) → AreLines (x ∷ xs) → is_closed (map log_line xs) ≡ true → log_rule frame (map spaced (x ∷ xs)) (length (map spaced (x ∷ xs))) ≡ None
+pub end_rule : (frame : LogFrame) (x : List (List ℕ)) (xs : List (List (List ℕ))) → AreLines (x ∷ xs) → is_closed (map (log_line frame.form (version_of frame.form x)) xs) ≡ true → log_rule frame (map spaced (x ∷ xs)) (length (map spaced (x ∷ xs))) ≡ None
 end_rule frame x xs names closed =
     let ls : List (List ℕ) = map spaced (x ∷ xs) in
     let n : ℕ = length ls in
-    let titled : is_titled ls ≡ true = ap (list_any has_words) (word_lines_back (x ∷ xs) names) ∙ ap (λ (b : Bool). b || list_any has_words xs) names.0.0 in
-    ap (λ (b : Bool). lowest (cond b (log_end_rules (is_titled ls) (is_closed (later_lines ls))) (log_rules frame (is_titled (take n ls)) (is_closed (later_lines (take n ls))) (headers_in (later_lines (take n ls))) (line_at ls n)))) (eq-eqb n n refl)
-    ∙ ap (λ (b : Bool). lowest (log_end_rules b (is_closed (later_lines ls)))) titled ∙ ap (λ (b : Bool). lowest (log_end_rules true b)) (ap is_closed (later_back x xs names) ∙ closed)
+    ap (λ (b : Bool). lowest (cond b (log_end_rules (is_some (title_of frame.form ls)) (is_closed (later_lines frame.form ls))) (rules_at frame (take n ls) (line_at ls n)))) (eq-eqb n n refl)
+    ∙ ap (λ (o : Option LogVersion). lowest (log_end_rules (is_some o) (is_closed (later_lines frame.form ls)))) (title_back frame.form x xs names) ∙ ap (λ (b : Bool). lowest (log_end_rules true b)) (ap is_closed (later_back frame.form x xs names) ∙ closed)
 
 -- ---- forms that break no rule
 
-pub tested_accepted : (frame : LogFrame) (a b : List ℕ) (last : ℕ) (h : Headers) → number_of a ≡ Some 0 → number_of b ≡ Some last → last < length frame.shifts → h.tested ≡ None → lowest (later_rules frame h (tested_line a b)) ≡ None
+-- the patterns up to the last
+abbrev pub whole : ℕ → Range
+whole last = record { first = 0; last = last }
+
+pub tested_accepted : (frame : LogFrame) (a b : List ℕ) (last : ℕ) (h : Headers) → number_of a ≡ Some 0 → number_of b ≡ Some last → last < length frame.shifts → h.ranges ≡ [] → lowest (later_rules frame First h (tested_line a b)) ≡ None
 tested_accepted frame a b last h is_a is_b few first =
-    ap (λ (o : Option ℕ). broken o (number_of b) h.tested) is_a ∙ ap (λ (o : Option ℕ). broken (Some 0) o h.tested) is_b ∙ ap (λ (r : Option (ℕ × ℕ)). broken (Some 0) (Some last) r) first
+    ap (λ (o : Option ℕ). broken o (number_of b) h.ranges) is_a ∙ ap (λ (o : Option ℕ). broken (Some 0) o h.ranges) is_b ∙ ap (λ (r : List Range). broken (Some 0) (Some last) r) first
     ∙ ap (λ (x : Bool). lowest ((57, x) ∷ [])) in_order
   where
-    broken : Option ℕ → Option ℕ → Option (ℕ × ℕ) → Option ℕ
-    broken o p range = lowest ((54, not (is_some o && is_some p)) ∷ (57, ltb (unwrap_or p 0) (unwrap_or o 0) || leb (length frame.shifts) (unwrap_or p 0)) ∷ (59, is_untested range None) ∷ (63, is_some range) ∷ [])
+    broken : Option ℕ → Option ℕ → List Range → Option ℕ
+    broken o p range = lowest ((54, not (is_some o && is_some p)) ∷ (57, ltb (unwrap_or p 0) (unwrap_or o 0) || leb (length frame.shifts) (unwrap_or p 0)) ∷ (59, is_untested range None) ∷ (63, has_ranges range) ∷ [])
 
     or_both : (x y : Bool) → x ≡ false → y ≡ false → (x || y) ≡ false
     or_both x y e f = rw (e, f) refl
@@ -101,37 +111,37 @@ tested_accepted frame a b last h is_a is_b few first =
     in_order : (ltb last 0 || leb (length frame.shifts) last) ≡ false
     in_order = or_both (ltb last 0) (leb (length frame.shifts) last) (grind (arith, nat_tests)) (grind (arith, nat_tests, few))
 
-in_range : (w last : ℕ) → w ≤ last → (ltb w 0 || ltb last w) ≡ false
+in_range : (w last : ℕ) → w ≤ last → not (some_holds (whole last ∷ []) w) ≡ false
 in_range w last le =
-    let low : ltb w 0 ≡ false = grind (arith, nat_tests) in
-    let high : ltb last w ≡ false = grind (arith, nat_tests, le) in
+    let low : leb 0 w ≡ true = grind (arith, nat_tests) in
+    let high : leb w last ≡ true = grind (arith, nat_tests, le) in
     rw (low, high) refl
 
-pub out_accepted : (frame : LogFrame) (h : Headers) (p n : List ℕ) (w last : ℕ) → number_of p ≡ Some w → has_output frame n ≡ true → h.tested ≡ Some (0, last) → w ≤ last → slice_index_or frame.shifts w false ≡ false → has_all h ≡ true
-    → lowest (later_rules frame h (out_line p n)) ≡ None
+pub out_accepted : (frame : LogFrame) (h : Headers) (p n : List ℕ) (w last : ℕ) → number_of p ≡ Some w → has_output frame n ≡ true → h.ranges ≡ whole last ∷ [] → w ≤ last → slice_index_or frame.shifts w false ≡ false → has_all h ≡ true
+    → lowest (later_rules frame First h (out_line p n)) ≡ None
 out_accepted frame h p n w last number there tested le captures all =
-    ap (λ (o : Option ℕ). broken o (has_output frame n) h.tested (has_all h)) number ∙ ap (λ (b : Bool). broken (Some w) b h.tested (has_all h)) there
-    ∙ ap (λ (r : Option (ℕ × ℕ)). broken (Some w) true r (has_all h)) tested ∙ ap (λ (b : Bool). broken (Some w) true (Some (0, last)) b) all
+    ap (λ (o : Option ℕ). broken o (has_output frame n) h.ranges (has_all h)) number ∙ ap (λ (b : Bool). broken (Some w) b h.ranges (has_all h)) there
+    ∙ ap (λ (r : List Range). broken (Some w) true r (has_all h)) tested ∙ ap (λ (b : Bool). broken (Some w) true (whole last ∷ []) b) all
     ∙ ap (λ (b : Bool). lowest ((59, b) ∷ (60, slice_index_or frame.shifts w false) ∷ [])) (in_range w last le) ∙ ap (λ (b : Bool). lowest ((60, b) ∷ [])) captures
   where
-    broken : Option ℕ → Bool → Option (ℕ × ℕ) → Bool → Option ℕ
+    broken : Option ℕ → Bool → List Range → Bool → Option ℕ
     broken o there range headers = lowest ((54, not (is_some o)) ∷ (58, not there) ∷ (59, is_untested range o) ∷ (60, slice_index_or frame.shifts (unwrap_or o 0) false) ∷ (63, not headers) ∷ [])
 
-pub cell_accepted : (frame : LogFrame) (h : Headers) (p c s : List ℕ) (w i last : ℕ) → number_of p ≡ Some w → number_of s ≡ Some i → i < chain_length frame c → h.tested ≡ Some (0, last) → w ≤ last → has_all h ≡ true
-    → lowest (later_rules frame h (cell_line p c s)) ≡ None
+pub cell_accepted : (frame : LogFrame) (h : Headers) (p c s : List ℕ) (w i last : ℕ) → number_of p ≡ Some w → number_of s ≡ Some i → i < chain_length frame c → h.ranges ≡ whole last ∷ [] → w ≤ last → has_all h ≡ true
+    → lowest (later_rules frame First h (cell_line p c s)) ≡ None
 cell_accepted frame h p c s w i last number position there tested le all =
     let short : ltb i (chain_length frame c) ≡ true = grind (arith, nat_tests, there) in
-    ap (λ (o : Option ℕ). broken o (number_of s) h.tested (has_all h)) number ∙ ap (λ (o : Option ℕ). broken (Some w) o h.tested (has_all h)) position
-    ∙ ap (λ (r : Option (ℕ × ℕ)). broken (Some w) (Some i) r (has_all h)) tested ∙ ap (λ (b : Bool). broken (Some w) (Some i) (Some (0, last)) b) all
-    ∙ ap (λ (b : Bool). lowest ((58, not b) ∷ (59, ltb w 0 || ltb last w) ∷ [])) short ∙ ap (λ (b : Bool). lowest ((59, b) ∷ [])) (in_range w last le)
+    ap (λ (o : Option ℕ). broken o (number_of s) h.ranges (has_all h)) number ∙ ap (λ (o : Option ℕ). broken (Some w) o h.ranges (has_all h)) position
+    ∙ ap (λ (r : List Range). broken (Some w) (Some i) r (has_all h)) tested ∙ ap (λ (b : Bool). broken (Some w) (Some i) (whole last ∷ []) b) all
+    ∙ ap (λ (b : Bool). lowest ((58, not b) ∷ (59, not (some_holds (whole last ∷ []) w)) ∷ [])) short ∙ ap (λ (b : Bool). lowest ((59, b) ∷ [])) (in_range w last le)
   where
-    broken : Option ℕ → Option ℕ → Option (ℕ × ℕ) → Bool → Option ℕ
+    broken : Option ℕ → Option ℕ → List Range → Bool → Option ℕ
     broken o q range headers = lowest ((54, not (is_some o && is_some q)) ∷ (58, not (ltb (unwrap_or q 0) (chain_length frame c))) ∷ (59, is_untested range o) ∷ (63, not headers) ∷ [])
 
-pub end_accepted : (frame : LogFrame) (h : Headers) (last : ℕ) → h.tested ≡ Some (0, last) → has_all h ≡ true → lowest (later_rules frame h end_line) ≡ None
-end_accepted frame h last tested all = ap (λ (r : Option (ℕ × ℕ)). broken r (has_all h)) tested ∙ ap (λ (b : Bool). broken (Some (0, last)) b) all
+pub end_accepted : (frame : LogFrame) (h : Headers) (last : ℕ) → h.ranges ≡ whole last ∷ [] → has_all h ≡ true → lowest (later_rules frame First h end_line) ≡ None
+end_accepted frame h last tested all = ap (λ (r : List Range). broken r (has_all h)) tested ∙ ap (λ (b : Bool). broken (whole last ∷ []) b) all
   where
-    broken : Option (ℕ × ℕ) → Bool → Option ℕ
+    broken : List Range → Bool → Option ℕ
     broken range headers = lowest ((59, is_untested range None) ∷ (63, not headers) ∷ [])
 
 -- ---- no fault from a line on

@@ -1,5 +1,5 @@
 -- Words of name bytes, the lines that they make, and how these are read back.
-use Rattle.std.proofs.Common.{◌≡◌, ℕ, ◌-◌, ◌<◌, Bool, true, false, not, ◌&&◌, ◌||◌, cond, eqb, leb, List, [], ◌∷◌, ◌++◌, length, map, take, refl, ap, ◌∙◌, append_assoc, inl, inr, arith}
+use Rattle.std.proofs.Common.{◌≡◌, ℕ, ◌-◌, ◌<◌, Bool, true, false, not, ◌&&◌, ◌||◌, cond, eqb, leb, List, [], ◌∷◌, ◌++◌, length, map, take, Some, refl, ap, ◌∙◌, append_assoc, inl, inr, arith}
 use Rattle.std.specs.Prelude.{All, filter}
 use Rattle.std.specs.List.{list_all, slice_split, AllByRecursion, position_or_len}
 use Rattle.std.specs.Str.Lines.{lines, lines_of_parts, strip_carriage_return}
@@ -12,7 +12,8 @@ use Rattle.std.proofs.lemmas.List.Splits.{slice_split_none, slice_split_at, leng
 use Rattle.std.proofs.lemmas.List.Sums.{position_or_len_is}
 use Rattle.scan_model.specs.Lines.{text_lines, is_blank, is_accepted, has_refused_byte, without_comment}
 use Rattle.scan_model.specs.Words.{words, word_lines, has_words, is_filled, is_name_byte, is_digit, is_letter, is_tag_byte, is_tag}
-use Rattle.scan_model.specs.LogText.{later_lines, log_line, without_first}
+use Rattle.scan_model.specs.declared.logs.LogForm.{LogForm}
+use Rattle.scan_model.specs.LogText.{later_lines, lines_after, filled_lines, first_version, title_of, version_of, log_line}
 use Rattle.scan_model.specs.ReportText.{spaced, line, joined}
 use Rattle.diag_report.specs.PredictedLog.{is_word_name}
 use Rattle.diag_report.proofs.Bools.{left_true, right_true, both_true}
@@ -128,11 +129,17 @@ all_have_words : (wss : List (List (List ℕ))) → AreLines wss → filter has_
 all_have_words [] names = refl
 all_have_words (ws ∷ wss) names = ap (λ (b : Bool). cond b (ws ∷ filter has_words wss) (filter has_words wss)) names.0.0 ∙ ap (λ (vss : List (List (List ℕ))). ws ∷ vss) (all_have_words wss names.1)
 
+-- the lines with words, by their words
+pub filled_back : (wss : List (List (List ℕ))) → AreLines wss → filled_lines (map spaced wss) ≡ wss
+filled_back wss names = ap (filter has_words) (word_lines_back wss names) ∙ all_have_words wss names
+
 -- the lines after the first, by their forms
-pub later_back : (ws : List (List ℕ)) (wss : List (List (List ℕ))) → AreLines (ws ∷ wss) → later_lines (map spaced (ws ∷ wss)) ≡ map log_line wss
-later_back ws wss names =
-    ap (λ (vss : List (List (List ℕ))). map log_line (without_first (filter has_words vss))) (word_lines_back (ws ∷ wss) names)
-    ∙ ap (λ (vss : List (List (List ℕ))). map log_line (without_first vss)) (all_have_words (ws ∷ wss) names)
+pub later_back : (form : LogForm) (ws : List (List ℕ)) (wss : List (List (List ℕ))) → AreLines (ws ∷ wss) → later_lines form (map spaced (ws ∷ wss)) ≡ map (log_line form (version_of form ws)) wss
+later_back form ws wss names = ap (lines_after form) (filled_back (ws ∷ wss) names)
+
+-- the version of the first
+pub title_back : (form : LogForm) (ws : List (List ℕ)) (wss : List (List (List ℕ))) → AreLines (ws ∷ wss) → title_of form (map spaced (ws ∷ wss)) ≡ Some (version_of form ws)
+title_back form ws wss names = ap (first_version form) (filled_back (ws ∷ wss) names)
 
 -- ---- tags
 

@@ -54,7 +54,12 @@ predicted_bits t f = filter (predicts_fail t f) (bits_of t)
 
 -- the complete log over all patterns with exactly these fails
 abbrev pub predicted_facts : ScanTest → Fault → LogFacts
-predicted_facts t f = record { first = 0; last = last_pattern t; truncated = false; fails = predicted_bits t f }
+predicted_facts t f = record {
+  ranges = record { first = 0; last = last_pattern t } ∷ [];
+  truncated = false;
+  fails = predicted_bits t f;
+  cuts = [];
+}
 
 abbrev pub own_counts : ScanTest → Fault → Counts
 own_counts t f = counts_of t (predicted_facts t f ∷ []) f

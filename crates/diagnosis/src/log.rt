@@ -78,7 +78,7 @@ impl ReadLog {
         self.text.as_slice()
     }
 
-    /// What the text stands for: the tested patterns and the failing bits.
+    /// What the text stands for: the tested patterns, the failing bits and the groups that are cut on their own.
     pub fn facts(&self) -> &LogFacts
         ensures { result.now ≡ self.now.facts }
     {

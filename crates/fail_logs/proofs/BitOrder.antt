@@ -15,7 +15,7 @@ use Rattle.fail_logs.specs.Rising.{IsRisingOf}
 use Rattle.fail_logs.proofs.Rising.{Rising, Below, has_number, rising_is_filter}
 
 -- a range in two parts
-range_split : (a n m t : ℕ) → n + m ≡ t → range_with_len a t ≡ range_with_len a n ++ range_with_len (a + n) m
+pub range_split : (a n m t : ℕ) → n + m ≡ t → range_with_len a t ≡ range_with_len a n ++ range_with_len (a + n) m
 range_split a zero m t e =
     let whole : t ≡ m = omega arith in
     let start : a + 0 ≡ a = omega arith in

@@ -14,14 +14,14 @@ use Rattle.text_parts.proofs.Judged.{judged_first, judged_none}
 module _ (frame : LogFrame) (bytes : List ℕ) (result : Result LogFacts ReadFault) (gives : Gives (λ log. log) result (log_reading frame bytes)) where
   pub log_first : IfFault result (IsFirstFault (log_breaks frame (text_lines bytes)) (length (text_lines bytes) + 1))
   log_first =
-      judged_first (λ (log : LogFacts). log) (log_of_lines frame (later_lines (text_lines bytes))) (log_fault frame bytes)
+      judged_first (λ (log : LogFacts). log) (log_of_lines frame (later_lines frame.form (text_lines bytes))) (log_fault frame bytes)
       (IsFirstFault (log_breaks frame (text_lines bytes)) (length (text_lines bytes) + 1))
       (is_first (log_rule frame (text_lines bytes)) (log_breaks frame (text_lines bytes)) (log_lowest frame (text_lines bytes)) (length (text_lines bytes) + 1))
       result gives
 
   pub log_none : IfOk result (λ log. HasNoFault (log_breaks frame (text_lines bytes)) (length (text_lines bytes) + 1))
   log_none =
-      judged_none (λ (log : LogFacts). log) (log_of_lines frame (later_lines (text_lines bytes))) (log_fault frame bytes)
+      judged_none (λ (log : LogFacts). log) (log_of_lines frame (later_lines frame.form (text_lines bytes))) (log_fault frame bytes)
       (HasNoFault (log_breaks frame (text_lines bytes)) (length (text_lines bytes) + 1))
       (has_none (log_rule frame (text_lines bytes)) (log_breaks frame (text_lines bytes)) (log_lowest frame (text_lines bytes)) (length (text_lines bytes) + 1))
       result gives

@@ -1,52 +1,60 @@
 -- The lines after the title, with one more line.
-use Rattle.std.proofs.Common.{◌≡◌, ℕ, Bool, true, false, ◌||◌, List, [], ◌∷◌, ◌++◌, map, Option, Some, None, refl, sym, ap, ◌∙◌, append-nil, append_assoc}
-use Rattle.std.specs.List.{list_any, filter, filter_map, slice_get}
+use Rattle.std.proofs.Common.{◌≡◌, ℕ, Bool, true, false, cond, ◌||◌, List, [], ◌∷◌, ◌++◌, Option, Some, None, refl, sym, ap, ◌∙◌, append-nil, append_assoc}
+use Rattle.std.specs.List.{list_any, filter, filter_map}
 use Rattle.std.specs.Option.{option_to_list}
+use Rattle.std.proofs.lemmas.List.{map_push}
 use Rattle.std.proofs.lemmas.List.Folds.{list_any-append}
-use Rattle.std.proofs.lemmas.List.Elements.{filter_map-append}
+use Rattle.std.proofs.lemmas.List.Elements.{filter-append, filter_map-append}
+use Rattle.scan_model.specs.declared.logs.LogForm.{LogForm}
 use Rattle.scan_model.specs.TextFaults.{or_else}
 use Rattle.scan_model.specs.Words.{has_words}
-use Rattle.scan_model.specs.LogText.{LogLine, Headers, die_line, design_line, tested_line, out_line, cell_line, end_line, truncated_line, other_line, LogFrame, log_line, is_end, is_truncated, is_die, is_design, range_of, headers_in, is_closed, without_first}
+use Rattle.scan_model.specs.LogText.{LogLine, Headers, die_line, design_line, tested_line, out_line, cell_line, cut_out_line, cut_chain_line, end_line, truncated_line, other_line, LogFrame, log_line, version_of, first_version, lines_after, is_end, is_truncated, is_die, is_design, is_entry, range_of, group_cut, headers_in, is_closed}
 use Rattle.fail_logs.specs.Kept.{with_line}
 use Rattle.fail_logs.specs.BitNumbers.{number_named, numbers_named}
-use Rattle.fail_logs.specs.Taken.{later_of, headers_after, closed_after, truncated_after, fails_after}
+use Rattle.fail_logs.specs.Taken.{title_after, later_by, later_of, headers_after, closed_after, truncated_after, fails_after, cuts_after}
 
 pub or_false : (b : Bool) → (b || false) ≡ b
 or_false true = refl
 or_false false = refl
 
-or_true : (b : Bool) → (b || true) ≡ true
+pub or_true : (b : Bool) → (b || true) ≡ true
 or_true true = refl
 or_true false = refl
 
--- the words of lines, with one more line's
-abbrev pub later : List (List (List ℕ)) → List LogLine
-later ws = map log_line (without_first (filter has_words ws))
+-- ---- the lines with words, with one more line
 
-filter_one : (ws : List (List (List ℕ))) (w : List (List ℕ)) → map log_line (filter has_words (ws ++ w ∷ [])) ≡ map log_line (filter has_words ws) ++ later_of true w
-filter_one [] w = go (has_words w) refl
+pub filled_push : (ws : List (List (List ℕ))) (w : List (List ℕ)) → filter has_words (ws ++ w ∷ []) ≡ filter has_words ws ++ cond (has_words w) (w ∷ []) []
+filled_push ws w = filter-append has_words ws (w ∷ []) ∙ go (has_words w) refl
   where
-    go : (b : Bool) → has_words w ≡ b → map log_line (filter has_words (w ∷ [])) ≡ later_of true w
+    go : (b : Bool) → has_words w ≡ b → filter has_words ws ++ filter has_words (w ∷ []) ≡ filter has_words ws ++ cond (has_words w) (w ∷ []) []
     go true e = rw e refl
     go false e = rw e refl
-filter_one (x ∷ xs) w = go (has_words x) refl (filter_one xs w)
-  where
-    go : (b : Bool) → has_words x ≡ b → map log_line (filter has_words (xs ++ w ∷ [])) ≡ map log_line (filter has_words xs) ++ later_of true w
-        → map log_line (filter has_words (x ∷ xs ++ w ∷ [])) ≡ map log_line (filter has_words (x ∷ xs)) ++ later_of true w
-    go true e h = rw e (ap (λ ls. log_line x ∷ ls) h)
-    go false e h = rw e h
 
-pub later_push : (ws : List (List (List ℕ))) (w : List (List ℕ)) → later (ws ++ w ∷ []) ≡ later ws ++ later_of (list_any has_words ws) w
-later_push [] w = go (has_words w) refl
-  where
-    go : (b : Bool) → has_words w ≡ b → later (w ∷ []) ≡ later_of false w
-    go true e = rw e refl
-    go false e = rw e refl
-later_push (x ∷ xs) w = go (has_words x) refl (later_push xs w)
-  where
-    go : (b : Bool) → has_words x ≡ b → later (xs ++ w ∷ []) ≡ later xs ++ later_of (list_any has_words xs) w → later (x ∷ xs ++ w ∷ []) ≡ later (x ∷ xs) ++ later_of (list_any has_words (x ∷ xs)) w
-    go true e h = rw e (filter_one xs w)
-    go false e h = rw e h
+one_more : (form : LogForm) (fs : List (List (List ℕ))) (w : List (List ℕ)) → lines_after form (fs ++ w ∷ []) ≡ lines_after form fs ++ later_by form (first_version form fs) w
+one_more form [] w = refl
+one_more form (x ∷ fs) w = map_push (log_line form (version_of form x)) fs w
+
+one_version : (form : LogForm) (fs : List (List (List ℕ))) (w : List (List ℕ)) → first_version form (fs ++ w ∷ []) ≡ or_else (first_version form fs) (Some (version_of form w))
+one_version form [] w = refl
+one_version form (x ∷ fs) w = refl
+
+module _ (form : LogForm) (ws : List (List (List ℕ))) (w : List (List ℕ)) where
+  abbrev filled : List (List (List ℕ))
+  filled = filter has_words ws
+
+  pub later_push : lines_after form (filter has_words (ws ++ w ∷ [])) ≡ lines_after form filled ++ later_of form (first_version form filled) w
+  later_push = ap (lines_after form) (filled_push ws w) ∙ go (has_words w) refl
+    where
+      go : (b : Bool) → has_words w ≡ b → lines_after form (filled ++ cond (has_words w) (w ∷ []) []) ≡ lines_after form filled ++ later_of form (first_version form filled) w
+      go true e = rw e (one_more form filled w)
+      go false e = rw (e, append-nil filled) (sym (append-nil (lines_after form filled)))
+
+  pub title_push : first_version form (filter has_words (ws ++ w ∷ [])) ≡ title_after form (first_version form filled) w
+  title_push = ap (first_version form) (filled_push ws w) ∙ go (has_words w) refl
+    where
+      go : (b : Bool) → has_words w ≡ b → first_version form (filled ++ cond (has_words w) (w ∷ []) []) ≡ title_after form (first_version form filled) w
+      go true e = rw e (one_version form filled w)
+      go false e = rw (e, append-nil filled) refl
 
 pub closed_push : (ls zs : List LogLine) → is_closed (ls ++ zs) ≡ closed_after (is_closed ls) zs
 closed_push ls zs = list_any-append is_end ls zs ∙ after (is_closed ls) zs
@@ -77,37 +85,49 @@ fails_push frame rows ls (z ∷ zs) =
     ap (numbers_named frame rows) (sym (append_assoc ls (z ∷ []) zs)) ∙ fails_push frame rows (ls ++ z ∷ []) zs
     ∙ ap (λ ns. fails_after frame rows ns zs) (filter_map-append (number_named frame rows) ls (z ∷ []) ∙ ap (λ ns. numbers_named frame rows ls ++ ns) (one_kept (number_named frame rows) z))
 
-get_first : {X : Type 0} (xs ys : List X) → slice_get (xs ++ ys) 0 ≡ or_else (slice_get xs 0) (slice_get ys 0)
-get_first [] ys = refl
-get_first (x ∷ xs) ys = refl
+pub cuts_push : (frame : LogFrame) (ls zs : List LogLine) → filter_map (group_cut frame) (ls ++ zs) ≡ cuts_after frame (filter_map (group_cut frame) ls) zs
+cuts_push frame ls [] = ap (filter_map (group_cut frame)) (append-nil ls)
+cuts_push frame ls (z ∷ zs) =
+    ap (filter_map (group_cut frame)) (sym (append_assoc ls (z ∷ []) zs)) ∙ cuts_push frame (ls ++ z ∷ []) zs
+    ∙ ap (λ gs. cuts_after frame gs zs) (filter_map-append (group_cut frame) ls (z ∷ []) ∙ ap (λ gs. filter_map (group_cut frame) ls ++ gs) (one_kept (group_cut frame) z))
 
--- each header, after one more line
+-- ---- each header, after one more line
+
 abbrev parts : List LogLine → LogLine → Headers
 parts ls z = record {
   die = list_any is_die ls || (is_die z || false);
   design = list_any is_design ls || (is_design z || false);
-  tested = or_else (slice_get (filter_map range_of ls) 0) (slice_get (filter_map range_of (z ∷ [])) 0);
+  ranges = filter_map range_of ls ++ filter_map range_of (z ∷ []);
+  begun = list_any is_entry ls || (is_entry z || false);
 }
 
 parts_are : (ls : List LogLine) (z : LogLine) → headers_in (ls ++ z ∷ []) ≡ parts ls z
-parts_are ls z = rw (list_any-append is_die ls (z ∷ []), list_any-append is_design ls (z ∷ []), filter_map-append range_of ls (z ∷ []), get_first (filter_map range_of ls) (filter_map range_of (z ∷ []))) refl
+parts_are ls z = rw (list_any-append is_die ls (z ∷ []), list_any-append is_design ls (z ∷ []), filter_map-append range_of ls (z ∷ []), list_any-append is_entry ls (z ∷ [])) refl
 
-or_none : {X : Type 0} (o : Option X) → or_else o None ≡ o
-or_none None = refl
-or_none (Some x) = refl
+-- where a line adds at most that fail and cut lines began
+abbrev with_nothing : Headers → Bool → Headers
+with_nothing h begins = record { die = h.die || false; design = h.design || false; ranges = h.ranges ++ []; begun = h.begun || begins }
 
-same_headers : (h : Headers) → record { die = h.die || false; design = h.design || false; tested = or_else h.tested None } ≡ h
-same_headers h = rw (or_false h.die, or_false h.design, or_none h.tested) refl
+abbrev with_begun : Headers → Bool → Headers
+with_begun h begins = record { die = h.die; design = h.design; ranges = h.ranges; begun = begins }
+
+begins : (h : Headers) → with_nothing h true ≡ with_begun h true
+begins h = rw (or_false h.die, or_false h.design, append-nil h.ranges, or_true h.begun) refl
+
+stays : (h : Headers) → with_nothing h false ≡ h
+stays h = rw (or_false h.die, or_false h.design, append-nil h.ranges, or_false h.begun) refl
 
 headers_one : (ls : List LogLine) (z : LogLine) → parts ls z ≡ with_line (headers_in ls) z
-headers_one ls (die_line w) = rw (or_true (list_any is_die ls), or_false (list_any is_design ls), or_none (slice_get (filter_map range_of ls) 0)) refl
-headers_one ls (design_line w) = rw (or_false (list_any is_die ls), or_true (list_any is_design ls), or_none (slice_get (filter_map range_of ls) 0)) refl
-headers_one ls (tested_line a b) = rw (or_false (list_any is_die ls), or_false (list_any is_design ls)) refl
-headers_one ls (out_line p n) = same_headers (headers_in ls)
-headers_one ls (cell_line p c w) = same_headers (headers_in ls)
-headers_one ls end_line = same_headers (headers_in ls)
-headers_one ls truncated_line = same_headers (headers_in ls)
-headers_one ls other_line = same_headers (headers_in ls)
+headers_one ls (die_line w) = rw (or_true (list_any is_die ls), or_false (list_any is_design ls), append-nil (filter_map range_of ls), or_false (list_any is_entry ls)) refl
+headers_one ls (design_line w) = rw (or_false (list_any is_die ls), or_true (list_any is_design ls), append-nil (filter_map range_of ls), or_false (list_any is_entry ls)) refl
+headers_one ls (tested_line a b) = rw (or_false (list_any is_die ls), or_false (list_any is_design ls), or_false (list_any is_entry ls)) refl
+headers_one ls (out_line p n) = begins (headers_in ls)
+headers_one ls (cell_line p c w) = begins (headers_in ls)
+headers_one ls cut_out_line = begins (headers_in ls)
+headers_one ls (cut_chain_line w) = begins (headers_in ls)
+headers_one ls end_line = stays (headers_in ls)
+headers_one ls truncated_line = stays (headers_in ls)
+headers_one ls other_line = stays (headers_in ls)
 
 pub headers_push : (ls zs : List LogLine) → headers_in (ls ++ zs) ≡ headers_after (headers_in ls) zs
 headers_push ls [] = ap headers_in (append-nil ls)

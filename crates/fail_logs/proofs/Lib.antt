@@ -9,3 +9,6 @@ pub mod TestFrame
 pub mod Accepted
 pub mod Whole
 pub mod Judged
+pub mod CutGroups
+pub mod Marks
+pub mod Before

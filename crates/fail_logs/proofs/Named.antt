@@ -12,13 +12,13 @@ use Rattle.std.proofs.lemmas.List.Sums.{passes_at_first, fails_before_first}
 use Rattle.std.proofs.lemmas.Map.Keys.{apart_from_distinct}
 use Rattle.scan_model.specs.declared.parts.Point.{Point}
 use Rattle.scan_model.specs.declared.parts.Point.TheVariants.{Output, Cell}
-use Rattle.scan_model.specs.LogText.{LogFrame, LogLine, die_line, design_line, tested_line, out_line, cell_line, end_line, truncated_line, other_line, pattern_named, is_nowhere, names_point, is_listed, number}
+use Rattle.scan_model.specs.LogText.{LogFrame, LogLine, die_line, design_line, tested_line, out_line, cell_line, cut_out_line, cut_chain_line, end_line, truncated_line, other_line, pattern_named, is_nowhere, names_point, is_listed, number}
 use Rattle.fail_logs.specs.BitNumbers.{place_in, point_named, number_named, numbers_named}
 use Rattle.fail_logs.specs.IsFrame.{IsFrame, IsPointIn, point_in}
 use Rattle.fail_logs.proofs.Rising.{has_number}
 use Rattle.fail_logs.proofs.Later.{or_false}
 
-found_by_any : {X : Type 0} (p : X → Bool) (xs : List X) → list_any p xs ≡ true → position_or_len p xs < length xs
+pub found_by_any : {X : Type 0} (p : X → Bool) (xs : List X) → list_any p xs ≡ true → position_or_len p xs < length xs
 found_by_any p xs some =
     let at = Any-from_list_any p xs some in
     elim (cases_lt (position_or_len p xs) (length xs)) [
@@ -47,6 +47,10 @@ name_at ns w j differ found lt =
 
 pub within : (xs : List ℕ) (q i : ℕ) → i < slice_index xs q → q < length xs
 within xs q i lt = elim (cases_lt q (length xs)) [ inl h ↦ h | inr past ↦ absurd (omega (arith, get_or_past xs q 0 past)) ]
+
+pub turned : (a b : Bool) → a ≡ not b → b ≡ not a
+turned a true e = sym (ap not e)
+turned a false e = sym (ap not e)
 
 pub holds : (b : Bool) → not b ≡ false → b ≡ true
 holds true e = refl
@@ -99,6 +103,8 @@ module _ (frame : LogFrame) (rows : List (List ℕ)) (sound : IsFrame frame rows
   point_named-is (die_line w) p k some somewhere lt = absurd cc
   point_named-is (design_line w) p k some somewhere lt = absurd cc
   point_named-is (tested_line a b) p k some somewhere lt = absurd cc
+  point_named-is cut_out_line p k some somewhere lt = absurd cc
+  point_named-is (cut_chain_line w) p k some somewhere lt = absurd cc
   point_named-is end_line p k some somewhere lt = absurd cc
   point_named-is truncated_line p k some somewhere lt = absurd cc
   point_named-is other_line p k some somewhere lt = absurd cc
@@ -109,6 +115,8 @@ module _ (frame : LogFrame) (rows : List (List ℕ)) (sound : IsFrame frame rows
   point_named-below (die_line w) p some somewhere = absurd cc
   point_named-below (design_line w) p some somewhere = absurd cc
   point_named-below (tested_line a b) p some somewhere = absurd cc
+  point_named-below cut_out_line p some somewhere = absurd cc
+  point_named-below (cut_chain_line w) p some somewhere = absurd cc
   point_named-below end_line p some somewhere = absurd cc
   point_named-below truncated_line p some somewhere = absurd cc
   point_named-below other_line p some somewhere = absurd cc

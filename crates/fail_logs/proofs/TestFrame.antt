@@ -99,6 +99,7 @@ module _ (t : ScanTest) where
     points = All-weaker (IsPoint t) (IsPointIn (log_frame t design die)) (point_in_frame design die) (points_of t) (points_are_points t);
     points_differ = λ j k. points_differ t j k (Output 0);
     few_outputs = omega (arith, length-map t.netlist.outputs (name_of t), few_outputs few);
+    few_chains = omega (arith, length-map t.chains (λ h. h.name), sound.chains.few);
     few_points = few;
     few_patterns = omega (arith, length-map t.patterns is_shift, sound.patterns.few);
   }

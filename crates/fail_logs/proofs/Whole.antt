@@ -1,112 +1,140 @@
 -- A whole log, from what its lines say.
-use Rattle.std.proofs.Common.{◌≡◌, ℕ, ◌+◌, ◌*◌, ◌/◌, ◌%◌, ◌<◌, ◌≤◌, Bool, List, [], ◌∷◌, length, map, get_or, Option, Some, None, unwrap_or, Ok, refl, sym, ap, ◌∙◌, arith}
-use Rattle.std.specs.Prelude.{All, filter, filter_map, slice_get}
-use Rattle.std.specs.List.{list_any, range_with_len}
-use Rattle.std.proofs.Math.Nat.{mul-le-mul_right, le-div_iff_mul-le, div-lt_iff_lt-mul, mod-lt}
-use Rattle.std.proofs.lemmas.List.Elements.{All-weaker, All-map}
+use Rattle.std.proofs.Common.{◌≡◌, ℕ, ◌+◌, ◌*◌, ◌/◌, ◌%◌, ◌<◌, ◌≤◌, Bool, true, eqb, List, [], ◌∷◌, length, map, get_or, Option, Some, None, Ok, refl, sym, subst, ap, ◌∙◌, arith}
+use Rattle.std.specs.Prelude.{All, filter, filter_map, flat_map}
+use Rattle.std.specs.List.{range_with_len}
+use Rattle.std.proofs.Math.Nat.{mul-le-mul_right, div-lt_iff_lt-mul}
+use Rattle.std.proofs.lemmas.Bool.{eqb-true}
+use Rattle.std.proofs.lemmas.Nat.{div-mul-add}
+use Rattle.std.proofs.lemmas.List.FromFn.{length-range_with_len, get_or-range_with_len}
+use Rattle.std.proofs.lemmas.List.Elements.{All-nil, All-append, All-map, All-filter, All-weaker, filter_passes}
+use Rattle.std.proofs.lemmas.List.Folds.{Any-from_list_any}
 use Rattle.scan_model.specs.declared.logs.Bit.{Bit}
+use Rattle.scan_model.specs.declared.logs.Range.{Range}
+use Rattle.scan_model.specs.declared.logs.CutGroup.{CutGroup}
 use Rattle.scan_model.specs.declared.logs.LogFacts.{LogFacts}
-use Rattle.scan_model.specs.Coverage.{bit_of, FitsLog}
+use Rattle.scan_model.specs.Coverage.{bit_of, some_holds, FitsLog}
 use Rattle.scan_model.specs.Lines.{text_lines}
 use Rattle.scan_model.specs.TextFaults.{refused_or}
-use Rattle.scan_model.specs.LogText.{LogFrame, LogLine, log_fault, log_reading, log_of_lines, later_lines, bits_listed, points_listed, is_listed, is_truncated, range_of}
-use Rattle.fail_logs.specs.BitNumbers.{bit_numbered, numbers_named}
+use Rattle.scan_model.specs.LogText.{LogFrame, LogLine, log_fault, log_reading, log_of_lines, later_lines, bits_listed, points_listed, is_listed, range_of, group_cut, group_points, is_in_group, each_once}
+use Rattle.fail_logs.specs.BitNumbers.{numbers_named}
+use Rattle.fail_logs.specs.Groups.{IsGroupIn}
 use Rattle.fail_logs.specs.Rising.{IsBitsOf}
 use Rattle.fail_logs.specs.LineFacts.{LineFacts, facts_of}
 use Rattle.fail_logs.specs.IsFrame.{IsFrame, point_in}
 use Rattle.fail_logs.proofs.Rising.{has_number}
 use Rattle.fail_logs.proofs.Named.{is_listed-is}
-use Rattle.fail_logs.proofs.BitOrder.{bits_are, filter-agree, flat_map-agree, All-rising}
-use Rattle.fail_logs.proofs.Accepted.{IsFaultless, IsInRange, faultless}
+use Rattle.fail_logs.proofs.BitOrder.{bits_are, filter-agree, flat_map-agree}
+use Rattle.fail_logs.proofs.Accepted.{IsFaultless, IsTested, faultless, held_below, groups_in}
 
 -- a reading that went well
-was_read : {X : Type 0} (fault : Option (ℕ × ℕ)) (x y : X) → refused_or fault x ≡ Ok y → (fault ≡ None) × (x ≡ y)
+pub was_read : {X : Type 0} (fault : Option (ℕ × ℕ)) (x y : X) → refused_or fault x ≡ Ok y → (fault ≡ None) × (x ≡ y)
 was_read None x y e = (refl, cc)
 was_read (Some f) x y e = absurd cc
 
-first_is : (rs : List (ℕ × ℕ)) (r d : ℕ × ℕ) → slice_get rs 0 ≡ Some r → get_or rs 0 d ≡ r
-first_is [] r d e = absurd cc
-first_is (x ∷ rs) r d e = cc
+All-flat_map : {X Y : Type 0} (P : Y → Type 0) (f : X → List Y) → ((x : X) → All P (f x)) → (xs : List X) → All P (flat_map f xs)
+All-flat_map P f each [] = All-nil P
+All-flat_map P f each (x ∷ xs) = All-append P (f x) (flat_map f xs) (each x) (All-flat_map P f each xs)
 
--- a number in the range is below that of the first bit past so many patterns
-number_below : (frame : LogFrame) (r : ℕ × ℕ) (patterns : ℕ) → r.1 < patterns → (x : ℕ) → IsInRange frame r x → x < patterns * length frame.points
-number_below frame r patterns lt x is =
-    let n : ℕ = length frame.points in
-    let last : r.1 + 1 ≤ patterns = omega arith in
-    let more : (r.1 + 1) * n ≤ patterns * n = mul-le-mul_right n last in
-    omega (arith, is.1)
+range_below : (n : ℕ) → All (λ k. k < n) (range_with_len 0 n)
+range_below n i d lt =
+    let within : i < n = omega (arith, length-range_with_len 0 n, lt) in
+    rw (get_or-range_with_len 0 n i d within) (omega (arith, within))
 
-bit_in_range : (frame : LogFrame) (r : ℕ × ℕ) (x : ℕ) → IsInRange frame r x → (r.0 ≤ x / length frame.points) × (x / length frame.points ≤ r.1) × (x % length frame.points < length frame.points)
-bit_in_range frame r x is =
-    let n : ℕ = length frame.points in
-    let some : 0 < n = positive n (r.1 + 1) x is.1 in
-    let low : r.0 ≤ x / n = (le-div_iff_mul-le some).1 is.0 in
-    let high : x / n < r.1 + 1 = (div-lt_iff_lt-mul some).1 is.1 in
-    (low, omega arith, mod-lt x some)
-  where
-    positive : (n m x : ℕ) → x < m * n → 0 < n
-    positive n m x lt = grind (arith, lt)
+-- what holds of each number holds of one that is among them
+of_named : (P : ℕ → Type 0) (ns : List ℕ) (n : ℕ) → has_number ns n ≡ true → All P ns → P n
+of_named P ns n has all =
+    let at = Any-from_list_any (λ x. eqb x n) ns has in
+    subst P (at.3 ∙ eqb-true at.1 n at.4) (all at.0 at.1 at.2)
 
-module _ (frame : LogFrame) (rows : List (List ℕ)) (sound : IsFrame frame rows) where
-  listed : (ls : List LogLine) (r : ℕ × ℕ) (bits : List Bit) → IsFaultless frame rows ls r → IsBitsOf (length frame.points) (numbers_named frame rows ls) bits → bits ≡ bits_listed frame ls
-  listed ls r bits is of =
+module _ (frame : LogFrame) (rows : List (List ℕ)) (sound : IsFrame frame rows) (ls : List LogLine) (is : IsFaultless frame rows ls) where
+  abbrev ranges : List Range
+  ranges = filter_map range_of ls
+
+  -- a number of a tested bit is below that of the first bit past so many patterns
+  number_below : (patterns : ℕ) → length frame.shifts ≤ patterns → (x : ℕ) → IsTested frame ranges x → x < patterns * length frame.points
+  number_below patterns few x tested =
+      let n : ℕ = length frame.points in
+      let low : x / n < length frame.shifts = held_below ranges (length frame.shifts) (x / n) is.ranges tested.1 in
+      let lt : x < length frame.shifts * n = (div-lt_iff_lt-mul tested.0).0 low in
+      let more : length frame.shifts * n ≤ patterns * n = mul-le-mul_right n few in
+      omega (arith, lt, more)
+
+  pub below : (patterns : ℕ) → length frame.shifts ≤ patterns → All (λ x. x < patterns * length frame.points) (numbers_named frame rows ls)
+  below patterns few = All-weaker (IsTested frame ranges) (λ x. x < patterns * length frame.points) (number_below patterns few) (numbers_named frame rows ls) is.fails
+
+  pub listed : (bits : List Bit) → IsBitsOf (length frame.points) (numbers_named frame rows ls) bits → bits ≡ bits_listed frame ls
+  listed bits of =
       let points : ℕ = length frame.points in
       let patterns : ℕ = length frame.shifts in
       let numbers : List ℕ = numbers_named frame rows ls in
-      let below : All (λ x. x < patterns * points) numbers = All-weaker (IsInRange frame r) (λ x. x < patterns * points) (number_below frame r patterns is.good.1) numbers is.fails in
       let one : (p : ℕ) → map (bit_of p) (filter (λ k. has_number numbers (p * points + k)) (range_with_len 0 points)) ≡ points_listed frame ls p = λ p.
       ap (map (bit_of p)) (filter-agree (λ k. has_number numbers (p * points + k)) (λ k. is_listed frame ls p (point_in frame k)) 0 points (λ k low high. sym (is_listed-is frame rows sound p k (omega arith) ls is.somewhere))) in
-      of.2 ∙ bits_are points patterns numbers of.0 of.1 below
+      of.2 ∙ bits_are points patterns numbers of.0 of.1 (below patterns (omega arith))
       ∙ flat_map-agree (λ p. map (bit_of p) (filter (λ k. has_number numbers (p * points + k)) (range_with_len 0 points))) (points_listed frame ls) (range_with_len 0 patterns) one
 
-  module _ (bytes : List ℕ) (facts : LineFacts) (read : refused_or (log_fault frame bytes) (facts_of frame rows (later_lines (text_lines bytes))) ≡ Ok facts) where
-    no_fault : log_fault frame bytes ≡ None
-    no_fault = (was_read (log_fault frame bytes) (facts_of frame rows (later_lines (text_lines bytes))) facts read).0
+  -- ---- what it stands for lies within the patterns and the points
 
-    facts_are : facts_of frame rows (later_lines (text_lines bytes)) ≡ facts
-    facts_are = (was_read (log_fault frame bytes) (facts_of frame rows (later_lines (text_lines bytes))) facts read).1
+  abbrev Lies : Bit → Type 0
+  Lies b = (some_holds ranges b.pattern ≡ true) × (b.point < length frame.points)
 
-    numbers_are : numbers_named frame rows (later_lines (text_lines bytes)) ≡ facts.fails
-    numbers_are = ap (λ f. f.fails) facts_are
+  listed_lies : (p k : ℕ) → k < length frame.points → is_listed frame ls p (point_in frame k) ≡ true → Lies (bit_of p k)
+  listed_lies p k below listed =
+      let n : ℕ = length frame.points in
+      let named : has_number (numbers_named frame rows ls) (p * n + k) ≡ true = sym (is_listed-is frame rows sound p k below ls is.somewhere) ∙ listed in
+      let inside : IsTested frame ranges (p * n + k) = of_named (IsTested frame ranges) (numbers_named frame rows ls) (p * n + k) named is.fails in
+      (ap (some_holds ranges) (sym (div-mul-add p n k below)) ∙ inside.1, below)
 
-    all : (r : ℕ × ℕ) × IsFaultless frame rows (later_lines (text_lines bytes)) r
-    all = faultless frame rows bytes sound no_fault
+  points_lie : (p : ℕ) → All Lies (points_listed frame ls p)
+  points_lie p =
+      let n : ℕ = length frame.points in
+      let listed : ℕ → Bool = λ k. is_listed frame ls p (point_in frame k) in
+      let Below : ℕ → Type 0 = λ k. k < n in
+      let below : All Below (filter listed (range_with_len 0 n)) = All-filter listed Below (range_with_len 0 n) (range_below n) in
+      let passes = filter_passes listed (range_with_len 0 n) in
+      All-map Lies (bit_of p) (filter listed (range_with_len 0 n)) (λ i d lt. listed_lies p (get_or (filter listed (range_with_len 0 n)) i d) (below i d lt) (passes i d lt))
 
-    fails_below : (patterns : ℕ) → length frame.shifts ≤ patterns → All (λ x. x < patterns * length frame.points) facts.fails
-    fails_below patterns few =
-        let lt : all.0.1 < patterns = omega (arith, all.1.good.1) in
-        rw (← numbers_are) (All-weaker (IsInRange frame all.0) (λ x. x < patterns * length frame.points) (number_below frame all.0 patterns lt) (numbers_named frame rows (later_lines (text_lines bytes))) all.1.fails)
+  groups_lie : (gs : List CutGroup) → All (λ group. All (λ k. k < length frame.points) group) (map (group_points frame.points) gs)
+  groups_lie gs = All-map (λ group. All (λ k. k < length frame.points) group) (group_points frame.points) gs
+      (λ i d lt. All-filter (λ k. is_in_group (get_or gs i d) (point_in frame k)) (λ k. k < length frame.points) (range_with_len 0 (length frame.points)) (range_below (length frame.points)))
 
-    pub numbers_fit : All (λ x. x < 4096 * length frame.points) facts.fails
-    numbers_fit = fails_below 4096 sound.few_patterns
+  pub lines_fit : FitsLog (length frame.shifts) (length frame.points) (log_of_lines frame ls)
+  lines_fit = record {
+    ranges = is.ranges;
+    fails = All-flat_map Lies (points_listed frame ls) points_lie (range_with_len 0 (length frame.shifts));
+    cuts = groups_lie (each_once (filter_map (group_cut frame) ls));
+  }
 
-    range_is : unwrap_or facts.tested (0, 0) ≡ all.0
-    range_is = ap (λ o. unwrap_or {T = ℕ × ℕ} o (0, 0)) (sym (ap (λ f. f.tested) facts_are) ∙ all.1.range)
+module _ (frame : LogFrame) (rows : List (List ℕ)) (sound : IsFrame frame rows) (bytes : List ℕ) (facts : LineFacts) (read : refused_or (log_fault frame bytes) (facts_of frame rows (later_lines frame.form (text_lines bytes))) ≡ Ok facts) where
+  abbrev lines : List LogLine
+  lines = later_lines frame.form (text_lines bytes)
 
-    -- the log that the facts make
-    abbrev log_made : List Bit → LogFacts
-    log_made bits = record { first = (unwrap_or {T = ℕ × ℕ} facts.tested (0, 0)).0; last = (unwrap_or {T = ℕ × ℕ} facts.tested (0, 0)).1; truncated = facts.truncated; fails = bits }
+  no_fault : log_fault frame bytes ≡ None
+  no_fault = (was_read (log_fault frame bytes) (facts_of frame rows lines) facts read).0
 
-    pub reading_is : (bits : List Bit) → IsBitsOf (length frame.points) facts.fails bits → log_reading frame bytes ≡ Ok (log_made bits)
-    reading_is bits of =
-        let ls : List LogLine = later_lines (text_lines bytes) in
-        let range : get_or (filter_map range_of ls) 0 (0, 0) ≡ unwrap_or facts.tested (0, 0) = first_is (filter_map range_of ls) all.0 (0, 0) all.1.range ∙ sym range_is in
-        let cut : list_any is_truncated ls ≡ facts.truncated = ap (λ f. f.truncated) facts_are in
-        let fails : bits_listed frame ls ≡ bits = sym (listed ls all.0 bits all.1 (rw (← numbers_are) at of)) in
-        ap (λ f. refused_or f (log_of_lines frame ls)) no_fault ∙ ap Ok (made range cut fails)
-      where
-        made : get_or (filter_map range_of (later_lines (text_lines bytes))) 0 (0, 0) ≡ unwrap_or facts.tested (0, 0) → list_any is_truncated (later_lines (text_lines bytes)) ≡ facts.truncated → bits_listed frame (later_lines (text_lines bytes)) ≡ bits
-            → log_of_lines frame (later_lines (text_lines bytes)) ≡ log_made bits
-        made range cut fails =
-            ap (λ (q : ℕ × ℕ). let log : LogFacts = record { first = q.0; last = q.1; truncated = list_any is_truncated (later_lines (text_lines bytes)); fails = bits_listed frame (later_lines (text_lines bytes)) } in log) range
-            ∙ ap (λ (b : Bool). let log : LogFacts = record { first = (unwrap_or {T = ℕ × ℕ} facts.tested (0, 0)).0; last = (unwrap_or {T = ℕ × ℕ} facts.tested (0, 0)).1; truncated = b; fails = bits_listed frame (later_lines (text_lines bytes)) } in log) cut
-            ∙ ap log_made fails
+  facts_are : facts_of frame rows lines ≡ facts
+  facts_are = (was_read (log_fault frame bytes) (facts_of frame rows lines) facts read).1
 
-    pub reading_fits : (bits : List Bit) → IsBitsOf (length frame.points) facts.fails bits → FitsLog (length frame.shifts) (length frame.points) (log_made bits)
-    reading_fits bits of =
-        let r : ℕ × ℕ = all.0 in
-        let n : ℕ = length frame.points in
-        let inside : All (IsInRange frame r) of.0 = All-rising (IsInRange frame r) facts.fails of.0 of.1 (rw (numbers_are) at all.1.fails) in
-        let P : Bit → Type 0 = λ b. (r.0 ≤ b.pattern) × (b.pattern ≤ r.1) × (b.point < n) in
-        let each : All P (map (bit_numbered n) of.0) = All-map P (bit_numbered n) of.0 (All-weaker (IsInRange frame r) (λ x. P (bit_numbered n x)) (bit_in_range frame r) of.0 inside) in
-        rw (range_is, of.2) (record { range = all.1.good; fails = each })
+  all : IsFaultless frame rows lines
+  all = faultless frame rows bytes sound no_fault
+
+  pub numbers_fit : All (λ x. x < 4096 * length frame.points) facts.fails
+  numbers_fit = subst (λ (f : LineFacts). All (λ x. x < 4096 * length frame.points) f.fails) facts_are (below frame rows sound lines all 4096 sound.few_patterns)
+
+  pub groups_fit : All (IsGroupIn (length frame.chains)) facts.cuts
+  groups_fit = subst (λ (f : LineFacts). All (IsGroupIn (length frame.chains)) f.cuts) facts_are (groups_in frame lines all.somewhere)
+
+  -- the log that the facts make
+  abbrev made : LineFacts → List Bit → LogFacts
+  made f bits = record { ranges = f.ranges; truncated = f.truncated; fails = bits; cuts = map (group_points frame.points) (each_once f.cuts) }
+
+  module _ (bits : List Bit) (of : IsBitsOf (length frame.points) facts.fails bits) where
+    log_is : log_of_lines frame lines ≡ made facts bits
+    log_is =
+        let of_lines : IsBitsOf (length frame.points) (numbers_named frame rows lines) bits = subst (λ (f : LineFacts). IsBitsOf (length frame.points) f.fails bits) (sym facts_are) of in
+        ap (λ f. made f (bits_listed frame lines)) facts_are ∙ ap (made facts) (sym (listed frame rows sound lines all bits of_lines))
+
+    pub reading_is : log_reading frame bytes ≡ Ok (made facts bits)
+    reading_is = ap (λ f. refused_or f (log_of_lines frame lines)) no_fault ∙ ap Ok log_is
+
+    pub reading_fits : FitsLog (length frame.shifts) (length frame.points) (made facts bits)
+    reading_fits = subst (FitsLog (length frame.shifts) (length frame.points)) log_is (lines_fit frame rows sound lines all)

@@ -23,5 +23,6 @@ pub record IsFrame (frame : LogFrame) (rows : List (List ℕ)) : Type 0 where
   pub points : All (IsPointIn frame) frame.points
   pub points_differ : (j k : ℕ) → j < length frame.points → k < length frame.points → point_in frame j ≡ point_in frame k → j ≡ k
   pub few_outputs : length frame.outputs ≤ 131072
+  pub few_chains : length frame.chains ≤ 256
   pub few_points : length frame.points ≤ 131072
   pub few_patterns : length frame.shifts ≤ 4096

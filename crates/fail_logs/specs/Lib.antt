@@ -8,3 +8,6 @@ pub mod LineFacts
 pub mod Places
 pub mod IsFrame
 pub mod Rising
+pub mod Marked
+pub mod Groups
+pub mod GivesV1

@@ -1,22 +1,26 @@
--- What the later lines of a log say: the range of the first `tested` line, whether a line is `truncated`, and the
--- numbers of the bits that fail lines name.
-use Rattle.std.specs.Prelude.{ℕ, Bool, List, Option, filter_map, slice_get}
+-- What the later lines of a log say: the tested ranges, whether a line is `truncated`, the numbers of the bits that fail lines
+-- name, and the groups that cut lines name.
+use Rattle.std.specs.Prelude.{ℕ, Bool, List, filter_map}
 use Rattle.std.specs.List.{list_any}
-use Rattle.scan_model.specs.LogText.{LogFrame, LogLine, range_of, is_truncated}
+use Rattle.scan_model.specs.declared.logs.Range.{Range}
+use Rattle.scan_model.specs.declared.logs.CutGroup.{CutGroup}
+use Rattle.scan_model.specs.LogText.{LogFrame, LogLine, range_of, is_truncated, group_cut}
 use Rattle.fail_logs.specs.BitNumbers.{numbers_named}
 use Rattle.fail_logs.specs.declared.kept.Kept.{Kept}
 
 pub record LineFacts : Type 0 where
-  pub tested : Option (ℕ × ℕ)
+  pub ranges : List Range
   pub truncated : Bool
   pub fails : List ℕ
+  pub cuts : List CutGroup
 
 abbrev pub facts_of : LogFrame → List (List ℕ) → List LogLine → LineFacts
 facts_of frame rows ls = record {
-  tested = slice_get (filter_map range_of ls) 0;
+  ranges = filter_map range_of ls;
   truncated = list_any is_truncated ls;
   fails = numbers_named frame rows ls;
+  cuts = filter_map (group_cut frame) ls;
 }
 
 abbrev pub kept_facts : Kept → LineFacts
-kept_facts kept = record { tested = kept.headers.tested; truncated = kept.truncated; fails = kept.fails.items }
+kept_facts kept = record { ranges = kept.headers.tested; truncated = kept.truncated; fails = kept.fails.items; cuts = kept.cuts.items }

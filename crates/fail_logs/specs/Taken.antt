@@ -1,17 +1,29 @@
 -- What is kept after one more line, by its words.
-use Rattle.std.specs.Prelude.{ℕ, ◌≡◌, ◌||◌, ◌&&◌, if◌then◌else◌, Bool, List, [], ◌∷◌, ◌++◌, option_to_list}
+use Rattle.std.specs.Prelude.{ℕ, ◌≡◌, ◌||◌, if◌then◌else◌, Bool, List, [], ◌∷◌, ◌++◌, Option, Some, None, filter_map, option_to_list}
 use Rattle.std.specs.List.{list_any}
 use Rattle.scan_model.specs.Words.{has_words}
 use Rattle.scan_model.specs.LogText as model
-use Rattle.scan_model.specs.LogText.{LogFrame, log_line, is_end, is_truncated, is_titled, is_closed, headers_in, later_lines}
+use Rattle.scan_model.specs.TextFaults.{or_else}
+use Rattle.scan_model.specs.declared.logs.LogForm.{LogForm}
+use Rattle.scan_model.specs.declared.logs.LogVersion.{LogVersion}
+use Rattle.scan_model.specs.declared.logs.CutGroup.{CutGroup}
+use Rattle.scan_model.specs.LogText.{LogFrame, log_line, version_of, is_end, is_truncated, group_cut, title_of, is_closed, headers_in, later_lines}
 use Rattle.fail_logs.specs.Frames.{headers_view}
 use Rattle.fail_logs.specs.BitNumbers.{number_named, numbers_named}
 use Rattle.fail_logs.specs.Kept.{with_line}
 use Rattle.fail_logs.specs.declared.kept.Kept.{Kept}
 
--- the later line that these words are, after a title or not
-abbrev pub later_of : Bool → List (List ℕ) → List model.LogLine
-later_of titled ws = if has_words ws && titled then log_line ws ∷ [] else []
+-- the version after these words
+abbrev pub title_after : LogForm → Option LogVersion → List (List ℕ) → Option LogVersion
+title_after form title ws = if has_words ws then or_else title (Some (version_of form ws)) else title
+
+-- the later line that these words are, by the version that a title named
+abbrev pub later_by : LogForm → Option LogVersion → List (List ℕ) → List model.LogLine
+later_by form None ws = []
+later_by form (Some version) ws = log_line form version ws ∷ []
+
+abbrev pub later_of : LogForm → Option LogVersion → List (List ℕ) → List model.LogLine
+later_of form title ws = if has_words ws then later_by form title ws else []
 
 abbrev pub headers_after : model.Headers → List model.LogLine → model.Headers
 headers_after h [] = h
@@ -29,25 +41,32 @@ abbrev pub fails_after : LogFrame → List (List ℕ) → List ℕ → List mode
 fails_after frame rows ns [] = ns
 fails_after frame rows ns (l ∷ ls) = fails_after frame rows (ns ++ option_to_list (number_named frame rows l)) ls
 
+abbrev pub cuts_after : LogFrame → List CutGroup → List model.LogLine → List CutGroup
+cuts_after frame gs [] = gs
+cuts_after frame gs (l ∷ ls) = cuts_after frame (gs ++ option_to_list (group_cut frame l)) ls
+
 pub record Takes (frame : LogFrame) (rows : List (List ℕ)) (old new : Kept) (ws : List (List ℕ)) : Type 0 where
-  pub titled : new.titled ≡ (old.titled || has_words ws)
-  pub closed : new.closed ≡ closed_after old.closed (later_of old.titled ws)
-  pub truncated : new.truncated ≡ truncated_after old.truncated (later_of old.titled ws)
-  pub headers : headers_view new.headers ≡ headers_after (headers_view old.headers) (later_of old.titled ws)
-  pub fails : new.fails.items ≡ fails_after frame rows old.fails.items (later_of old.titled ws)
+  pub title : new.title ≡ title_after frame.form old.title ws
+  pub closed : new.closed ≡ closed_after old.closed (later_of frame.form old.title ws)
+  pub truncated : new.truncated ≡ truncated_after old.truncated (later_of frame.form old.title ws)
+  pub headers : headers_view new.headers ≡ headers_after (headers_view old.headers) (later_of frame.form old.title ws)
+  pub fails : new.fails.items ≡ fails_after frame rows old.fails.items (later_of frame.form old.title ws)
+  pub cuts : new.cuts.items ≡ cuts_after frame old.cuts.items (later_of frame.form old.title ws)
 
 -- what is kept after this later line
 pub record Adds (frame : LogFrame) (rows : List (List ℕ)) (old new : Kept) (l : model.LogLine) : Type 0 where
-  pub titled : new.titled ≡ old.titled
+  pub title : new.title ≡ old.title
   pub closed : new.closed ≡ is_end l
   pub truncated : new.truncated ≡ (old.truncated || is_truncated l)
   pub headers : headers_view new.headers ≡ with_line (headers_view old.headers) l
   pub fails : new.fails.items ≡ old.fails.items ++ option_to_list (number_named frame rows l)
+  pub cuts : new.cuts.items ≡ old.cuts.items ++ option_to_list (group_cut frame l)
 
 -- what is kept after these lines
 pub record IsAfter (frame : LogFrame) (rows : List (List ℕ)) (kept : Kept) (before : List (List ℕ)) : Type 0 where
-  pub titled : kept.titled ≡ is_titled before
-  pub closed : kept.closed ≡ is_closed (later_lines before)
-  pub truncated : kept.truncated ≡ list_any is_truncated (later_lines before)
-  pub headers : headers_view kept.headers ≡ headers_in (later_lines before)
-  pub fails : kept.fails.items ≡ numbers_named frame rows (later_lines before)
+  pub title : kept.title ≡ title_of frame.form before
+  pub closed : kept.closed ≡ is_closed (later_lines frame.form before)
+  pub truncated : kept.truncated ≡ list_any is_truncated (later_lines frame.form before)
+  pub headers : headers_view kept.headers ≡ headers_in (later_lines frame.form before)
+  pub fails : kept.fails.items ≡ numbers_named frame rows (later_lines frame.form before)
+  pub cuts : kept.cuts.items ≡ filter_map (group_cut frame) (later_lines frame.form before)

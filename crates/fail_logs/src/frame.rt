@@ -8,15 +8,16 @@ ghost use Rattle.fail_logs.specs.Places.{places_in};
 ghost use Rattle.fail_logs.specs.IsFrame.{IsFrame};
 
 use crate::tables::{cell_places, chain_lengths, chain_names, output_names, shift_marks};
-use scan_model::{Parts, Point};
+use scan_model::{LogForm, Parts, Point};
 use std::alloc::{AllocError, Global};
 use text_parts::Names;
 
-/// The names of the outputs and the chains, the chains' lengths, for each chain a row with the place of each of its
+/// The form of the log, the names of the outputs and the chains, the chains' lengths, for each chain a row with the place of each of its
 /// cells among the points, the points in test order, of each pattern whether it only shifts, and the names of the
 /// design and the die.
 #[derive(Drop)]
 pub struct Frame<'a> {
+    pub form: LogForm,
     pub outputs: Names<'a>,
     pub chains: Names<'a>,
     pub lengths: Vec<usize>,
@@ -65,6 +66,7 @@ impl<'a> Frame<'a> {
         let (outputs, chains) = names_of(alloc, parts)?;
         let (lengths, places) = rows_of(alloc, parts)?;
         Ok(Frame {
+            form: LogForm::FailLog,
             outputs,
             chains,
             lengths,

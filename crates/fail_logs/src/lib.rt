@@ -3,6 +3,7 @@
 
 mod bits;
 mod frame;
+mod groups;
 mod kept;
 mod line;
 mod look_up;
@@ -10,5 +11,6 @@ mod number;
 mod reading;
 mod rules;
 mod tables;
+mod tested;
 
 pub use reading::read_log;

@@ -2,12 +2,13 @@
 
 ghost use Rattle.std.specs.Prelude.{◌≡◌, ◌≤◌, length, slice_index};
 ghost use Rattle.fail_logs.specs.LogViews.{line_view};
-ghost use Rattle.fail_logs.specs.Frames.{frame_view, places_view};
+ghost use Rattle.fail_logs.specs.Frames.{frame_view, places_view, IsSmall};
 ghost use Rattle.fail_logs.specs.BitNumbers.{place_in};
 
 use crate::frame::Frame;
 use crate::line::LogLine;
 use crate::number::is_number;
+use scan_model::CutGroup;
 use text_parts::number_of;
 
 // The length of the chain at a place.
@@ -33,18 +34,19 @@ fn point_at(frame: &Frame<'_>, chain: usize, pos: u32) -> u32
     }
 }
 
-/// What a line names, with each word read and looked up once: its pattern, its point, whether a word is no number where
-/// a number must stand, and whether a fail line's output or cell is nowhere.
+/// What a line names, with each word read and looked up once: its pattern, its point, the group that it cuts, whether a word
+/// is no number where a number must stand, and whether a fail line's output or cell, or a cut line's chain, is nowhere.
 #[derive(Clone, Copy)]
 pub struct Named {
     pub pattern: Option<u32>,
     pub point: u32,
+    pub cut: Option<CutGroup>,
     pub numberless: bool,
     pub nowhere: bool,
 }
 
 impl Named {
-    ghost use Rattle.scan_model.specs.LogText.{out_line, cell_line};
+    ghost use Rattle.scan_model.specs.LogText.{out_line, cell_line, cut_chain_line};
     ghost use Rattle.fail_logs.specs.NamedBy.{IsNamedBy};
 
     // What a fail line of an output names.
@@ -57,6 +59,7 @@ impl Named {
         Named {
             pattern,
             point: place.unwrap_or(frame.outputs.len()) as u32,
+            cut: None,
             numberless: pattern.is_none(),
             nowhere: place.is_none(),
         }
@@ -73,14 +76,31 @@ impl Named {
         Named {
             pattern,
             point: point_at(frame, chain, pos),
+            cut: None,
             numberless: !(pattern.is_some() && position.is_some()),
             nowhere: !((pos as usize) < length_at(frame, chain)),
         }
     }
 
+    // What a line that cuts a chain names.
+    fn of_cut(frame: &Frame<'_>, chain: &[u8]) -> Self
+        requires { length frame.now.chains ≤ 256 }
+        ensures { IsNamedBy (frame_view frame.now) (places_view frame.now) (cut_chain_line chain.now) result }
+    {
+        let place = frame.chains.place(chain);
+        let chain = place.unwrap_or(frame.chains.len()) as u32;
+        Named {
+            pattern: None,
+            point: 0,
+            cut: Some(CutGroup::Chain(chain)),
+            numberless: false,
+            nowhere: place.is_none(),
+        }
+    }
+
     /// What a line names.
     pub fn of_line(frame: &Frame<'_>, line: LogLine<'_>) -> Self
-        requires { length frame.now.outputs ≤ 131072 }
+        requires { IsSmall frame.now }
         ensures { IsNamedBy (frame_view frame.now) (places_view frame.now) (line_view line.entry) result }
     {
         match line {
@@ -89,12 +109,22 @@ impl Named {
             LogLine::Tested(a, b) => Named {
                 pattern: None,
                 point: 0,
+                cut: None,
                 numberless: !(is_number(a) && is_number(b)),
                 nowhere: false,
             },
+            LogLine::CutOutputs => Named {
+                pattern: None,
+                point: 0,
+                cut: Some(CutGroup::Outputs),
+                numberless: false,
+                nowhere: false,
+            },
+            LogLine::CutChain(chain) => Named::of_cut(frame, chain),
             _ => Named {
                 pattern: None,
                 point: 0,
+                cut: None,
                 numberless: false,
                 nowhere: false,
             },

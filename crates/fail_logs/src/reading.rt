@@ -1,30 +1,34 @@
 //! A whole log.
 
-ghost use Rattle.std.specs.Prelude.{◌≡◌, ◌≤◌, ◌+◌, [], length, IfOk};
+ghost use Rattle.std.specs.Prelude.{◌≡◌, ◌≤◌, ◌+◌, [], length, is_some, true, IfOk};
 ghost use Rattle.scan_model.specs.Lines.{text_lines};
 ghost use Rattle.scan_model.specs.TextFaults.{HasNoFault, IsFirstFault, lowest, first_fault, refused_or};
 ghost use Rattle.scan_model.specs.LogText.{log_frame, log_breaks, log_reading, log_rule, log_fault, log_end_rules, later_lines};
+ghost use Rattle.scan_model.specs.LogTextV1.{is_version_1, log_v1};
 ghost use Rattle.scan_model.specs.Coverage.{FitsLog};
 ghost use Rattle.scan_model.specs.ScanTest.{points_of};
 ghost use Rattle.text_parts.specs.Gives.{Gives, IfFault};
 ghost use Rattle.text_parts.specs.Views.{nows};
-ghost use Rattle.fail_logs.specs.Frames.{frame_view, places_view};
+ghost use Rattle.fail_logs.specs.GivesV1.{GivesV1};
+ghost use Rattle.fail_logs.specs.Frames.{frame_view, places_view, IsSmall};
 ghost use Rattle.fail_logs.specs.IsFrame.{IsFrame};
 ghost use Rattle.fail_logs.specs.LineFacts.{facts_of, kept_facts};
 ghost use Rattle.fail_logs.specs.Taken.{IsAfter};
 
 use crate::bits::bits_in_order;
 use crate::frame::Frame;
+use crate::groups::cut_points;
 use crate::kept::Kept;
+use crate::rules::Headers;
 use scan_model::{LogFacts, Parts};
 use std::alloc::Global;
 use text_parts::{ReadFault, TextFault, lines_of};
 
 // The lowest rule that is broken at the end of a log.
 fn end_rule(kept: &Kept) -> Option<u32>
-    ensures { result ≡ lowest (log_end_rules kept.now.titled kept.now.closed) }
+    ensures { result ≡ lowest (log_end_rules (is_some kept.now.title) kept.now.closed) }
 {
-    if !kept.titled {
+    if kept.title.is_none() {
         return Some(52);
     }
     if !kept.closed {
@@ -40,10 +44,9 @@ fn take_lines(
     kept: &mut Kept,
     texts: &[&[u8]],
 ) -> Result<(), ReadFault>
-    requires outputs { length frame.now.outputs ≤ 131072 }
-    requires points { length frame.now.points.now ≤ 131072 }
+    requires small { IsSmall frame.now }
     requires after { IsAfter (frame_view frame.now) (places_view frame.now) kept.old [] }
-    ensures { Gives (λ done. kept_facts kept.new) result (refused_or (first_fault (log_rule (frame_view frame.now) (nows texts.now)) (length (nows texts.now) + 1)) (facts_of (frame_view frame.now) (places_view frame.now) (later_lines (nows texts.now)))) }
+    ensures { Gives (λ done. kept_facts kept.new) result (refused_or (first_fault (log_rule (frame_view frame.now) (nows texts.now)) (length (nows texts.now) + 1)) (facts_of (frame_view frame.now) (places_view frame.now) (later_lines frame.now.form (nows texts.now)))) }
 {
     let mut words = Vec::new(alloc);
     for (i, text) in texts.iter().enumerate() {
@@ -61,9 +64,8 @@ fn take_lines(
 
 // What the lines of a log say, or its first fault.
 fn read_lines(alloc: Global, frame: &Frame<'_>, bytes: &[u8]) -> Result<Kept, ReadFault>
-    requires outputs { length frame.now.outputs ≤ 131072 }
-    requires points { length frame.now.points.now ≤ 131072 }
-    ensures { Gives kept_facts result (refused_or (log_fault (frame_view frame.now) bytes.now) (facts_of (frame_view frame.now) (places_view frame.now) (later_lines (text_lines bytes.now)))) }
+    requires small { IsSmall frame.now }
+    ensures { Gives kept_facts result (refused_or (log_fault (frame_view frame.now) bytes.now) (facts_of (frame_view frame.now) (places_view frame.now) (later_lines frame.now.form (text_lines bytes.now)))) }
 {
     let texts = lines_of(alloc, bytes)?;
     let mut kept = Kept::new(alloc);
@@ -80,21 +82,23 @@ fn read_framed(alloc: Global, frame: &Frame<'_>, bytes: &[u8]) -> Result<LogFact
     let kept = read_lines(alloc, frame, bytes)?;
     let Kept {
         truncated,
-        headers,
+        headers: Headers { tested, .. },
         fails,
+        cuts,
         ..
     } = kept;
-    let (first, last) = headers.tested.unwrap_or((0, 0));
     let fails = bits_in_order(alloc, frame.points.len(), fails)?;
+    let cuts = cut_points(alloc, frame.chains.len(), frame.points, &cuts)?;
     Ok(LogFacts {
-        first,
-        last,
+        ranges: tested.into_rows(),
         truncated,
         fails,
+        cuts,
     })
 }
 
-/// What a fail log of the design and the die stands for, or its first fault by rules 51 to 63.
+/// What a fail log of the design and the die stands for, or its first fault by rules 51 to 64. A log of version 1 is faulty
+/// where it was before version 2 came, and else lists and covers the same bits.
 pub fn read_log(
     alloc: Global,
     parts: &Parts,
@@ -104,6 +108,7 @@ pub fn read_log(
 ) -> Result<LogFacts, ReadFault>
     ensures reading { Gives (λ log. log) result (log_reading (log_frame parts.now design.now die.now) bytes.now) }
     ensures first { IfFault result (IsFirstFault (log_breaks (log_frame parts.now design.now die.now) (text_lines bytes.now)) (length (text_lines bytes.now) + 1)) }
+    ensures v1 { is_version_1 (text_lines bytes.now) ≡ true → GivesV1 result (log_v1 (log_frame parts.now design.now die.now) bytes.now) }
     ensures none { IfOk result (λ log. HasNoFault (log_breaks (log_frame parts.now design.now die.now) (text_lines bytes.now)) (length (text_lines bytes.now) + 1)) }
     ensures fits { IfOk result (FitsLog (length parts.now.patterns) (length (points_of parts.now))) }
 {

@@ -1,15 +1,17 @@
 //! A cabinet of database files.
 ghost use Rattle.std.specs.Prelude.{◌≡◌, None};
 
+use crate::form::{StoreForm, form_of, make_ready};
 use crate::keeper::{SqliteKeeper, fault_of};
-use crate::tables::{make_tables, next_number};
+use crate::tables::next_number;
 use desk_outside::{Cabinet, KeepFault};
 use sqlite::{Connection, Error, File, FileStore};
 use std::alloc::Global;
 use std::rt::HostRuntime;
 
-/// Opens a database file for each keeper that it is asked for, and makes its tables where they aren't there. It counts its
-/// faults and tells nothing of the files.
+/// Opens a database file for each keeper that it is asked for, makes its tables where they aren't
+/// there, and takes the logs of an older program over. A later program's file is a fault, and is
+/// left as it is. It counts its faults and tells nothing of the files.
 #[derive(Drop)]
 pub struct SqliteCabinet {
     rt: HostRuntime,
@@ -25,21 +27,29 @@ impl SqliteCabinet {
     }
 }
 
-// Makes the tables where they aren't there, and answers the number of the next deed.
-fn prepared(conn: &mut Connection<FileStore<File>>) -> Result<i64, Error> {
-    make_tables(conn)?;
-    next_number(conn)
+// Makes an open store ready, and answers the number of its next deed, or nothing where it is a
+// later program's.
+fn prepared(conn: &mut Connection<FileStore<File>>) -> Result<Option<i64>, Error> {
+    let form = form_of(conn)?;
+    if form == StoreForm::Later {
+        return Ok(None);
+    }
+    make_ready(conn, form)?;
+    Ok(Some(next_number(conn)?))
 }
 
 // An open database with its tables, and the number of its next deed.
-fn opened(rt: &HostRuntime, name: &str) -> Result<(Connection<FileStore<File>>, i64), Error> {
-    let mut conn = Connection::open(rt, name)?;
+fn opened(rt: &HostRuntime, name: &str) -> Result<(Connection<FileStore<File>>, i64), KeepFault> {
+    let mut conn = match Connection::open(rt, name) {
+        Ok(conn) => conn,
+        Err(error) => return Err(fault_of(&error)),
+    };
+    // Where it isn't made ready it is let go and not closed, since that would write into its file
+    // what is beside it.
     match prepared(&mut conn) {
-        Ok(next) => Ok((conn, next)),
-        Err(error) => {
-            let _ = conn.close();
-            Err(error)
-        }
+        Ok(Some(next)) => Ok((conn, next)),
+        Ok(None) => Err(KeepFault::Failed),
+        Err(error) => Err(fault_of(&error)),
     }
 }
 
@@ -57,9 +67,9 @@ impl Cabinet for SqliteCabinet {
                 next,
                 faults: 0,
             }),
-            Err(error) => {
+            Err(fault) => {
                 self.faults = self.faults.saturating_add(1);
-                Err(fault_of(&error))
+                Err(fault)
             }
         }
     }

@@ -1,5 +1,5 @@
 //! A keeper of deeds over an open database.
-ghost use Rattle.std.specs.Prelude.{◌≡◌, ◌≤◌, None};
+ghost use Rattle.std.specs.Prelude.{◌≡◌, ◌≤◌, ◌↔◌, None};
 ghost use Rattle.desk_outside.specs.Faults.{Rose};
 
 use crate::reading::{ReadStop, deed_at};
@@ -18,8 +18,10 @@ pub struct SqliteKeeper<S: Alter = FileStore<File>> {
     pub(crate) faults: u64,
 }
 
-/// What a refused statement is answered: want of memory, or a fault.
-pub fn fault_of(error: &Error) -> KeepFault {
+/// What a refusal of the database is answered: want of memory where it says so, and else a fault.
+pub fn fault_of(error: &Error) -> KeepFault
+    ensures { (result ≡ KeepFault.NoMemory) ↔ (error.now ≡ Error.SqliteFailure ErrorCode.OutOfMemory) }
+{
     match error {
         Error::SqliteFailure(ErrorCode::OutOfMemory) => KeepFault::NoMemory,
         _ => KeepFault::Failed,

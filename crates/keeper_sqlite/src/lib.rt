@@ -2,6 +2,7 @@
 #![tactic(auto)]
 
 mod cabinet;
+mod form;
 mod keeper;
 mod reading;
 mod sending;

@@ -91,7 +91,7 @@ fn design_at<S: Alter>(conn: &mut Connection<S>, n: i64) -> Result<Option<Deed>,
 // The log deed of a number.
 fn log_at<S: Alter>(conn: &mut Connection<S>, n: i64) -> Result<Option<Deed>, ReadStop> {
     let rows = conn.query_all(
-        "SELECT seat, design, die, body FROM logs WHERE n = ?1",
+        "SELECT seat, design, die, body FROM logs2 WHERE n = ?1",
         params![n],
     )?;
     match rows.first() {

@@ -17,6 +17,7 @@ fn insert_design<S: Alter>(
     Ok(())
 }
 
+// The log is one of this program, in `version`.
 fn insert_log<S: Alter>(
     conn: &mut Connection<S>,
     n: i64,
@@ -26,7 +27,7 @@ fn insert_log<S: Alter>(
     text: &Name,
 ) -> Result<(), Error> {
     conn.execute(
-        "INSERT INTO logs (n, seat, design, die, body) VALUES (?1, ?2, ?3, ?4, ?5)",
+        "INSERT INTO logs2 (n, seat, design, die, body, version) VALUES (?1, ?2, ?3, ?4, ?5, 2)",
         params![n, seat, design.as_slice(), die.as_slice(), text.as_slice()],
     )?;
     Ok(())

@@ -1,7 +1,7 @@
 -- What the two tables stand for after one more log, and the words that are made of them.
 use Rattle.std.proofs.Common.{◌≡◌, ℕ, ◌+◌, ◌*◌, ◌/◌, ◌^◌, ◌<◌, Bool, true, false, not, cond, ◌||◌, ◌&&◌, eqb, ltb, leb, List, [], ◌∷◌, ◌++◌, get_or, refl, sym, ap, ◌∙◌, arith, w64}
 use Rattle.std.specs.Prelude.{bit_and}
-use Rattle.std.specs.List.{list_any}
+use Rattle.std.specs.List.{list_any, list_all}
 use Rattle.std.specs.Int.{bit_at, bit_not}
 use Rattle.std.proofs.lemmas.Bool.{and_parts, and_from, or_right, eqb-true, ltb-true, le-leb}
 use Rattle.std.proofs.lemmas.List.{get_or_default}
@@ -12,9 +12,10 @@ use Rattle.scan_model.specs.declared.logs.Bit.{Bit}
 use Rattle.scan_model.specs.declared.logs.LogFacts.{LogFacts}
 use Rattle.scan_model.specs.Values.{is_unknown}
 use Rattle.scan_model.specs.BitTable.{table_bit}
-use Rattle.scan_model.specs.Coverage.{bit_of, same_bit, not_after, lists, covers, FitsLog}
+use Rattle.scan_model.specs.Coverage.{bit_of, same_bit, not_after, lists, covers, is_tested, has_point, group_goes_on, FitsLog}
 use Rattle.scan_model.specs.Classes.{some_fails, some_passes, class_by, class_of, is_failing, is_passing}
 use Rattle.scan_model.proofs.BitTables.{place_in_word, bit_of_and, bit_of_not}
+use Rattle.log_join.specs.Covered.{Covered, is_covered}
 use Rattle.log_join.specs.Joining.{JoinedBits, StandsFor, is_set_aside}
 
 -- ---- a log's failing bits are covered
@@ -28,13 +29,23 @@ listed_is_covered log patterns points b fits listed =
     let pattern = eqb-true b.pattern f.pattern same.0 in
     let point = eqb-true b.point f.point same.1 in
     let at = fits.fails i b found.2 in
-    let range : (leb log.first b.pattern && leb b.pattern log.last) ≡ true =
-    and_from (leb log.first b.pattern) (leb b.pattern log.last) (le-leb log.first b.pattern (omega (arith, at.0, pattern))) (le-leb b.pattern log.last (omega (arith, at.1, pattern))) in
+    let tested : is_tested log b.pattern ≡ true = ap (is_tested log) pattern ∙ at.0 in
     let here : not_after b f ≡ true =
     or_right (ltb b.pattern f.pattern) (eqb b.pattern f.pattern && leb b.point f.point)
     (and_from (eqb b.pattern f.pattern) (leb b.point f.point) same.0 (le-leb b.point f.point (omega (arith, point)))) in
-    and_from (leb log.first b.pattern && leb b.pattern log.last) (not log.truncated || list_any (not_after b) log.fails) range
-    (or_right (not log.truncated) (list_any (not_after b) log.fails) (list_any_at (not_after b) log.fails i b found.2 here))
+    let whole : (not log.truncated || list_any (not_after b) log.fails) ≡ true = or_right (not log.truncated) (list_any (not_after b) log.fails) (list_any_at (not_after b) log.fails i b found.2 here) in
+    let goes_on : (group : List ℕ) → (not (has_point group b.point) || group_goes_on log b group) ≡ true = λ group.
+    it_goes_on (has_point group b.point) (group_goes_on log b group) (λ has. list_any_at (λ f. has_point group f.point && not_after b f) log.fails i b found.2
+    (and_from (has_point group f.point) (not_after b f) (ap (has_point group) (sym point) ∙ has) here)) in
+    and_from (is_tested log b.pattern) _ tested (and_from (not log.truncated || list_any (not_after b) log.fails) _ whole (all_true (λ group. not (has_point group b.point) || group_goes_on log b group) log.cuts goes_on))
+  where
+    it_goes_on : (has on : Bool) → (has ≡ true → on ≡ true) → (not has || on) ≡ true
+    it_goes_on true on is = is refl
+    it_goes_on false on is = refl
+
+    all_true : {X : Type 0} (p : X → Bool) → (xs : List X) → ((x : X) → p x ≡ true) → list_all p xs ≡ true
+    all_true p [] each = refl
+    all_true p (x ∷ xs) each = and_from (p x) (list_all p xs) (each x) (all_true p xs each)
 
 -- ---- one bit of the tables, by what a log says of it
 pub passed_kept : (listed covered passed failed : Bool) → cond listed (cond listed passed failed) (covered || passed) ≡ ((covered && not listed) || passed)
@@ -64,12 +75,13 @@ one_more_passes true false false = refl
 one_more_passes false listed true = refl
 one_more_passes false listed false = refl
 
-pub stands_for_more : (logs : List LogFacts) (log : LogFacts) (patterns points : ℕ) (failed passed failed1 passed1 : List ℕ) → FitsLog patterns points log
+pub stands_for_more : (logs : List LogFacts) (log : LogFacts) (coverage : Covered) (patterns points : ℕ) (failed passed failed1 passed1 : List ℕ) → FitsLog patterns points log
     → ((w k : ℕ) → k < points → table_bit failed1 points w k ≡ (lists log (bit_of w k) || table_bit failed points w k))
-    → ((w k : ℕ) → k < points → table_bit passed1 points w k ≡ ((covers log (bit_of w k) && not (lists log (bit_of w k))) || table_bit passed points w k))
+    → ((w k : ℕ) → k < points → table_bit passed1 points w k ≡ ((is_covered coverage w k && not (lists log (bit_of w k))) || table_bit passed points w k))
+    → ((w k : ℕ) → w < patterns → k < points → covers log (bit_of w k) ≡ is_covered coverage w k)
     → StandsFor logs (record { patterns = patterns; points = points; failed = failed; passed = passed })
     → StandsFor (logs ++ log ∷ []) (record { patterns = patterns; points = points; failed = failed1; passed = passed1 })
-stands_for_more logs log patterns points failed passed failed1 passed1 fits fails passes stands = record {
+stands_for_more logs log coverage patterns points failed passed failed1 passed1 fits fails passes covered stands = record {
   failed = λ w k in_patterns in_points.
       let b = bit_of w k in
       fails w k in_points ∙ ap (λ (x : Bool). lists log b || x) (stands.failed w k in_patterns in_points)
@@ -77,7 +89,8 @@ stands_for_more logs log patterns points failed passed failed1 passed1 fits fail
       ∙ sym (list_any-append (λ (l : LogFacts). covers l b && lists l b) logs (log ∷ []));
   passed = λ w k in_patterns in_points.
       let b = bit_of w k in
-      passes w k in_points ∙ ap (λ (x : Bool). (covers log b && not (lists log b)) || x) (stands.passed w k in_patterns in_points)
+      passes w k in_points ∙ ap (λ (x : Bool). (x && not (lists log b)) || table_bit passed points w k) (sym (covered w k in_patterns in_points))
+      ∙ ap (λ (x : Bool). (covers log b && not (lists log b)) || x) (stands.passed w k in_patterns in_points)
       ∙ one_more_passes (covers log b) (lists log b) (some_passes logs b)
       ∙ sym (list_any-append (λ (l : LogFacts). covers l b && not (lists l b)) logs (log ∷ []));
 }

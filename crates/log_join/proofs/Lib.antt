@@ -1,5 +1,5 @@
-mod WordMasks
 mod Steps
+mod CoverSteps
 mod Joins
 pub mod AnyOrder
 pub mod Fitting

@@ -1,12 +1,19 @@
--- How far a log covers the patterns of its range.
-use Rattle.std.specs.Prelude.{ℕ, ◌≤◌, Bool, ◌&&◌, ◌||◌, ◌==◌, nat_lt}
+-- How far failing bits reach.
+use Rattle.std.specs.Prelude.{◌≡◌, ◌+◌, ◌^◌, ◌<◌, Bool, false, ◌&&◌, ◌||◌, ◌==◌, List, All, nat_lt}
 use Rattle.scan_model.specs.declared.logs.Bit.{Bit}
-use Rattle.log_join.specs.declared.coverage.Reach.{Reach}
+use Rattle.log_join.specs.declared.reach.Reach.{Reach}
 
 -- the bit is at a pattern before the reach's, or among the first points of that pattern
 abbrev pub reaches : Reach → Bit → Bool
 reaches reach b = nat_lt b.pattern reach.pattern || ((b.pattern == reach.pattern) && nat_lt b.point reach.points)
 
--- the reach ends in the patterns first to last, and within so many points
-abbrev pub LiesIn : ℕ → ℕ → ℕ → Reach → Type 0
-LiesIn first last points reach = (first ≤ reach.pattern) × (reach.pattern ≤ last) × (reach.points ≤ points)
+-- there is a number for the pattern before which it covers any point
+abbrev pub HasEnds : Reach → Type 0
+HasEnds reach = 0 < reach.points → reach.pattern + 1 < 2 ^ 32
+
+-- there are numbers for the pattern and the point behind the bit
+abbrev pub FitsWords : Bit → Type 0
+FitsWords b = (b.pattern + 1 < 2 ^ 32) × (b.point + 1 < 2 ^ 32)
+
+abbrev pub AreUnmarked : List Bool → Type 0
+AreUnmarked marks = All (λ mark. mark ≡ false) marks

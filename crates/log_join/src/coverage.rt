@@ -1,60 +1,87 @@
-ghost use Rattle.std.specs.Prelude.{◌≡◌, ℕ, ◌+◌, ◌*◌, ◌/◌, ◌%◌, ◌^◌, ◌<◌, ◌≤◌, ◌==◌, ◌&&◌, ◌||◌, length, nat_lt, nat_le};
+//! What one log covers, while it is joined.
+ghost use Rattle.std.specs.Prelude.{◌≡◌, ℕ, ◌+◌, ◌*◌, ◌/◌, ◌%◌, ◌^◌, ◌<◌, ◌≤◌, ◌==◌, ◌&&◌, ◌||◌, not, length, All, IfOk, nat_lt, slice_index_or};
+ghost use Rattle.std.specs.List.{list_any, list_all};
 ghost use Rattle.std.specs.Int.{bit_at};
 ghost use Rattle.scan_model.specs.BitTable.{table_bit};
-ghost use Rattle.scan_model.specs.Coverage.{bit_of, not_after, covers, FitsLog};
-ghost use Rattle.log_join.specs.Reaching.{reaches, LiesIn};
+ghost use Rattle.scan_model.specs.Coverage.{bit_of, not_after, some_holds, has_point, group_goes_on, covers, FitsLog};
+ghost use Rattle.log_join.specs.Covered.{AreCoveredOf, is_covered};
+ghost use Rattle.log_join.specs.Reaching.{reaches, HasEnds, FitsWords, AreUnmarked};
 
-use crate::masks::pattern_mask;
-use scan_model::{Bit, LogFacts, set_bit, set_bits};
+use crate::ends::{cut_groups, set_ends};
+use crate::reach::{Reach, reach_of};
+use scan_model::{LogFacts, NoMemory, Range, mark_patterns, pattern_mask, set_bits};
+use std::alloc::Global;
+use std::marker::Model;
 
-/// How far a log covers its patterns: all points of those before `pattern`, and of `pattern` the first `points`.
-#[derive(Clone, Copy, Debug)]
-pub struct Reach {
-    pub pattern: u32,
-    pub points: u32,
+/// The patterns that a log tested, and for each point the pattern before which the log covers it.
+#[derive(Debug, Drop)]
+pub struct Coverage {
+    // A word for 64 patterns.
+    tested: Vec<u64>,
+    // By point.
+    ends: Vec<u32>,
+    // By point; all are clear between two groups.
+    marks: Vec<bool>,
 }
 
-/// The reach that goes up to a bit, or the given one if it goes further.
-fn further(reach: Reach, bit: Bit) -> Reach
-    requires { bit.point + 1 < 2 ^ 32 }
-    ensures covered { (w k : ℕ) → reaches result (bit_of w k) ≡ (reaches reach (bit_of w k) || not_after (bit_of w k) bit) }
-    ensures inside { (first last points : ℕ) → LiesIn first last points reach → first ≤ bit.pattern → bit.pattern ≤ last → bit.point < points → LiesIn first last points result }
+impl Model for Coverage {
+    ghost use Rattle.std.specs.Prelude.{◌≡◌, vec_len};
+    ghost use Rattle.log_join.specs.Covered.{Covered};
+    ghost use Rattle.log_join.specs.Reaching.{AreUnmarked};
+
+    ghost Value = { Covered };
+
+    ghost view = { λ c. record { tested = c.tested.items; ends = c.ends.items } };
+
+    ghost invariant = { λ c. (vec_len c.marks ≡ vec_len c.ends) × AreUnmarked c.marks.items };
+}
+
+/// Marks the tested patterns.
+fn mark_tested(tested: &mut [u64], ranges: &[Range])
+    requires { All (λ r. r.last / 64 < length tested.old) ranges.now }
+    ensures { (w : ℕ) → table_bit tested.new 1 w 0 ≡ some_holds ranges.now w }
 {
-    if reach.pattern < bit.pattern || reach.pattern == bit.pattern && reach.points <= bit.point {
-        Reach {
-            pattern: bit.pattern,
-            points: bit.point + 1,
-        }
+    tested.fill(0);
+    for i in 0..ranges.len() {
+        mark_patterns(tested, ranges[i].first as usize, ranges[i].last as usize);
+    }
+}
+
+/// How far a log covers the points that no group has.
+fn reach_of_log(patterns: u32, facts: &LogFacts) -> Reach
+    requires { All FitsWords facts.now.fails }
+    ensures covered { (w k : ℕ) → w < patterns → reaches result (bit_of w k) ≡ (not facts.now.truncated || list_any (not_after (bit_of w k)) facts.now.fails) }
+    ensures ends { HasEnds result }
+{
+    if facts.truncated {
+        reach_of(facts.fails.as_slice())
     } else {
-        reach
+        Reach {
+            pattern: patterns,
+            points: 0,
+        }
     }
 }
 
-/// The reach of a log.
-fn reach_of(points: u32, facts: &LogFacts) -> Reach
-    requires { FitsLog (facts.now.last + 1) points facts.now }
-    ensures covered { (w k : ℕ) → k < points → (nat_le facts.now.first w && reaches result (bit_of w k)) ≡ covers facts.now (bit_of w k) }
-    ensures inside { LiesIn facts.now.first facts.now.last points result }
+/// Sets the ends to those of a log.
+fn find_ends(ends: &mut [u32], marks: &mut [bool], patterns: u32, points: u32, facts: &LogFacts)
+    requires fails { All FitsWords facts.now.fails }
+    requires points { All (λ b. b.point < points) facts.now.fails }
+    requires cuts { All (All (λ k. k < points)) facts.now.cuts }
+    requires ends { length ends.old ≡ points }
+    requires marks { (length marks.old ≡ points) × AreUnmarked marks.old }
+    ensures ends { (w k : ℕ) → w < patterns → k < points → nat_lt w (slice_index_or ends.new k 0)
+        ≡ ((not facts.now.truncated || list_any (not_after (bit_of w k)) facts.now.fails)
+        && list_all (λ group. not (has_point group k) || group_goes_on facts.now (bit_of w k) group) facts.now.cuts) }
+    ensures marks { AreUnmarked marks.new }
 {
-    if !facts.truncated {
-        return Reach {
-            pattern: facts.last,
-            points,
-        };
-    }
-    let fails = facts.fails.as_slice();
-    let mut reach = Reach {
-        pattern: facts.first,
-        points: 0,
-    };
-    for i in 0..fails.len() {
-        reach = further(reach, fails[i]);
-    }
-    reach
+    let reach = reach_of_log(patterns, facts);
+    set_ends(ends, points, reach);
+    cut_groups(ends, marks, facts);
 }
 
 /// Covers those of the 64 patterns from 64 * word on that the mask names, at all points.
-fn cover_word(words: &mut [u64], points: usize, word: usize, mask: u64)
+fn cover_whole_word(words: &mut [u64], points: usize, word: usize, mask: u64)
     requires { word * points + points ≤ length words.old }
     ensures { (w k : ℕ) → k < points → table_bit words.new points w k ≡ ((w / 64 == word) && (bit_at mask (w % 64) == 1) || table_bit words.old points w k) }
 {
@@ -63,36 +90,100 @@ fn cover_word(words: &mut [u64], points: usize, word: usize, mask: u64)
     }
 }
 
-/// Covers the patterns first..end at all points.
-fn cover_patterns(words: &mut [u64], points: usize, first: usize, end: usize)
-    requires few { end < 2 ^ 32 }
-    requires inside { (end + 63) / 64 * points ≤ length words.old }
-    ensures { (w k : ℕ) → k < points → table_bit words.new points w k ≡ (nat_le first w && nat_lt w end || table_bit words.old points w k) }
+/// Covers those of the 64 patterns from 64 * word on that the mask names, at each point before its
+/// end.
+fn cover_word(words: &mut [u64], points: usize, word: usize, mask: u64, ends: &[u32])
+    requires few { word < 2 ^ 32 }
+    requires ends { length ends.now ≡ points }
+    requires inside { word * points + points ≤ length words.old }
+    ensures { (w k : ℕ) → k < points → table_bit words.new points w k
+        ≡ ((w / 64 == word) && ((bit_at mask (w % 64) == 1) && nat_lt w (slice_index_or ends.now k 0)) || table_bit words.old points w k) }
 {
-    for word in first / 64..(end + 63) / 64 {
-        cover_word(words, points, word, pattern_mask(word, first, end));
+    for point in 0..points {
+        let before = pattern_mask(word, 0, ends[point] as usize);
+        set_bits(words, points, word, point, mask & before);
     }
 }
 
-/// Covers the first points of a pattern.
-fn cover_points(words: &mut [u64], points: usize, pattern: usize, count: usize)
-    requires points { count ≤ points }
-    requires inside { pattern / 64 * points + points ≤ length words.old }
-    ensures { (w k : ℕ) → k < points → table_bit words.new points w k ≡ ((w == pattern) && nat_lt k count || table_bit words.old points w k) }
+/// The tested patterns at each point before its end, of the 64 from 64 * word on. Points that end
+/// later need no masks of their own.
+fn cover_tested(words: &mut [u64], points: usize, word: usize, mask: u64, ends: &[u32], least: u32)
+    requires few { word < 2 ^ 32 }
+    requires ends { length ends.now ≡ points }
+    requires least { All (λ end. least ≤ end) ends.now }
+    requires inside { word * points + points ≤ length words.old }
+    ensures { (w k : ℕ) → k < points → table_bit words.new points w k
+        ≡ ((w / 64 == word) && ((bit_at mask (w % 64) == 1) && nat_lt w (slice_index_or ends.now k 0)) || table_bit words.old points w k) }
 {
-    for point in 0..count {
-        set_bit(words, points, pattern, point);
+    if word < least as usize / 64 {
+        cover_whole_word(words, points, word, mask);
+    } else {
+        cover_word(words, points, word, mask, ends);
     }
 }
 
-/// Covers the bits that a log covers.
-pub fn cover(words: &mut [u64], points: u32, facts: &LogFacts)
-    requires facts { FitsLog (facts.now.last + 1) points facts.now }
-    requires words { facts.now.last / 64 * points + points ≤ length words.old }
-    ensures { (w k : ℕ) → k < points → table_bit words.new points w k ≡ (covers facts.now (bit_of w k) || table_bit words.old points w k) }
+/// The least of the ends.
+fn least_end(ends: &[u32]) -> u32
+    ensures { All (λ end. result ≤ end) ends.now }
 {
-    let reach = reach_of(points, facts);
-    let pattern = reach.pattern as usize;
-    cover_patterns(words, points as usize, facts.first as usize, pattern);
-    cover_points(words, points as usize, pattern, reach.points as usize);
+    let mut least = u32::MAX;
+    for i in 0..ends.len() {
+        least = least.min(ends[i]);
+    }
+    least
+}
+
+/// Covers the tested patterns at each point before its end.
+fn cover_words(words: &mut [u64], points: usize, tested: &[u64], ends: &[u32])
+    requires few { length tested.now ≤ 2 ^ 32 }
+    requires ends { length ends.now ≡ points }
+    requires inside { length tested.now * points ≤ length words.old }
+    ensures { (w k : ℕ) → k < points → table_bit words.new points w k
+        ≡ (table_bit tested.now 1 w 0 && nat_lt w (slice_index_or ends.now k 0) || table_bit words.old points w k) }
+{
+    let least = least_end(ends);
+    for word in 0..tested.len() {
+        if tested[word] != 0 {
+            cover_tested(words, points, word, tested[word], ends, least);
+        }
+    }
+}
+
+impl Coverage {
+    /// No patterns yet, for so many patterns and points.
+    pub fn make(alloc: Global, patterns: u32, points: u32) -> Result<Coverage, NoMemory>
+        ensures { IfOk result (AreCoveredOf patterns points) }
+    {
+        let words = (patterns as usize + 63) / 64;
+        let tested = vec![in alloc; 0u64; words]?;
+        let ends = vec![in alloc; 0u32; points as usize]?;
+        let marks = vec![in alloc; false; points as usize]?;
+        Ok(Coverage {
+            tested,
+            ends,
+            marks,
+        })
+    }
+
+    /// Takes what a log covers, in place of what another did.
+    pub fn take(&mut self, patterns: u32, points: u32, facts: &LogFacts)
+        requires size { AreCoveredOf patterns points self.old }
+        requires facts { FitsLog patterns points facts.now }
+        ensures size { AreCoveredOf patterns points self.new }
+        ensures covered { (w k : ℕ) → w < patterns → k < points
+            → covers facts.now (bit_of w k) ≡ is_covered self.new w k }
+    {
+        mark_tested(&mut self.tested, facts.ranges.as_slice());
+        find_ends(&mut self.ends, &mut self.marks, patterns, points, facts);
+    }
+
+    /// Sets the bits that are covered.
+    pub fn cover(&self, words: &mut [u64], points: usize)
+        requires points { length self.now.ends ≡ points }
+        requires few { length self.now.tested ≤ 2 ^ 32 }
+        requires inside { length self.now.tested * points ≤ length words.old }
+        ensures { (w k : ℕ) → k < points → table_bit words.new points w k ≡ (is_covered self.now w k || table_bit words.old points w k) }
+    {
+        cover_words(words, points, &self.tested, &self.ends);
+    }
 }

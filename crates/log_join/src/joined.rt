@@ -1,3 +1,4 @@
+//! The logs of a die, joined.
 ghost use Rattle.std.specs.Prelude.{◌≡◌, ◌<◌, ◌≤◌, ◌*◌, ◌/◌, ◌+◌, ◌&&◌, ◌||◌, ◌==◌, ◌∷◌, ◌++◌, [], ℕ, List, length, not, nat_lt, slice_index_or, IfOk};
 ghost use Rattle.std.specs.Int.{bit_at};
 ghost use Rattle.scan_model.specs.declared.logs.LogFacts.{LogFacts};
@@ -7,11 +8,11 @@ ghost use Rattle.scan_model.specs.ChainShift.{value_at};
 ghost use Rattle.scan_model.specs.Coverage.{bit_of, lists, covers, FitsLog};
 ghost use Rattle.scan_model.specs.Classes.{class_by, class_of, is_failing, is_passing};
 ghost use Rattle.log_join.specs.Joining.{StandsFor, HaveSameLogs, IsJoinedOf, FitsExpected, is_set_aside};
+ghost use Rattle.log_join.specs.Covered.{AreCoveredOf, is_covered};
 
-use crate::coverage::cover;
+use crate::coverage::Coverage;
 use crate::fails::{copy_bits, set_listed};
-use crate::masks::pattern_mask;
-use scan_model::{Bit, BitClass, Expected, LogFacts, NoMemory, Tri, bit};
+use scan_model::{Bit, BitClass, Expected, LogFacts, NoMemory, Tri, bit, pattern_mask};
 use std::alloc::Global;
 use std::marker::Model;
 
@@ -22,17 +23,20 @@ pub struct Joined {
     points: u32,
     failed: Vec<u64>,
     passed: Vec<u64>,
+    // What the log covers that is being joined.
+    coverage: Coverage,
 }
 
 impl Model for Joined {
     ghost use Rattle.std.specs.Prelude.{◌≡◌, ◌+◌, ◌*◌, ◌/◌, vec_len};
     ghost use Rattle.log_join.specs.Joining.{JoinedBits};
+    ghost use Rattle.log_join.specs.Covered.{AreCoveredOf};
 
     ghost Value = { JoinedBits };
 
     ghost view = { λ j. record { patterns = j.patterns; points = j.points; failed = j.failed.items; passed = j.passed.items } };
 
-    ghost invariant = { λ j. (vec_len j.failed ≡ (j.patterns + 63) / 64 * j.points) × (vec_len j.passed ≡ (j.patterns + 63) / 64 * j.points) };
+    ghost invariant = { λ j. (vec_len j.failed ≡ (j.patterns + 63) / 64 * j.points) × (vec_len j.passed ≡ (j.patterns + 63) / 64 * j.points) × AreCoveredOf j.patterns j.points j.coverage };
 }
 
 impl Joined {
@@ -44,11 +48,13 @@ impl Joined {
         let words = (patterns as usize + 63) / 64 * points as usize;
         let failed = vec![in alloc; 0u64; words]?;
         let passed = vec![in alloc; 0u64; words]?;
+        let coverage = Coverage::make(alloc, patterns, points)?;
         Ok(Joined {
             patterns,
             points,
             failed,
             passed,
+            coverage,
         })
     }
 
@@ -59,7 +65,15 @@ impl Joined {
         ensures joined { (logs : List LogFacts) → StandsFor logs self.old → StandsFor (logs ++ facts.now ∷ []) self.new }
         ensures any_order { (logs others : List LogFacts) → StandsFor logs self.old → HaveSameLogs (logs ++ facts.now ∷ []) others → StandsFor others self.new }
     {
-        join(&mut self.failed, &mut self.passed, self.points, facts);
+        self.coverage.take(self.patterns, self.points, facts);
+        join(
+            &mut self.failed,
+            &mut self.passed,
+            self.patterns,
+            self.points,
+            &self.coverage,
+            facts,
+        );
     }
 
     /// The class of a bit over all logs added.
@@ -133,18 +147,26 @@ impl Joined {
 }
 
 /// Joins a log to the tables of what failed and what passed.
-fn join(failed: &mut [u64], passed: &mut [u64], points: u32, facts: &LogFacts)
-    requires facts { FitsLog (facts.now.last + 1) points facts.now }
-    requires failed { facts.now.last / 64 * points + points ≤ length failed.old }
-    requires passed { facts.now.last / 64 * points + points ≤ length passed.old }
+fn join(
+    failed: &mut [u64],
+    passed: &mut [u64],
+    patterns: u32,
+    points: u32,
+    coverage: &Coverage,
+    facts: &LogFacts,
+)
+    requires facts { FitsLog patterns points facts.now }
+    requires coverage { AreCoveredOf patterns points coverage.now }
+    requires failed { length failed.old ≡ (patterns + 63) / 64 * points }
+    requires passed { length passed.old ≡ (patterns + 63) / 64 * points }
     ensures failed { (w k : ℕ) → k < points → table_bit failed.new points w k ≡ (lists facts.now (bit_of w k) || table_bit failed.old points w k) }
-    ensures passed { (w k : ℕ) → k < points → table_bit passed.new points w k ≡ (covers facts.now (bit_of w k) && not (lists facts.now (bit_of w k)) || table_bit passed.old points w k) }
+    ensures passed { (w k : ℕ) → k < points → table_bit passed.new points w k ≡ (is_covered coverage.now w k && not (lists facts.now (bit_of w k)) || table_bit passed.old points w k) }
 {
     let width = points as usize;
     let fails = facts.fails.as_slice();
     // `failed` keeps meanwhile whether a listed bit had passed: its own bit becomes 1 in any case.
     copy_bits(passed, failed, width, fails);
-    cover(passed, points, facts);
+    coverage.cover(passed, width);
     copy_bits(failed, passed, width, fails);
     set_listed(failed, width, fails);
 }

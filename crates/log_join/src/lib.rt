@@ -2,9 +2,10 @@
 #![tactic(auto)]
 
 mod coverage;
+mod ends;
 mod fails;
 mod joined;
-mod masks;
+mod reach;
 
 pub use joined::Joined;
 pub use scan_model::BitClass;

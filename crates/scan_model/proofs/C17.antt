@@ -71,7 +71,7 @@ good = refl
 
 -- a log that fails output 22
 abbrev pub fails_22 : LogFacts
-fails_22 = record { first = 0; last = 0; truncated = false; fails = bit 0 0 ∷ [] }
+fails_22 = record { ranges = record { first = 0; last = 0 } ∷ []; truncated = false; fails = bit 0 0 ∷ []; cuts = [] }
 
 classes : class c17_test (fails_22 ∷ []) (bit 0 0) ≡ Failing
 unfolding values_of

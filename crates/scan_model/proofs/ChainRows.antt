@@ -80,7 +80,7 @@ unfolding values_of
 slow = refl
 
 abbrev pub log : ℕ → LogFacts
-log k = record { first = 0; last = 0; truncated = false; fails = record { pattern = 0; point = k } ∷ [] }
+log k = record { ranges = record { first = 0; last = 0 } ∷ []; truncated = false; fails = record { pattern = 0; point = k } ∷ []; cuts = [] }
 
 abbrev pub row : ℕ → ℕ → ℕ → ℕ → Scored
 row k a b c = record { place = k; counts = record { tfsf = a; tfsp = b; tpsf = c } }

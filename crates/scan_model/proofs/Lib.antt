@@ -30,3 +30,4 @@ pub mod Cells
 pub mod Loads
 pub mod MoreDefinite
 pub mod counting
+pub mod WordMasks

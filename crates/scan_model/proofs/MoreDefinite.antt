@@ -1,6 +1,6 @@
 -- More definite loads and inputs give responses at least as definite, net by net and point by point, under each fault.
-use Rattle.std.proofs.Common.{◌≡◌, ℕ, zero, suc, ◌+◌, Bool, true, false, cond, eqb, ◌||◌, List, [], ◌∷◌, ◌++◌, length, map, get_or, Option, Some, None, unwrap_or, refl, sym, ap, subst, ◌∙◌, arith}
-use Rattle.std.specs.Prelude.{flat_map, nat_lt, slice_index_or}
+use Rattle.std.proofs.Common.{◌≡◌, ℕ, zero, suc, ◌+◌, Bool, true, false, cond, eqb, ◌||◌, List, [], ◌∷◌, ◌++◌, length, map, get_or, Option, Some, None, unwrap_or, refl, ap, subst}
+use Rattle.std.specs.Prelude.{flat_map, nat_lt}
 use Rattle.std.specs.List.{range_with_len, enumerate_from}
 use Rattle.scan_model.specs.declared.values.Tri.{Tri}
 use Rattle.scan_model.specs.declared.values.Tri.TheVariants.{Unknown}
@@ -20,11 +20,11 @@ use Rattle.scan_model.specs.ChainShift.{value_at, passed, loaded_at, load_with, 
 use Rattle.scan_model.specs.ScanTest.{ScanTest, pattern_at, cells_of, points_of, chain_at}
 use Rattle.scan_model.specs.Faults.{stuck_value, bridged, forced_net, forced_pin, loaded, unloaded}
 use Rattle.scan_model.specs.NetValue.{assigned, driven, net_node, values_of, loads_of, source_of, good_value, forced_by, net_value, pin_value, nothing_forced}
-use Rattle.scan_model.specs.Response.{data_pin, output_pin, captured, held, output_value, observed, response}
+use Rattle.scan_model.specs.Response.{data_pin, output_pin, held, output_value, observed, response}
 use Rattle.scan_model.specs.Loads.{load}
 use Rattle.scan_model.specs.MoreDefinite.{AreRowsAtLeast, IsPatternAtLeast}
 use Rattle.scan_model.proofs.Along.{along_related}
-use Rattle.scan_model.proofs.Definite.{IsAtLeast-refl, and-at_least, or-at_least, forced-at_least, driven-at_least, values-at_least}
+use Rattle.scan_model.proofs.Definite.{and-at_least, or-at_least, forced-at_least, driven-at_least, values-at_least}
 
 -- ---- lists of values
 

@@ -12,7 +12,9 @@ use Rattle.scan_model.specs.Netlist.{netlist}
 use Rattle.scan_model.specs.NetlistText.{netlist_fault, netlist_reading, circuit_of}
 use Rattle.scan_model.specs.ScanText.{scan_reading}
 use Rattle.scan_model.specs.PatternText.{PatternFrame, pattern_reading}
+use Rattle.scan_model.specs.declared.logs.LogForm.TheVariants.{FailLog, CompactLog}
 use Rattle.scan_model.specs.LogText.{LogFrame, log_reading, log_fault}
+use Rattle.scan_model.specs.LogTextV1 as v1
 
 -- lines, each with LF
 abbrev text : List (List ℕ) → List ℕ
@@ -114,6 +116,7 @@ a_shift = refl
 
 abbrev c17 : LogFrame
 c17 = record {
+  form = FailLog;
   outputs = codes "22" ∷ codes "23" ∷ [];
   chains = [];
   lengths = [];
@@ -129,7 +132,7 @@ log_with design tested fail more = text (codes "FAILLOG 1" ∷ codes "die D1" �
 abbrev log_a : List ℕ
 log_a = log_with (codes "design c17") (codes "tested 0 0") (codes "fail 0 out 22") (codes "end" ∷ [])
 
-whole : log_reading c17 log_a ≡ Ok (record { first = 0; last = 0; truncated = false; fails = record { pattern = 0; point = 0 } ∷ [] })
+whole : log_reading c17 log_a ≡ Ok (record { ranges = record { first = 0; last = 0 } ∷ []; truncated = false; fails = record { pattern = 0; point = 0 } ∷ []; cuts = [] })
 whole = refl
 
 nowhere : log_fault c17 (log_with (codes "design c17") (codes "tested 0 0") (codes "fail 0 out 99") (codes "end" ∷ [])) ≡ Some (5, 58)
@@ -159,6 +162,7 @@ empty_log = refl
 -- of s27 with a SHIFT pattern
 abbrev s27 : LogFrame
 s27 = record {
+  form = FailLog;
   outputs = codes "G17" ∷ [];
   chains = codes "c0" ∷ [];
   lengths = 3 ∷ [];
@@ -172,5 +176,75 @@ out_of_shift : log_fault s27 (log_with (codes "design c17") (codes "tested 0 0")
 out_of_shift = refl
 
 a_cell : log_reading s27 (log_with (codes "design c17") (codes "tested 0 0") (codes "fail 0 cell c0 0") (codes "truncated" ∷ []))
-    ≡ Ok (record { first = 0; last = 0; truncated = true; fails = record { pattern = 0; point = 3 } ∷ [] })
+    ≡ Ok (record { ranges = record { first = 0; last = 0 } ∷ []; truncated = true; fails = record { pattern = 0; point = 3 } ∷ []; cuts = [] })
 a_cell = refl
+
+-- ---- fail logs of version 2
+
+abbrev second_with : List ℕ → List (List ℕ) → List ℕ
+second_with tested more = text (codes "FAILLOG 2" ∷ codes "die D1" ∷ codes "design c17" ∷ tested ∷ more)
+
+-- over c17 with a chain of two cells and three patterns
+abbrev three : LogFrame
+three = record {
+  form = FailLog;
+  outputs = codes "22" ∷ codes "23" ∷ [];
+  chains = codes "c0" ∷ [];
+  lengths = 2 ∷ [];
+  points = Output 0 ∷ Output 1 ∷ Cell 0 1 ∷ Cell 0 0 ∷ [];
+  shifts = false ∷ false ∷ false ∷ [];
+  design = codes "c17";
+  die = codes "D1";
+}
+
+two_ranges : log_reading three (second_with (codes "tested 0 0") (codes "tested 2 2" ∷ codes "cut chain c0" ∷ codes "fail 2 out 22" ∷ codes "cut out" ∷ codes "cut chain c0" ∷ codes "end" ∷ []))
+    ≡ Ok (record { ranges = record { first = 0; last = 0 } ∷ record { first = 2; last = 2 } ∷ []; truncated = false; fails = record { pattern = 2; point = 0 } ∷ []; cuts = (2 ∷ 3 ∷ []) ∷ (0 ∷ 1 ∷ []) ∷ [] })
+two_ranges = refl
+
+between : log_fault three (second_with (codes "tested 0 0") (codes "tested 2 2" ∷ codes "fail 1 out 22" ∷ codes "end" ∷ [])) ≡ Some (6, 59)
+between = refl
+
+late : log_fault three (second_with (codes "tested 0 0") (codes "cut out" ∷ codes "tested 0 0" ∷ codes "end" ∷ [])) ≡ Some (6, 64)
+late = refl
+
+no_chain : log_fault three (second_with (codes "tested 0 0") (codes "cut chain c1" ∷ codes "end" ∷ [])) ≡ Some (5, 58)
+no_chain = refl
+
+cut_first : log_fault three (text (codes "FAILLOG 2" ∷ codes "cut out" ∷ [])) ≡ Some (2, 63)
+cut_first = refl
+
+cut_of_version_1 : log_fault c17 (log_with (codes "design c17") (codes "tested 0 0") (codes "fail 0 out 22") (codes "cut out" ∷ codes "end" ∷ [])) ≡ Some (6, 53)
+cut_of_version_1 = refl
+
+tested_again : log_fault c17 (log_with (codes "design c17") (codes "tested 0 0") (codes "tested 0 0") (codes "end" ∷ [])) ≡ Some (5, 63)
+tested_again = refl
+
+third_version : log_fault c17 (codes "FAILLOG 3") ≡ Some (1, 52)
+third_version = refl
+
+-- what version 1 said of the first of these
+whole_before : v1.log_v1 c17 log_a ≡ Ok (record { first = 0; last = 0; truncated = false; fails = record { pattern = 0; point = 0 } ∷ [] })
+whole_before = refl
+
+-- a log of a compactor: its channel shows two cycles
+abbrev compact : LogFrame
+compact = record {
+  form = CompactLog;
+  outputs = codes "22" ∷ [];
+  chains = codes "x" ∷ [];
+  lengths = 2 ∷ [];
+  points = Output 0 ∷ Cell 0 0 ∷ Cell 0 1 ∷ [];
+  shifts = false ∷ [];
+  design = codes "c17";
+  die = codes "D1";
+}
+
+channel : log_reading compact (text (codes "COMPLOG 1" ∷ codes "die D1" ∷ codes "design c17" ∷ codes "tested 0 0" ∷ codes "fail 0 chan x 1" ∷ codes "end" ∷ []))
+    ≡ Ok (record { ranges = record { first = 0; last = 0 } ∷ []; truncated = false; fails = record { pattern = 0; point = 2 } ∷ []; cuts = [] })
+channel = refl
+
+no_cell : log_fault compact (text (codes "COMPLOG 1" ∷ codes "die D1" ∷ codes "design c17" ∷ codes "tested 0 0" ∷ codes "fail 0 cell x 1" ∷ [])) ≡ Some (5, 53)
+no_cell = refl
+
+no_second : log_fault compact (codes "COMPLOG 2") ≡ Some (1, 52)
+no_second = refl

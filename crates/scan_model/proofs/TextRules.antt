@@ -1,5 +1,5 @@
 -- Each rule table of a text rises, so what it finds on a line is the lowest rule that the line breaks.
-use Rattle.std.proofs.Common.{◌≡◌, ℕ, ◌<◌, Bool, true, false, not, cond, List, [], ◌∷◌, ◌++◌, length, take, eqb, Option, Some, None, refl, ◌∙◌, inl, inr}
+use Rattle.std.proofs.Common.{◌≡◌, ℕ, Bool, true, false, not, cond, List, [], ◌∷◌, ◌++◌, length, take, eqb, Option, Some, None, is_some, refl, ◌∙◌, inl, inr}
 use Rattle.scan_model.specs.declared.circuit.Net.{Net}
 use Rattle.scan_model.specs.Lines.{line_at}
 use Rattle.scan_model.specs.Words.{words, has_words}
@@ -8,7 +8,8 @@ use Rattle.scan_model.specs.NetlistRules.{first_table, second_table, first_rule,
 use Rattle.scan_model.specs.NetlistText.{third_table, third_rule, netlist_breaks, netlist_rounds}
 use Rattle.scan_model.specs.ScanText.{scan_table, scan_rule, scan_breaks}
 use Rattle.scan_model.specs.PatternText.{PatternFrame, pattern_table, pattern_rule, pattern_breaks, pattern_rules, pattern_end_rules, pattern_lines}
-use Rattle.scan_model.specs.LogText.{LogFrame, Headers, log_table, log_rule, log_breaks, log_rules, log_end_rules, later_rules, log_line, later_lines, is_title, is_titled, is_closed, headers_in}
+use Rattle.scan_model.specs.declared.logs.LogVersion.{LogVersion}
+use Rattle.scan_model.specs.LogText.{LogFrame, Headers, log_table, log_rule, log_breaks, log_rules, log_end_rules, later_rules, rules_after, log_line, later_lines, title_of, is_closed, headers_in}
 use Rattle.scan_model.proofs.FirstFaults.{IsLowest, rises_from, rises, breaks-append, lowest_is, lowest_in_round, has_none, is_first}
 
 -- ---- netlists
@@ -78,19 +79,18 @@ rises_from-if : (r : ℕ) (b : Bool) (x y : List (ℕ × Bool)) → rises_from r
 rises_from-if r true x y up other = up
 rises_from-if r false x y other up = up
 
-log_rises : (frame : LogFrame) (titled closed : Bool) (headers : Headers) (line : List ℕ) → rises (log_rules frame titled closed headers line) ≡ true
-log_rises frame titled closed headers line =
-    let later = later_rules frame headers (log_line (words line)) in
-    let title = (52, not (is_title (words line))) ∷ [] in
-    rises_from-if 51 (not (has_words (words line))) [] (cond (not titled) title (cond closed ((62, true) ∷ []) later)) refl
-    (rises_from-if 51 (not titled) title (cond closed ((62, true) ∷ []) later) refl
-    (rises_from-if 51 closed ((62, true) ∷ []) later refl refl))
+log_rises : (frame : LogFrame) (title : Option LogVersion) (closed : Bool) (headers : Headers) (line : List ℕ) → rises (log_rules frame title closed headers line) ≡ true
+log_rises frame title closed headers line = rises_from-if 51 (not (has_words (words line))) [] (rules_after frame title closed headers (words line)) refl (after title)
+  where
+    after : (title : Option LogVersion) → rises_from 51 (rules_after frame title closed headers (words line)) ≡ true
+    after None = refl
+    after (Some version) = rises_from-if 51 closed ((62, true) ∷ []) (later_rules frame version headers (log_line frame.form version (words line))) refl refl
 
 pub log_lowest : (frame : LogFrame) (ls : List (List ℕ)) (i : ℕ) → IsLowest (log_breaks frame ls i) (log_rule frame ls i)
 log_lowest frame ls i =
-    let titled = is_titled (take i ls) in
-    let closed = is_closed (later_lines (take i ls)) in
-    let headers = headers_in (later_lines (take i ls)) in
+    let title = title_of frame.form (take i ls) in
+    let closed = is_closed (later_lines frame.form (take i ls)) in
+    let headers = headers_in (later_lines frame.form (take i ls)) in
     lowest_is (log_table frame ls i)
-    (rises-if (eqb i (length ls)) (log_end_rules (is_titled ls) (is_closed (later_lines ls))) (log_rules frame titled closed headers (line_at ls i))
-    refl (log_rises frame titled closed headers (line_at ls i)))
+    (rises-if (eqb i (length ls)) (log_end_rules (is_some (title_of frame.form ls)) (is_closed (later_lines frame.form ls))) (log_rules frame title closed headers (line_at ls i))
+    refl (log_rises frame title closed headers (line_at ls i)))

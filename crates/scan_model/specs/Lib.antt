@@ -31,6 +31,7 @@ pub mod NetlistText
 pub mod ScanText
 pub mod PatternText
 pub mod LogText
+pub mod LogTextV1
 pub mod DieReport
 pub mod Loads
 pub mod Force

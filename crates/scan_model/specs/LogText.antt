@@ -1,4 +1,4 @@
--- Fail logs, version 1.
+-- Fail logs, and logs of the points that a compactor leaves.
 use Rattle.std.specs.Prelude.{ℕ, ◌+◌, Bool, true, false, not, ◌&&◌, ◌||◌, ◌==◌, nat_lt, nat_le, if◌then◌else◌, is_some, List, [], ◌∷◌, length, map, take, filter, filter_map, flat_map, slice_index, slice_index_or, slice_get, Option, Some, None, unwrap_or, codes, Result}
 use Rattle.std.specs.List.{list_any, position_or_len, range_with_len}
 use Rattle.std.specs.Str.{bytes_eq}
@@ -11,14 +11,23 @@ use Rattle.scan_model.specs.declared.parts.Pattern.{Pattern}
 use Rattle.scan_model.specs.declared.parts.Point.{Point}
 use Rattle.scan_model.specs.declared.parts.Point.TheVariants.{Output, Cell}
 use Rattle.scan_model.specs.declared.logs.Bit.{Bit}
+use Rattle.scan_model.specs.declared.logs.Range.{Range}
 use Rattle.scan_model.specs.declared.logs.LogFacts.{LogFacts}
+use Rattle.scan_model.specs.declared.logs.LogForm.{LogForm}
+use Rattle.scan_model.specs.declared.logs.LogForm.TheVariants.{FailLog, CompactLog}
+use Rattle.scan_model.specs.declared.logs.LogVersion.{LogVersion}
+use Rattle.scan_model.specs.declared.logs.LogVersion.TheVariants.{First, Second}
+use Rattle.scan_model.specs.declared.logs.CutGroup.{CutGroup}
+use Rattle.scan_model.specs.declared.logs.CutGroup.TheVariants.{Outputs, Chain}
 use Rattle.scan_model.specs.ScanTest.{ScanTest, name_of, points_of}
-use Rattle.scan_model.specs.Coverage.{bit_of}
+use Rattle.scan_model.specs.Coverage.{bit_of, some_holds}
 
--- what a log is read for: the names of the outputs in their order, the names and the lengths of the
+-- what a log is read for: its form, the names of the outputs in their order, the names and the lengths of the
 -- chains in file order, the points in test order,
--- of each pattern whether it is a SHIFT pattern, and the names of the design and the die
+-- of each pattern whether it is a SHIFT pattern, and the names of the design and the die.
+-- In the log of a compactor the chains are its channels, and a chain is as long as its channel shows something.
 pub record LogFrame : Type 0 where
+  pub form : LogForm
   pub outputs : List (List ℕ)
   pub chains : List (List ℕ)
   pub lengths : List ℕ
@@ -37,6 +46,7 @@ is_shift w = is_shift_kind w.kind
 -- the frame of a scan test for a design and a die
 abbrev pub log_frame : ScanTest → List ℕ → List ℕ → LogFrame
 log_frame t design die = record {
+  form = FailLog;
   outputs = map (name_of t) t.netlist.outputs;
   chains = map (λ h. h.name) t.chains;
   lengths = map (λ h. length h.cells) t.chains;
@@ -53,6 +63,8 @@ pub data LogLine : Type 0 where
   tested_line : List ℕ → List ℕ → LogLine
   out_line : List ℕ → List ℕ → LogLine
   cell_line : List ℕ → List ℕ → List ℕ → LogLine
+  cut_out_line : LogLine
+  cut_chain_line : List ℕ → LogLine
   end_line : LogLine
   truncated_line : LogLine
   other_line : LogLine
@@ -64,28 +76,42 @@ abbrev pub one_word : List ℕ → LogLine
 one_word w =
     if is_word w (codes "end") then end_line else if is_word w (codes "truncated") then truncated_line else other_line
 
-abbrev pub two_words : List ℕ → List ℕ → LogLine
-two_words w a =
-    if is_word w (codes "die") then die_line a else if is_word w (codes "design") then design_line a else other_line
+-- `cut` is known in version 2 alone
+abbrev pub is_cut_word : LogVersion → List ℕ → Bool
+is_cut_word First w = false
+is_cut_word Second w = is_word w (codes "cut")
 
-abbrev pub three_words : List ℕ → List ℕ → List ℕ → LogLine
-three_words w a b = if is_word w (codes "tested") then tested_line a b else other_line
+abbrev pub two_words : LogVersion → List ℕ → List ℕ → LogLine
+two_words version w a =
+    if is_word w (codes "die") then die_line a
+    else if is_word w (codes "design") then design_line a
+    else if is_cut_word version w && is_word a (codes "out") then cut_out_line else other_line
+
+abbrev pub three_words : LogVersion → List ℕ → List ℕ → List ℕ → LogLine
+three_words version w a b =
+    if is_word w (codes "tested") then tested_line a b
+    else if is_cut_word version w && is_word a (codes "chain") then cut_chain_line b else other_line
 
 abbrev pub four_words : List ℕ → List ℕ → List ℕ → List ℕ → LogLine
 four_words w p kind a =
     if is_word w (codes "fail") && is_word kind (codes "out") then out_line p a else other_line
 
-abbrev pub five_words : List ℕ → List ℕ → List ℕ → List ℕ → List ℕ → LogLine
-five_words w p kind a b =
-    if is_word w (codes "fail") && is_word kind (codes "cell") then cell_line p a b else other_line
+-- what stands before a chain's name in a fail line
+abbrev pub cell_word : LogForm → List ℕ
+cell_word FailLog = codes "cell"
+cell_word CompactLog = codes "chan"
 
-abbrev pub log_line : List (List ℕ) → LogLine
-log_line (w ∷ []) = one_word w
-log_line (w ∷ a ∷ []) = two_words w a
-log_line (w ∷ a ∷ b ∷ []) = three_words w a b
-log_line (w ∷ a ∷ b ∷ c ∷ []) = four_words w a b c
-log_line (w ∷ a ∷ b ∷ c ∷ d ∷ []) = five_words w a b c d
-log_line ws = other_line
+abbrev pub five_words : LogForm → List ℕ → List ℕ → List ℕ → List ℕ → List ℕ → LogLine
+five_words form w p kind a b =
+    if is_word w (codes "fail") && is_word kind (cell_word form) then cell_line p a b else other_line
+
+abbrev pub log_line : LogForm → LogVersion → List (List ℕ) → LogLine
+log_line form version (w ∷ []) = one_word w
+log_line form version (w ∷ a ∷ []) = two_words version w a
+log_line form version (w ∷ a ∷ b ∷ []) = three_words version w a b
+log_line form version (w ∷ a ∷ b ∷ c ∷ []) = four_words w a b c
+log_line form version (w ∷ a ∷ b ∷ c ∷ d ∷ []) = five_words form w a b c d
+log_line form version ws = other_line
 
 abbrev pub is_end : LogLine → Bool
 is_end end_line = true
@@ -100,18 +126,57 @@ abbrev pub is_design : LogLine → Bool
 is_design (design_line w) = true
 is_design l = false
 
--- the first line with words
-abbrev pub is_title : List (List ℕ) → Bool
-is_title (w ∷ v ∷ []) = is_word w (codes "FAILLOG") && is_word v (codes "1")
-is_title ws = false
+-- a fail line or a cut line
+abbrev pub is_entry : LogLine → Bool
+is_entry (out_line p n) = true
+is_entry (cell_line p c pos) = true
+is_entry cut_out_line = true
+is_entry (cut_chain_line w) = true
+is_entry l = false
 
-abbrev pub without_first : List (List (List ℕ)) → List (List (List ℕ))
-without_first [] = []
-without_first (ws ∷ more) = more
+-- ---- the title, which is the first line with words
+
+abbrev pub title_word : LogForm → List ℕ
+title_word FailLog = codes "FAILLOG"
+title_word CompactLog = codes "COMPLOG"
+
+-- the logs of compactors have one version
+abbrev pub is_second : LogForm → List ℕ → Bool
+is_second FailLog v = is_word v (codes "2")
+is_second CompactLog v = false
+
+abbrev pub version_named : LogForm → List ℕ → Option LogVersion
+version_named form v = if is_word v (codes "1") then Some First else if is_second form v then Some Second else None
+
+-- the version that a title names, and none for a line that is no title
+abbrev pub title_version : LogForm → List (List ℕ) → Option LogVersion
+title_version form (w ∷ v ∷ []) = if is_word w (title_word form) then version_named form v else None
+title_version form ws = None
+
+-- the version that the lines behind this first line are read by
+abbrev pub version_of : LogForm → List (List ℕ) → LogVersion
+version_of form ws = unwrap_or (title_version form ws) First
+
+-- the lines with words
+abbrev pub filled_lines : List (List ℕ) → List (List (List ℕ))
+filled_lines ls = filter has_words (word_lines ls)
+
+-- the version by the first of these, if there is one
+abbrev pub first_version : LogForm → List (List (List ℕ)) → Option LogVersion
+first_version form [] = None
+first_version form (ws ∷ more) = Some (version_of form ws)
+
+-- the version by the title, once a line with words came
+abbrev pub title_of : LogForm → List (List ℕ) → Option LogVersion
+title_of form ls = first_version form (filled_lines ls)
+
+abbrev pub lines_after : LogForm → List (List (List ℕ)) → List LogLine
+lines_after form [] = []
+lines_after form (ws ∷ more) = map (log_line form (version_of form ws)) more
 
 -- the lines with words, after the first of them, by their forms
-abbrev pub later_lines : List (List ℕ) → List LogLine
-later_lines ls = map log_line (without_first (filter has_words (word_lines ls)))
+abbrev pub later_lines : LogForm → List (List ℕ) → List LogLine
+later_lines form ls = lines_after form (filled_lines ls)
 
 -- ---- the rules of a later line that no closing line precedes
 
@@ -150,6 +215,9 @@ has_bad_range frame l = false
 abbrev pub has_output : LogFrame → List ℕ → Bool
 has_output frame w = list_any (bytes_eq w) frame.outputs
 
+abbrev pub has_chain : LogFrame → List ℕ → Bool
+has_chain frame w = list_any (bytes_eq w) frame.chains
+
 -- the length of the chain with the name, and 0 where there is none
 abbrev pub chain_length : LogFrame → List ℕ → ℕ
 chain_length frame w = slice_index frame.lengths (position_or_len (bytes_eq w) frame.chains)
@@ -160,6 +228,7 @@ has_cell frame w pos = nat_lt pos (chain_length frame w)
 abbrev pub is_nowhere : LogFrame → LogLine → Bool
 is_nowhere frame (out_line p n) = not (has_output frame n)
 is_nowhere frame (cell_line p c pos) = not (has_cell frame c (number pos))
+is_nowhere frame (cut_chain_line w) = not (has_chain frame w)
 is_nowhere frame l = false
 
 -- the pattern that a fail line names
@@ -168,76 +237,84 @@ pattern_named (out_line p n) = number_of p
 pattern_named (cell_line p c pos) = number_of p
 pattern_named l = None
 
--- the header lines that came: whether a `die` and a `design` line, and the range of the first `tested` line
+-- the lines that came: whether a `die` and a `design` line, the ranges of the `tested` lines, and whether a fail or cut line
 pub record Headers : Type 0 where
   pub die : Bool
   pub design : Bool
-  pub tested : Option (ℕ × ℕ)
+  pub ranges : List Range
+  pub begun : Bool
 
-abbrev pub range_of : LogLine → Option (ℕ × ℕ)
-range_of (tested_line a b) = Some (number a, number b)
+abbrev pub range_of : LogLine → Option Range
+range_of (tested_line a b) = Some (record { first = number a; last = number b })
 range_of l = None
 
 abbrev pub headers_in : List LogLine → Headers
-headers_in ls = record { die = list_any is_die ls; design = list_any is_design ls; tested = slice_get (filter_map range_of ls) 0 }
+headers_in ls = record { die = list_any is_die ls; design = list_any is_design ls; ranges = filter_map range_of ls; begun = list_any is_entry ls }
 
--- rule 59: a tested line came, and the pattern is not in its range
-abbrev pub is_outside : ℕ × ℕ → ℕ → Bool
-is_outside range p = nat_lt p range.0 || nat_lt range.1 p
+-- rule 59: a tested line came, and none holds the pattern
+abbrev pub has_ranges : List Range → Bool
+has_ranges ranges = nat_lt 0 (length ranges)
 
-abbrev pub is_untested : Option (ℕ × ℕ) → Option ℕ → Bool
-is_untested (Some range) (Some p) = is_outside range p
-is_untested tested pattern = false
+abbrev pub is_untested : List Range → Option ℕ → Bool
+is_untested ranges None = false
+is_untested ranges (Some p) = has_ranges ranges && not (some_holds ranges p)
 
 -- rule 60
 abbrev pub is_out_of_shift : LogFrame → LogLine → Bool
 is_out_of_shift frame (out_line p n) = slice_index_or frame.shifts (number p) false
 is_out_of_shift frame l = false
 
--- rule 63: a header line comes again, or a fail or closing line comes while one is missing
+-- rule 63: a header line comes again, other than `tested` in version 2, or a fail, cut or closing line comes while one is missing
 abbrev pub has_all : Headers → Bool
-has_all headers = headers.die && (headers.design && is_some headers.tested)
+has_all headers = headers.die && (headers.design && has_ranges headers.ranges)
 
-abbrev pub is_misplaced : Headers → LogLine → Bool
-is_misplaced headers (die_line w) = headers.die
-is_misplaced headers (design_line w) = headers.design
-is_misplaced headers (tested_line a b) = is_some headers.tested
-is_misplaced headers other_line = false
-is_misplaced headers l = not (has_all headers)
+abbrev pub is_first : LogVersion → Bool
+is_first First = true
+is_first Second = false
+
+abbrev pub is_misplaced : LogVersion → Headers → LogLine → Bool
+is_misplaced version headers (die_line w) = headers.die
+is_misplaced version headers (design_line w) = headers.design
+is_misplaced version headers (tested_line a b) = is_first version && has_ranges headers.ranges
+is_misplaced version headers other_line = false
+is_misplaced version headers l = not (has_all headers)
+
+-- rule 64: in version 2 a `tested` line comes after a fail or cut line
+abbrev pub is_late : LogVersion → Headers → LogLine → Bool
+is_late version headers (tested_line a b) = not (is_first version) && headers.begun
+is_late version headers l = false
 
 -- the rules of a later line, after these headers
-abbrev pub later_rules : LogFrame → Headers → LogLine → List (ℕ × Bool)
-later_rules frame headers l =
+abbrev pub later_rules : LogFrame → LogVersion → Headers → LogLine → List (ℕ × Bool)
+later_rules frame version headers l =
     (53, is_other l) ∷
     (54, has_no_number l) ∷
     (55, has_other_design frame l) ∷
     (56, has_other_die frame l) ∷
     (57, has_bad_range frame l) ∷
     (58, is_nowhere frame l) ∷
-    (59, is_untested headers.tested (pattern_named l)) ∷
+    (59, is_untested headers.ranges (pattern_named l)) ∷
     (60, is_out_of_shift frame l) ∷
-    (63, is_misplaced headers l) ∷ []
+    (63, is_misplaced version headers l) ∷
+    (64, is_late version headers l) ∷ []
 
 -- ---- the rules of a line
-
--- a line with words came
-abbrev pub is_titled : List (List ℕ) → Bool
-is_titled before = list_any has_words (word_lines before)
 
 -- a closing line came
 abbrev pub is_closed : List LogLine → Bool
 is_closed later = list_any is_end later
 
 -- the rule of the title where no line with words came, rule 62 alone after a closing line, and else those of a later line
-abbrev pub rules_of_words : LogFrame → Bool → Bool → Headers → List (List ℕ) → List (ℕ × Bool)
-rules_of_words frame titled closed headers ws =
-    if not (has_words ws) then []
-    else if not titled then (52, not (is_title ws)) ∷ []
-    else if closed then (62, true) ∷ []
-    else later_rules frame headers (log_line ws)
+abbrev pub rules_after : LogFrame → Option LogVersion → Bool → Headers → List (List ℕ) → List (ℕ × Bool)
+rules_after frame None closed headers ws = (52, not (is_some (title_version frame.form ws))) ∷ []
+rules_after frame (Some version) closed headers ws =
+    if closed then (62, true) ∷ [] else later_rules frame version headers (log_line frame.form version ws)
 
-abbrev pub log_rules : LogFrame → Bool → Bool → Headers → List ℕ → List (ℕ × Bool)
-log_rules frame titled closed headers line = (51, has_refused_byte line) ∷ rules_of_words frame titled closed headers (words line)
+abbrev pub rules_of_words : LogFrame → Option LogVersion → Bool → Headers → List (List ℕ) → List (ℕ × Bool)
+rules_of_words frame title closed headers ws = if not (has_words ws) then [] else rules_after frame title closed headers ws
+
+abbrev pub log_rules : LogFrame → Option LogVersion → Bool → Headers → List ℕ → List (ℕ × Bool)
+log_rules frame title closed headers line = (51, has_refused_byte line) ∷ rules_of_words frame title closed headers (words line)
 
 -- at the line after the last
 abbrev pub log_end_rules : Bool → Bool → List (ℕ × Bool)
@@ -246,8 +323,8 @@ log_end_rules titled closed = (52, not titled) ∷ (61, not closed) ∷ []
 -- the rules at the line i, which may be the one after the last
 abbrev pub log_table : LogFrame → List (List ℕ) → ℕ → List (ℕ × Bool)
 log_table frame ls i =
-    if i == length ls then log_end_rules (is_titled ls) (is_closed (later_lines ls))
-    else log_rules frame (is_titled (take i ls)) (is_closed (later_lines (take i ls))) (headers_in (later_lines (take i ls))) (line_at ls i)
+    if i == length ls then log_end_rules (is_some (title_of frame.form ls)) (is_closed (later_lines frame.form ls))
+    else log_rules frame (title_of frame.form (take i ls)) (is_closed (later_lines frame.form (take i ls))) (headers_in (later_lines frame.form (take i ls))) (line_at ls i)
 
 -- the line i breaks the rule
 abbrev pub log_breaks : LogFrame → List (List ℕ) → ℕ → ℕ → Bool
@@ -285,17 +362,41 @@ abbrev pub is_truncated : LogLine → Bool
 is_truncated truncated_line = true
 is_truncated l = false
 
-abbrev pub range_in : List LogLine → ℕ × ℕ
-range_in ls = slice_index_or (filter_map range_of ls) 0 (0, 0)
+-- the group that a line cuts
+abbrev pub group_cut : LogFrame → LogLine → Option CutGroup
+group_cut frame cut_out_line = Some Outputs
+group_cut frame (cut_chain_line w) = Some (Chain (position_or_len (bytes_eq w) frame.chains))
+group_cut frame l = None
+
+abbrev pub same_group : CutGroup → CutGroup → Bool
+same_group Outputs Outputs = true
+same_group Outputs (Chain h) = false
+same_group (Chain g) Outputs = false
+same_group (Chain g) (Chain h) = g == h
+
+-- the groups, each once, in the order in which they come first
+abbrev pub each_once : List CutGroup → List CutGroup
+each_once [] = []
+each_once (g ∷ gs) = g ∷ filter (λ h. not (same_group g h)) (each_once gs)
+
+abbrev pub is_in_group : CutGroup → Point → Bool
+is_in_group Outputs (Output k) = true
+is_in_group Outputs (Cell h pos) = false
+is_in_group (Chain g) (Output k) = false
+is_in_group (Chain g) (Cell h pos) = g == h
+
+-- those of these points that are in a group, by their places in rising order
+abbrev pub group_points : List Point → CutGroup → List ℕ
+group_points points g = filter (λ k. is_in_group g (slice_index_or points k (Output 0))) (range_with_len 0 (length points))
 
 abbrev pub log_of_lines : LogFrame → List LogLine → LogFacts
 log_of_lines frame ls = record {
-  first = (range_in ls).0;
-  last = (range_in ls).1;
+  ranges = filter_map range_of ls;
   truncated = list_any is_truncated ls;
   fails = bits_listed frame ls;
+  cuts = map (group_points frame.points) (each_once (filter_map (group_cut frame) ls));
 }
 
 -- what reading a log gives: its first fault, or the log that it stands for
 abbrev pub log_reading : LogFrame → List ℕ → Result LogFacts (ℕ × ℕ)
-log_reading frame bytes = refused_or (log_fault frame bytes) (log_of_lines frame (later_lines (text_lines bytes)))
+log_reading frame bytes = refused_or (log_fault frame bytes) (log_of_lines frame (later_lines frame.form (text_lines bytes)))

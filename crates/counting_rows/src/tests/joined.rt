@@ -3,7 +3,7 @@ ghost use Rattle.std.specs.Prelude.{◌≡◌, length, All, IfOk};
 ghost use Rattle.log_join.specs.Joining.{IsJoinedOf, FitsExpected};
 
 use log_join::Joined;
-use scan_model::{Bit, BitClass, Expected, LogFacts, NoMemory, Rows, Tri};
+use scan_model::{Bit, BitClass, Expected, LogFacts, NoMemory, Range, Rows, Tri};
 use std::alloc::Global;
 
 fn row(alloc: Global, first: Tri, second: Tri) -> Result<Rows<Tri>, NoMemory>
@@ -42,11 +42,12 @@ fn joined(alloc: Global) -> Result<Joined, NoMemory>
     ensures { IfOk result (IsJoinedOf 2 2) }
 {
     let fails = vec![in alloc; at(1, 0), at(0, 1)]?;
+    let ranges = vec![in alloc; Range { first: 0, last: 1 }]?;
     let facts = LogFacts {
-        first: 0,
-        last: 1,
+        ranges: Rows::from_vec(ranges),
         truncated: true,
         fails: Rows::from_vec(fails),
+        cuts: Rows::new(alloc),
     };
     let mut joined = Joined::make(alloc, 2, 2)?;
     joined.add(&facts);

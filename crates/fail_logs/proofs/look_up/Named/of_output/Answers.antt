@@ -1,11 +1,8 @@
-use Rattle.std.proofs.Common.{◌≡◌, Bool, true, false, not, is_some, sym, ap, ◌∙◌}
+use Rattle.std.proofs.Common.{not, is_some, refl, sym, ap, ◌∙◌}
 use Rattle.std.specs.Str.{bytes_eq}
 use Rattle.text_parts.proofs.Places.{any_position, position_or_length}
+use Rattle.fail_logs.proofs.Named.{turned}
 use Rattle.fail_logs.proofs.look_up.Named.of_output.Goals as goal
-
-turned : (a b : Bool) → a ≡ not b → b ≡ not a
-turned a true e = sym (ap not e)
-turned a false e = sym (ap not e)
 
 pub returns : goal.returns
 returns c =
@@ -13,6 +10,7 @@ returns c =
     record {
       pattern = c.number_of-pattern.ensures;
       point = c.unwrap_or.ensures ∙ rw (c.place-place.ensures, c.len.ensures) (position_or_length (bytes_eq c.args.name.now) outputs);
+      cut = refl;
       numberless = turned _ c.is_none.result c.is_none.ensures ∙ ap (λ o. not (is_some o)) c.number_of-pattern.ensures;
       nowhere = turned _ c.is_none-2.result c.is_none-2.ensures ∙ ap (λ o. not (is_some o)) c.place-place.ensures ∙ ap not (any_position (bytes_eq c.args.name.now) outputs);
     }

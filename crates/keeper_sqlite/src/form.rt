@@ -1,0 +1,64 @@
+//! The form of a store: whose tables it has, and how the logs of an older program are taken over.
+use crate::tables::make_tables;
+use sqlite::{Alter, Connection, Error, ErrorCode, Transaction, params};
+
+// The one row of `desk_schema` in a store of this program.
+const FORM: i64 = 2;
+
+/// Which program a store is of, by its table `desk_schema`.
+#[derive(Clone, Copy, Debug, PartialEq, Eq)]
+pub enum StoreForm {
+    /// New, or of a program before `desk_schema`: its logs are in `logs`.
+    Older,
+    /// This program's.
+    Ours,
+    /// Of a later program, which may have put anything elsewhere.
+    Later,
+}
+
+// Whether there is a table `desk_schema`.
+fn has_form<S: Alter>(conn: &mut Connection<S>) -> Result<bool, Error> {
+    let rows = conn.query_all(
+        "SELECT name FROM sqlite_schema WHERE lower(name) = 'desk_schema'",
+        params![],
+    )?;
+    Ok(!rows.is_empty())
+}
+
+/// Looks which program the store is of, and writes nothing.
+pub fn form_of<S: Alter>(conn: &mut Connection<S>) -> Result<StoreForm, Error> {
+    if !has_form(conn)? {
+        return Ok(StoreForm::Older);
+    }
+    let rows = conn.query_all("SELECT n FROM desk_schema", params![])?;
+    match rows.as_slice() {
+        [] => Ok(StoreForm::Older),
+        [row] if row.get::<i64>(0)? == FORM => Ok(StoreForm::Ours),
+        _ => Ok(StoreForm::Later),
+    }
+}
+
+// Moves the logs of an older program to where this one has them.
+fn take_logs_over<S: Alter>(change: &mut Transaction<'_, S>) -> Result<(), Error> {
+    change.execute(
+        "INSERT INTO logs2 (n, seat, design, die, body, version) SELECT n, seat, design, die, body, 1 FROM logs",
+        params![],
+    )?;
+    change.execute("DELETE FROM logs", params![])?;
+    change.execute("INSERT INTO desk_schema (n) VALUES (?1)", params![FORM])?;
+    Ok(())
+}
+
+/// Makes the tables that aren't there, and takes the logs of an older program over: all in one
+/// transaction, or nothing of it.
+pub fn make_ready<S: Alter>(conn: &mut Connection<S>, form: StoreForm) -> Result<(), Error> {
+    if !conn.is_autocommit() {
+        return Err(Error::SqliteFailure(ErrorCode::TransactionState));
+    }
+    let mut change = conn.transaction();
+    make_tables(&mut change)?;
+    if form == StoreForm::Older {
+        take_logs_over(&mut change)?;
+    }
+    change.commit()
+}
