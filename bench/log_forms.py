@@ -3,10 +3,12 @@
 
     python3 bench/log_forms.py OTHER BEFORE     (from the top; ./scandesk must have been built)
 
-OTHER writes the files of `demo 7 200` (`OTHER files 7 200 FOLDER`: four texts and the logs demo.log, each.log and many.log), as for bench/against.py; BEFORE is
-the program before logs of version 2. Each log is told as it is to both, and in version 2 to this one. Then a design of 256 chains of
-16 cells each and an output, with 512 patterns, is made, and a log of it with 200,000 failing bits, without cuts and with all 257 groups cut. Each row
-has the instructions in millions (valgrind's callgrind, in one thread) and their ratio to those of the first of its kind.
+OTHER writes the files of `demo 7 200` (`OTHER files 7 200 FOLDER`: four texts and the logs demo.log,
+each.log and many.log), as for bench/against.py; BEFORE is the program before logs of version 2.
+Each log is told as it is to both, and in version 2 to this one. Then a design of 256 chains of 16
+cells each and an output, with 512 patterns, is made, and a log of it with 200,000 failing bits,
+without cuts and with all 257 groups cut. Each row has the instructions in millions (valgrind's
+callgrind, on one processor) and their ratio to those of the first of its kind.
 """
 import os
 import subprocess
@@ -27,7 +29,7 @@ def second_version(folder, name):
 
 
 def made_design(folder):
-    """Many chains: each cell takes what the next one of its chain has, turned round, where the input is 1."""
+    """Many chains: each cell takes what the next of its chain has, turned round, where the input is 1."""
     cells = [[f'q{c}_{i}' for i in range(CELLS)] for c in range(CHAINS)]
     lines = ['INPUT(a)', 'OUTPUT(y)', 'y = AND(a, q0_0)']
     for chain in cells:

@@ -7,9 +7,10 @@ The first run is sent a design, a log and a sign-off, the files of FOLDER. What 
 tables below is made to a copy of that store by Python's sqlite3, and the program is run over the copy: it serves, and has the sign-off, or it ends
 by itself with a status and one line, and leaves the rows as they were.
 
-A store of the program before, which had no `desk_schema` and kept its logs in `logs`, is opened twice and has the same deeds. One of 2,000 logs is
-opened and the program is killed, at each of 30 moments; the next opening has them all. A store of a later program is refused, and its files are
-left byte for byte as they were. The last line tells how many runs were compared and how many were wrong.
+A store of the program before, which had no `desk_schema` and kept its logs in `logs`, is opened
+twice and has the same deeds. One of 2,000 logs is opened and the program is killed, at each of 30
+moments; the next opening has them all. A store of a later program is refused, and its file is left
+byte for byte as it was. The last line tells how many runs were compared and how many were wrong.
 """
 import os
 import shutil
@@ -149,7 +150,8 @@ def taken_over(designs, logs, signoffs, later=()):
 
 
 def has_report(program, folder, store, deeds, logs):
-    """Whether a run over the store has the report of the die that `diagnose` writes of its logs, and so many deeds."""
+    """Whether a run over the store has the report that `diagnose` writes of the die's logs, and so
+    many deeds."""
     names = []
     for i, log in enumerate(logs):
         names.append(os.path.join(os.path.dirname(store), f'{i}.log'))
@@ -163,7 +165,8 @@ def has_report(program, folder, store, deeds, logs):
 
 
 def old_store_is_taken_over(program, folder, store):
-    """Two designs, three logs and a sign-off: the same deeds at the first opening and the next, and then one log more."""
+    """Two designs, three logs and a sign-off: the same deeds at the first opening and the next, and
+    then one log more."""
     bundle, log = body_of(folder, 's27.bundle'), body_of(folder, 'one.log')
     second, third = log + b'# 2\n', log + b'# 3\n'
     designs = [(0, 4, b's27', bundle), (2, 0, b'other', bundle)]
@@ -209,8 +212,8 @@ def copy_store(store, to):
 
 
 def open_until(program, store, is_due):
-    """Opens a store, and kills the program at the first moment that is due, by the time since it was started and by what was written beside the
-    store, or where it serves. Tells the moment."""
+    """Opens a store, and kills the program at the first moment that is due, by the time since it was
+    started and by what was written beside the store, or where it serves. Tells the moment."""
     began = time.monotonic()
     with subprocess.Popen([program, 'serve', '18503', '1', '1', store], stdout=subprocess.PIPE) as opening:
         os.set_blocking(opening.stdout.fileno(), False)
@@ -223,7 +226,8 @@ def open_until(program, store, is_due):
 
 
 def moments(program, store, scratch):
-    """Moments of the first opening: half of them are spread over its time, and half over what it writes."""
+    """Moments of the first opening: half of them are spread over its time, and half over what it
+    writes."""
     copy_store(store, scratch)
     seconds, size = open_until(program, scratch, lambda seconds, size: False)
     for i in range(KILLS // 2):
@@ -261,8 +265,8 @@ def bytes_of(name):
 
 
 def is_left(program, store):
-    """Whether a run refuses the store and leaves its file byte for byte as it was, and the rows. (Opening a file sets a mark behind what is
-    written beside it, which is no row.)"""
+    """Whether a run refuses the store and leaves its file byte for byte as it was, and the rows.
+    (Opening a file sets a mark behind what is written beside it, which is no row.)"""
     copy_store(store, store + '-seen')
     file, log = bytes_of(store), bytes_of(beside(store)) if os.path.exists(beside(store)) else b''
     if not ends_with(program, store, 7, 'store fault') or bytes_of(store) != file or not bytes_of(beside(store)).startswith(log):

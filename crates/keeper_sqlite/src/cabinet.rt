@@ -9,9 +9,9 @@ use sqlite::{Connection, Error, File, FileStore};
 use std::alloc::Global;
 use std::rt::HostRuntime;
 
-/// Opens a database file for each keeper that it is asked for, makes its tables where they aren't there, and takes the logs of
-/// an older program over. A later program's file is a fault, and is left as it is. It counts its faults and tells nothing of
-/// the files.
+/// Opens a database file for each keeper that it is asked for, makes its tables where they aren't
+/// there, and takes the logs of an older program over. A later program's file is a fault, and is
+/// left as it is. It counts its faults and tells nothing of the files.
 #[derive(Drop)]
 pub struct SqliteCabinet {
     rt: HostRuntime,
@@ -27,7 +27,8 @@ impl SqliteCabinet {
     }
 }
 
-// Makes an open store ready, and answers the number of its next deed, or nothing where it is a later program's.
+// Makes an open store ready, and answers the number of its next deed, or nothing where it is a
+// later program's.
 fn prepared(conn: &mut Connection<FileStore<File>>) -> Result<Option<i64>, Error> {
     let form = form_of(conn)?;
     if form == StoreForm::Later {
@@ -43,7 +44,8 @@ fn opened(rt: &HostRuntime, name: &str) -> Result<(Connection<FileStore<File>>, 
         Ok(conn) => conn,
         Err(error) => return Err(fault_of(&error)),
     };
-    // Where it isn't made ready it is let go and not closed, since that would write into its file what is beside it.
+    // Where it isn't made ready it is let go and not closed, since that would write into its file
+    // what is beside it.
     match prepared(&mut conn) {
         Ok(Some(next)) => Ok((conn, next)),
         Ok(None) => Err(KeepFault::Failed),

@@ -49,7 +49,8 @@ fn take_logs_over<S: Alter>(change: &mut Transaction<'_, S>) -> Result<(), Error
     Ok(())
 }
 
-/// Makes the tables that aren't there, and takes the logs of an older program over: all in one transaction, or nothing of it.
+/// Makes the tables that aren't there, and takes the logs of an older program over: all in one
+/// transaction, or nothing of it.
 pub fn make_ready<S: Alter>(conn: &mut Connection<S>, form: StoreForm) -> Result<(), Error> {
     if !conn.is_autocommit() {
         return Err(Error::SqliteFailure(ErrorCode::TransactionState));

@@ -1,4 +1,5 @@
-//! The tables of a store. The number of a deed, from 0, runs over three of them together: `designs`, `logs2` and `signoffs`.
+//! The tables of a store. The number of a deed, from 0, runs over three of them together:
+//! `designs`, `logs2` and `signoffs`.
 use sqlite::{Alter, Connection, Error, Transaction, params};
 
 const TABLES: &str =

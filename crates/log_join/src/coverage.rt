@@ -80,7 +80,18 @@ fn find_ends(ends: &mut [u32], marks: &mut [bool], patterns: u32, points: u32, f
     cut_groups(ends, marks, facts);
 }
 
-/// Covers those of the 64 patterns from 64 * word on that the mask names, at each point before its end.
+/// Covers those of the 64 patterns from 64 * word on that the mask names, at all points.
+fn cover_whole_word(words: &mut [u64], points: usize, word: usize, mask: u64)
+    requires { word * points + points ≤ length words.old }
+    ensures { (w k : ℕ) → k < points → table_bit words.new points w k ≡ ((w / 64 == word) && (bit_at mask (w % 64) == 1) || table_bit words.old points w k) }
+{
+    for point in 0..points {
+        set_bits(words, points, word, point, mask);
+    }
+}
+
+/// Covers those of the 64 patterns from 64 * word on that the mask names, at each point before its
+/// end.
 fn cover_word(words: &mut [u64], points: usize, word: usize, mask: u64, ends: &[u32])
     requires few { word < 2 ^ 32 }
     requires ends { length ends.now ≡ points }
@@ -94,6 +105,34 @@ fn cover_word(words: &mut [u64], points: usize, word: usize, mask: u64, ends: &[
     }
 }
 
+/// The tested patterns at each point before its end, of the 64 from 64 * word on. Points that end
+/// later need no masks of their own.
+fn cover_tested(words: &mut [u64], points: usize, word: usize, mask: u64, ends: &[u32], least: u32)
+    requires few { word < 2 ^ 32 }
+    requires ends { length ends.now ≡ points }
+    requires least { All (λ end. least ≤ end) ends.now }
+    requires inside { word * points + points ≤ length words.old }
+    ensures { (w k : ℕ) → k < points → table_bit words.new points w k
+        ≡ ((w / 64 == word) && ((bit_at mask (w % 64) == 1) && nat_lt w (slice_index_or ends.now k 0)) || table_bit words.old points w k) }
+{
+    if word < least as usize / 64 {
+        cover_whole_word(words, points, word, mask);
+    } else {
+        cover_word(words, points, word, mask, ends);
+    }
+}
+
+/// The least of the ends.
+fn least_end(ends: &[u32]) -> u32
+    ensures { All (λ end. result ≤ end) ends.now }
+{
+    let mut least = u32::MAX;
+    for i in 0..ends.len() {
+        least = least.min(ends[i]);
+    }
+    least
+}
+
 /// Covers the tested patterns at each point before its end.
 fn cover_words(words: &mut [u64], points: usize, tested: &[u64], ends: &[u32])
     requires few { length tested.now ≤ 2 ^ 32 }
@@ -102,9 +141,10 @@ fn cover_words(words: &mut [u64], points: usize, tested: &[u64], ends: &[u32])
     ensures { (w k : ℕ) → k < points → table_bit words.new points w k
         ≡ (table_bit tested.now 1 w 0 && nat_lt w (slice_index_or ends.now k 0) || table_bit words.old points w k) }
 {
+    let least = least_end(ends);
     for word in 0..tested.len() {
         if tested[word] != 0 {
-            cover_word(words, points, word, tested[word], ends);
+            cover_tested(words, points, word, tested[word], ends, least);
         }
     }
 }

@@ -58,7 +58,8 @@ fn cut_group(ends: &mut [u32], marks: &mut [bool], group: &[u32], facts: &LogFac
     cut_ends(ends, group, reach);
 }
 
-/// Takes the ends of each group that the tester cut on its own back to the last failing bit at its points.
+/// Takes the ends of each group that the tester cut on its own back to the last failing bit at its
+/// points.
 pub fn cut_groups(ends: &mut [u32], marks: &mut [bool], facts: &LogFacts)
     requires fails { All FitsWords facts.now.fails }
     requires points { All (λ b. b.point < length ends.old) facts.now.fails }
