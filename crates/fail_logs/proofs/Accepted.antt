@@ -1,7 +1,7 @@
 -- What is known of the later lines of a log without a fault.
 use Rattle.std.proofs.Common.{◌≡◌, ℕ, zero, suc, ◌+◌, ◌*◌, ◌/◌, ◌<◌, ◌≤◌, Bool, true, false, not, ◌||◌, ◌&&◌, ltb, leb, List, [], ◌∷◌, ◌++◌, length, take, Option, Some, None, refl, sym, subst, ap, ◌∙◌, arith, append-nil, append_assoc}
 use Rattle.std.specs.Prelude.{filter_map, All, option_to_list}
-use Rattle.std.specs.List.{list_any, position_or_len, AllByRecursion}
+use Rattle.std.specs.List.{AllByRecursion}
 use Rattle.std.specs.Str.{bytes_eq}
 use Rattle.std.proofs.lemmas.Bool.{and_parts, leb-true}
 use Rattle.std.proofs.lemmas.Bool.Decides.{nat_tests}
@@ -11,7 +11,6 @@ use Rattle.std.proofs.lemmas.List.Elements.{All-nil, All-cons, All-append}
 use Rattle.std.proofs.lemmas.List.Folds.{Any-from_list_any, list_any-append}
 use Rattle.scan_model.specs.declared.logs.Range.{Range}
 use Rattle.scan_model.specs.declared.logs.LogVersion.{LogVersion}
-use Rattle.scan_model.specs.declared.logs.CutGroup.{CutGroup}
 use Rattle.scan_model.specs.Coverage.{some_holds}
 use Rattle.scan_model.specs.Lines.{text_lines, line_at}
 use Rattle.scan_model.specs.Words.{words, word_lines, has_words}

@@ -1,22 +1,20 @@
 -- A log of version 1 still says what it said when version 1 was the only one.
-use Rattle.std.proofs.Common.{◌≡◌, ℕ, zero, suc, ◌+◌, ◌<◌, ◌≤◌, Bool, true, false, not, cond, eqb, ltb, leb, ◌&&◌, ◌||◌, List, [], ◌∷◌, ◌++◌, length, map, take, drop, get_or, Option, Some, None, is_some, unwrap_or, Result, Ok, Err, refl, sym, subst, ap, ◌∙◌, inl, inr, arith, append-nil}
-use Rattle.std.specs.Prelude.{codes, filter, filter_map, slice_get, option_map, option_to_list}
+use Rattle.std.proofs.Common.{◌≡◌, ℕ, zero, suc, ◌+◌, ◌<◌, ◌≤◌, Bool, true, false, not, cond, ltb, leb, ◌&&◌, ◌||◌, List, [], ◌∷◌, ◌++◌, length, map, take, drop, Option, Some, None, is_some, unwrap_or, Result, Ok, Err, refl, sym, subst, ap, ◌∙◌, inl, inr, arith, append-nil}
+use Rattle.std.specs.Prelude.{codes, filter, filter_map, slice_get, option_map}
 use Rattle.std.specs.List.{list_any}
 use Rattle.std.proofs.lemmas.Bool.{and_parts, cases_lt, both_ways, lt-ltb, le-ltb, le-leb, lt-leb}
 use Rattle.std.proofs.lemmas.List.{take_more, take_all, map_push, map-append, take-append-drop, length-append}
 use Rattle.std.proofs.lemmas.List.Elements.{filter-append, filter_map-append}
 use Rattle.std.proofs.lemmas.List.Folds.{list_any-append}
-use Rattle.scan_model.specs.declared.logs.Bit.{Bit}
 use Rattle.scan_model.specs.declared.logs.Range.{Range}
-use Rattle.scan_model.specs.declared.logs.CutGroup.{CutGroup}
 use Rattle.scan_model.specs.declared.logs.LogFacts.{LogFacts}
 use Rattle.scan_model.specs.declared.logs.LogForm.TheVariants.{FailLog}
 use Rattle.scan_model.specs.declared.logs.LogVersion.{LogVersion}
-use Rattle.scan_model.specs.declared.logs.LogVersion.TheVariants.{First, Second}
-use Rattle.scan_model.specs.Coverage.{some_holds, covers, not_after}
+use Rattle.scan_model.specs.declared.logs.LogVersion.TheVariants.{First}
+use Rattle.scan_model.specs.Coverage.{not_after}
 use Rattle.scan_model.specs.Lines.{text_lines, line_at, has_refused_byte}
 use Rattle.scan_model.specs.Words.{words, word_lines, has_words}
-use Rattle.scan_model.specs.TextFaults.{lowest, or_else, fault_from, first_fault, refused_or}
+use Rattle.scan_model.specs.TextFaults.{lowest, fault_from, first_fault, refused_or}
 use Rattle.scan_model.specs.LogText as new
 use Rattle.scan_model.specs.ScanTest.{ScanTest}
 use Rattle.scan_model.specs.LogText.{LogFrame, log_frame, LogLine, Headers, die_line, design_line, tested_line, out_line, cell_line, cut_out_line, cut_chain_line, end_line, truncated_line, other_line, is_word, range_of, group_cut, has_ranges, has_all, is_misplaced, is_late, is_untested, pattern_named, is_end, is_die, is_design, is_entry, headers_in, number, first_version, lines_after, version_of, title_version}

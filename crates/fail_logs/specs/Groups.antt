@@ -1,5 +1,5 @@
 -- The groups of points that a tester can cut on their own, by rows: that of the outputs, then one for each chain.
-use Rattle.std.specs.Prelude.{ℕ, ◌+◌, ◌==◌, ◌<◌, List, length, filter, slice_index_or}
+use Rattle.std.specs.Prelude.{ℕ, ◌+◌, ◌==◌, ◌<◌, List, filter, slice_index_or}
 use Rattle.std.specs.List.{range_with_len}
 use Rattle.scan_model.specs.declared.parts.Point.{Point}
 use Rattle.scan_model.specs.declared.parts.Point.TheVariants.{Output, Cell}

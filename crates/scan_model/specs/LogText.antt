@@ -1,5 +1,5 @@
 -- Fail logs, and logs of the points that a compactor leaves.
-use Rattle.std.specs.Prelude.{ℕ, ◌+◌, Bool, true, false, not, ◌&&◌, ◌||◌, ◌==◌, nat_lt, nat_le, if◌then◌else◌, is_some, List, [], ◌∷◌, length, map, take, filter, filter_map, flat_map, slice_index, slice_index_or, slice_get, Option, Some, None, unwrap_or, codes, Result}
+use Rattle.std.specs.Prelude.{ℕ, ◌+◌, Bool, true, false, not, ◌&&◌, ◌||◌, ◌==◌, nat_lt, nat_le, if◌then◌else◌, is_some, List, [], ◌∷◌, length, map, take, filter, filter_map, flat_map, slice_index, slice_index_or, Option, Some, None, unwrap_or, codes, Result}
 use Rattle.std.specs.List.{list_any, position_or_len, range_with_len}
 use Rattle.std.specs.Str.{bytes_eq}
 use Rattle.scan_model.specs.Lines.{text_lines, line_at, has_refused_byte}

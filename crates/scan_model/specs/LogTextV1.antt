@@ -8,7 +8,7 @@ use Rattle.scan_model.specs.TextFaults.{lowest, first_fault, refused_or}
 use Rattle.scan_model.specs.declared.logs.Bit.{Bit}
 use Rattle.scan_model.specs.declared.logs.LogForm.TheVariants.{FailLog}
 use Rattle.scan_model.specs.Coverage.{not_after}
-use Rattle.scan_model.specs.LogText.{LogFrame, LogLine, die_line, design_line, tested_line, out_line, cell_line, other_line, is_word, one_word, four_words, five_words, is_end, is_die, is_design, is_truncated, is_other, number, has_no_number, has_other_design, has_other_die, has_bad_range, is_nowhere, pattern_named, is_out_of_shift, log_end_rules, bits_listed}
+use Rattle.scan_model.specs.LogText.{LogFrame, LogLine, die_line, design_line, tested_line, other_line, is_word, one_word, four_words, five_words, is_end, is_die, is_design, is_truncated, is_other, number, has_no_number, has_other_design, has_other_die, has_bad_range, is_nowhere, pattern_named, is_out_of_shift, log_end_rules, bits_listed}
 
 -- ---- what a log says
 

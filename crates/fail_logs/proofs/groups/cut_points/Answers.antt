@@ -1,6 +1,6 @@
 use Rattle.std.proofs.Common.{◌≡◌, ℕ, ◌+◌, List, [], length, map, get_or, ap, ◌∙◌, Ok, Err, Result, Vec, Global}
 use Rattle.std.specs.Prelude.{IfOk}
-use Rattle.scan_model.specs.LogText.{each_once, group_points}
+use Rattle.scan_model.specs.LogText.{each_once}
 use Rattle.fail_logs.specs.Frames.{rows_view}
 use Rattle.fail_logs.specs.Groups.{row_of}
 use Rattle.fail_logs.proofs.CutGroups.{rows_inside, copies_are}
@@ -18,8 +18,8 @@ returns c =
     let rows : c.deref.result.now ≡ c.in_ok-rows.rows.items = c.deref.ensures.value in
     ok_more c.copied.result c.copied.ensures
     (ap (λ (v : List (Vec ℕ Global)). map (λ r. get_or (rows_view v) r []) c.deref-2.result.now) rows
-        ∙ ap (map (λ r. get_or (rows_view c.in_ok-rows.rows.items) r [])) places
-        ∙ copies_are c.args.chains c.args.groups.now c.requires.groups (rows_view c.in_ok-rows.rows.items) c.args.points.now c.in_ok-rows.ensures.1)
+    ∙ ap (map (λ r. get_or (rows_view c.in_ok-rows.rows.items) r [])) places
+    ∙ copies_are c.args.chains c.args.groups.now c.requires.groups (rows_view c.in_ok-rows.rows.items) c.args.points.now c.in_ok-rows.ensures.1)
   where
     ok_more : {X E : Type 0} {a b : X} (r : Result X E) → IfOk r (λ x. x ≡ a) → a ≡ b → IfOk r (λ x. x ≡ b)
     ok_more (Ok x) is same = is ∙ same

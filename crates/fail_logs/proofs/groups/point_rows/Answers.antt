@@ -1,4 +1,4 @@
-use Rattle.std.proofs.Common.{◌≡◌, ℕ, ◌+◌, ◌<◌, List, [], ◌∷◌, ◌++◌, get_or, set, sym, ap, ◌∙◌, arith, Vec, Global}
+use Rattle.std.proofs.Common.{ℕ, ◌+◌, ◌<◌, List, [], ◌∷◌, ◌++◌, get_or, set, sym, ap, ◌∙◌, arith, Vec, Global}
 use Rattle.std.proofs.lemmas.List.{map-set, get_or-map, length-set, length-map}
 use Rattle.fail_logs.specs.Frames.{rows_view}
 use Rattle.fail_logs.proofs.CutGroups.{put_point, pass_point}

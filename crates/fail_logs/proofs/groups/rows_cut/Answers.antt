@@ -1,4 +1,4 @@
-use Rattle.std.proofs.Common.{◌≡◌, ℕ, ◌+◌, ◌<◌, true, false, List, [], ◌∷◌, ◌++◌, length, take, get_or, sym, ap, ◌∙◌, arith, rules}
+use Rattle.std.proofs.Common.{◌≡◌, ℕ, ◌+◌, ◌<◌, true, false, List, [], ◌∷◌, ◌++◌, take, get_or, sym, ◌∙◌, arith, rules}
 use Rattle.std.proofs.lemmas.List.{take_more, length-set, get_or_default}
 use Rattle.scan_model.specs.declared.logs.CutGroup.{CutGroup}
 use Rattle.scan_model.specs.declared.logs.CutGroup.TheVariants.{Outputs}

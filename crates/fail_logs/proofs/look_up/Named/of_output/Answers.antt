@@ -1,4 +1,4 @@
-use Rattle.std.proofs.Common.{not, is_some, refl, sym, ap, ◌∙◌}
+use Rattle.std.proofs.Common.{not, is_some, refl, ap, ◌∙◌}
 use Rattle.std.specs.Str.{bytes_eq}
 use Rattle.text_parts.proofs.Places.{any_position, position_or_length}
 use Rattle.fail_logs.proofs.Named.{turned}

@@ -1,4 +1,4 @@
-use Rattle.std.proofs.Common.{arith, rules}
+use Rattle.std.proofs.Common.{arith}
 use Rattle.fail_logs.proofs.Marks.{past_marks}
 use Rattle.fail_logs.proofs.tested.Tested.holds.Goals as goal
 
