@@ -21,7 +21,7 @@ pub use bits::{bit, set_bit, set_bits, write_bit};
 pub use circuit::{Circuit, Driver, GateKind, MakeFault, Net, Pin, PinPlace};
 pub use digest::Digest;
 pub use expected::Expected;
-pub use fault::{BridgeKind, CellKind, Fault, Stuck};
+pub use fault::{BridgeKind, CellKind, Fault, Profile, Stuck};
 pub use logs::{Bit, BitClass, Counts, LogFacts, Scored};
 pub use pair_index::{PairPlace, nets_number};
 pub use parts::{Chain, Pair, Pairs, Parts, Pattern, PatternKind, Point};

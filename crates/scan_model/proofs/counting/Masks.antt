@@ -14,13 +14,15 @@ use Rattle.scan_model.specs.declared.parts.Point.{Point}
 use Rattle.scan_model.specs.declared.parts.PatternKind.TheVariants.{Capture, Shift}
 use Rattle.scan_model.specs.declared.fault.Stuck.{Stuck}
 use Rattle.scan_model.specs.declared.fault.BridgeKind.{BridgeKind}
+use Rattle.scan_model.specs.declared.fault.BridgeKind.TheVariants.{Dominant, WiredAnd, WiredOr, DominantAnd, DominantOr}
 use Rattle.scan_model.specs.declared.fault.Fault.{Fault}
 use Rattle.scan_model.specs.declared.fault.Fault.TheVariants as fault
 use Rattle.scan_model.specs.Values.{are_opposite, tri_not, gate_value}
 use Rattle.scan_model.specs.Netlist.{IsNetlist, IsPlacedAt, is_gate, is_gate_driver, driver_of, net_at, pin_at, operands}
 use Rattle.scan_model.specs.Walks.{IsEvaluationOrder}
 use Rattle.scan_model.specs.ScanTest.{ScanTest, IsScanTest, IsPoint, HasSite, pattern_at, points_of, point_at}
-use Rattle.scan_model.specs.Faults.{stuck_value, bridged}
+use Rattle.scan_model.specs.Faults.{stuck_value, bridged, takes}
+use Rattle.scan_model.specs.Cone.{in_fan_in}
 use Rattle.scan_model.specs.NetValue.{Forced, seen, driven, values_of, source_of, nothing_forced, good_value, net_value, pin_value}
 use Rattle.scan_model.specs.Universe.{universe}
 use Rattle.scan_model.specs.Coverage.{bit_of}
@@ -28,6 +30,7 @@ use Rattle.scan_model.specs.Response.{observed, predicts_fail}
 use Rattle.scan_model.specs.Suspect.{observed_net}
 use Rattle.scan_model.proofs.NetValues.{values_of-is}
 use Rattle.scan_model.proofs.Sites.{site_of}
+use Rattle.scan_model.proofs.FanSweeps.{in_own}
 use Rattle.scan_model.specs.Force.{force}
 use Rattle.scan_model.specs.Masks.{point_pin, flipped, flip_shows_at, flip_shows, is_operand_of, forced_output, mask, operand_is_point, place_is_point, straight_at, straight, place_nets, touched_nets, IsLogic}
 use Rattle.scan_model.proofs.counting.Valuations.{valuation_is}
@@ -124,11 +127,42 @@ module _ (t : ScanTest) (sound : IsScanTest t) (order : List ℕ) (ordered : IsE
         ap (λ (F : Forced). are_opposite (good o) (values_of t.netlist s F o)) (bridge_other a b x)
         ∙ ap (are_opposite (good o)) (one_of_two t.netlist order net_sound ordered s b a x site.1 is free.1 o lt) ∙ force_shows a x o lt ∙ sym (rw off (or_false (A && flip_shows_at t w a p)))
 
-    bridge_shows : are_opposite (good (observed_net t p)) (pin_value t (Some (fault.Bridge a b kind)) w (point_pin t p)) ≡ predicted (fault.Bridge a b kind) p
-    bridge_shows =
-        ap (λ (q : ℕ). are_opposite (good (observed_net t p)) (values_of t.netlist s (force_two a b x) q)) (point_pin-net t sound p is_point)
+    -- the forced nets, by who takes the value
+    abbrev forced_as : (Bool → Bool → Bool) → Forced
+    forced_as g = record { net = λ n. cond (g (eqb n a) (eqb n b)) (Some x) None; pin = λ q. None }
+
+    same_force : (g : Bool → Bool → Bool) → ((y z : Bool) → takes kind y z ≡ g y z) → forced_as (takes kind) ≡ forced_as g
+    same_force g same = ap (λ (f : ℕ → Option Tri). let F : Forced = record { net = f; pin = λ q. None } in F) (fun_ext (λ n. ap (λ (c : Bool). cond c (Some x) None) (same (eqb n a) (eqb n b))))
+
+    seen_as : (g : Bool → Bool → Bool) → ((y z : Bool) → takes kind y z ≡ g y z) → are_opposite (good (observed_net t p)) (pin_value t (Some (fault.Bridge a b kind)) w (point_pin t p)) ≡ are_opposite (good (observed_net t p)) (values_of t.netlist s (forced_as g) (observed_net t p))
+    seen_as g same =
+        ap (λ (q : ℕ). are_opposite (good (observed_net t p)) (values_of t.netlist s (forced_as (takes kind)) q)) (point_pin-net t sound p is_point)
+        ∙ ap (λ (F : Forced). are_opposite (good (observed_net t p)) (values_of t.netlist s F (observed_net t p))) (same_force g same)
+
+    both_take : ((y z : Bool) → takes kind y z ≡ (y || z)) → are_opposite (good (observed_net t p)) (pin_value t (Some (fault.Bridge a b kind)) w (point_pin t p)) ≡ predicted (fault.Bridge a b kind) p
+    both_take same =
+        seen_as (λ y z. y || z) same
         ∙ one_forced (one_site kind (good a) (good b))
-        ∙ sym (rw (eq-eqb a a refl, eq-eqb b b refl, or_true (eqb b a)) (or_false ((A && flip_shows_at t w a p) || ((B && flip_shows_at t w b p) || false)) ∙ ap (λ (y : Bool). (A && flip_shows_at t w a p) || y) (or_false (B && flip_shows_at t w b p))))
+        ∙ sym (rw (same (eqb a a) (eqb a b), same (eqb b a) (eqb b b), eq-eqb a a refl, eq-eqb b b refl, or_true (eqb b a)) (or_false ((A && flip_shows_at t w a p) || ((B && flip_shows_at t w b p) || false)) ∙ ap (λ (y : Bool). (A && flip_shows_at t w a p) || y) (or_false (B && flip_shows_at t w b p))))
+
+    apart : a ≢ b
+    apart same = both_ways (in_fan_in t.netlist b a) free.0 (ap (in_fan_in t.netlist b) same ∙ in_own t.netlist b)
+
+    second_takes : ((y z : Bool) → takes kind y z ≡ z) → are_opposite (good (observed_net t p)) (pin_value t (Some (fault.Bridge a b kind)) w (point_pin t p)) ≡ predicted (fault.Bridge a b kind) p
+    second_takes same =
+        seen_as (λ y z. z) same
+        ∙ force_shows b x (observed_net t p) lt
+        ∙ sym (rw (same (eqb a a) (eqb a b), same (eqb b a) (eqb b b), ne_eqb a b apart, eq-eqb b b refl) (or_false ((B && flip_shows_at t w b p) || false) ∙ or_false (B && flip_shows_at t w b p)))
+
+    bridge_by : (k : BridgeKind) → k ≡ kind → are_opposite (good (observed_net t p)) (pin_value t (Some (fault.Bridge a b kind)) w (point_pin t p)) ≡ predicted (fault.Bridge a b kind) p
+    bridge_by Dominant is = both_take (λ y z. ap (λ (k : BridgeKind). takes k y z) (sym is))
+    bridge_by WiredAnd is = both_take (λ y z. ap (λ (k : BridgeKind). takes k y z) (sym is))
+    bridge_by WiredOr is = both_take (λ y z. ap (λ (k : BridgeKind). takes k y z) (sym is))
+    bridge_by DominantAnd is = second_takes (λ y z. ap (λ (k : BridgeKind). takes k y z) (sym is))
+    bridge_by DominantOr is = second_takes (λ y z. ap (λ (k : BridgeKind). takes k y z) (sym is))
+
+    bridge_shows : are_opposite (good (observed_net t p)) (pin_value t (Some (fault.Bridge a b kind)) w (point_pin t p)) ≡ predicted (fault.Bridge a b kind) p
+    bridge_shows = bridge_by kind refl
 
   -- ---- branches
 
