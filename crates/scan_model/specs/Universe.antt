@@ -32,6 +32,11 @@ abbrev pub bridge_faults : Profile → Pair → List Fault
 bridge_faults One p = common_bridges p
 bridge_faults Two p = common_bridges p ++ one_sided_bridges p
 
+-- how many there are of each pair
+abbrev pub bridges_per_pair : Profile → ℕ
+bridges_per_pair One = 4
+bridges_per_pair Two = 8
+
 abbrev pub cell_faults : ℕ → ℕ → List Fault
 cell_faults h i = Cell h i Stuck0 ∷ Cell h i Stuck1 ∷ Cell h i SlowRise ∷ Cell h i SlowFall ∷ []
 

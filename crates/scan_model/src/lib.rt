@@ -3,6 +3,7 @@
 
 mod bits;
 mod branches;
+mod bridge;
 mod circuit;
 mod cones;
 mod digest;
@@ -18,6 +19,7 @@ mod test_order;
 mod values;
 
 pub use bits::{bit, set_bit, set_bits, write_bit};
+pub use bridge::Joins;
 pub use circuit::{Circuit, Driver, GateKind, MakeFault, Net, Pin, PinPlace};
 pub use digest::Digest;
 pub use expected::Expected;

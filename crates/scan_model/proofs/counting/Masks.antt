@@ -2,7 +2,7 @@
 use Rattle.std.proofs.Common.{◌≡◌, ◌≢◌, ◌⊎◌, ℕ, zero, suc, ◌+◌, ◌<◌, Bool, true, false, cond, eqb, ◌&&◌, ◌||◌, List, [], ◌∷◌, length, map, Option, Some, None, refl, sym, ap, subst, ◌∙◌, inl, inr, arith}
 use Rattle.std.specs.Prelude.{Contains}
 use Rattle.std.specs.List.{range_with_len, list_any}
-use Rattle.std.proofs.lemmas.Bool.{cases_Bool, cases_eq, eq-eqb, ne_eqb, both_ways}
+use Rattle.std.proofs.lemmas.Bool.{cases_Bool, cases_eq, eq-eqb, eqb-true, ne_eqb, both_ways, and_from, and_left, and_right, or_cases}
 use mathlib.Core.Path.{fun_ext}
 use Rattle.scan_model.specs.declared.values.Tri.{Tri}
 use Rattle.scan_model.specs.declared.circuit.Driver.{Driver}
@@ -254,3 +254,49 @@ module _ (t : ScanTest) (sound : IsScanTest t) (order : List ℕ) (ordered : IsE
   pub masks-shift : (f : Fault) (k : ℕ) → IsLogic f → k < length (points_of t) → (pattern_at t w).kind ≡ Shift → predicts_fail t f (bit_of w k) ≡ false
   masks-shift f k logic lt shifts =
       predicts_fail-is t sound f w k lt ∙ ap (are_opposite (observed t None w (point_at t k))) (shifted_same t sound f w (point_at t k) shifts (logic_keeps f (point_at t k) logic)) ∙ not_opposite_itself (observed t None w (point_at t k))
+
+and_first : (x y : Bool) → (x && y) ≡ true → x ≡ true
+and_first true y e = refl
+and_first false y e = e
+
+-- the two masks of a bridge are never true together
+pub masks_apart : (t : ScanTest) (w a b : ℕ) (kind : BridgeKind) → (mask t (fault.Bridge a b kind) w a && mask t (fault.Bridge a b kind) w b) ≡ false
+masks_apart t w a b kind = go (one_site kind (good_value t w a) (good_value t w b))
+  where
+    go : (bridged kind (good_value t w a) (good_value t w b) ≡ good_value t w a) ⊎ (bridged kind (good_value t w a) (good_value t w b) ≡ good_value t w b) → (mask t (fault.Bridge a b kind) w a && mask t (fault.Bridge a b kind) w b) ≡ false
+    go (inl is) = and_left (mask t (fault.Bridge a b kind) w a) (mask t (fault.Bridge a b kind) w b) (and_right (takes kind (eqb a a) (eqb a b)) (are_opposite (good_value t w a) (bridged kind (good_value t w a) (good_value t w b))) (ap (are_opposite (good_value t w a)) is ∙ not_opposite_itself (good_value t w a)))
+    go (inr is) = and_right (mask t (fault.Bridge a b kind) w a) (mask t (fault.Bridge a b kind) w b) (and_right (takes kind (eqb b a) (eqb b b)) (are_opposite (good_value t w b) (bridged kind (good_value t w a) (good_value t w b))) (ap (are_opposite (good_value t w b)) is ∙ not_opposite_itself (good_value t w b)))
+
+-- a net that takes a bridge's value is one of the two
+one_of_pair : (kind : BridgeKind) (x y : Bool) → takes kind x y ≡ true → (x ≡ true) ⊎ (y ≡ true)
+one_of_pair Dominant x y e = or_cases x y e
+one_of_pair WiredAnd x y e = or_cases x y e
+one_of_pair WiredOr x y e = or_cases x y e
+one_of_pair DominantAnd x y e = inr e
+one_of_pair DominantOr x y e = inr e
+
+-- a fault flips one net at most in a pattern
+pub one_flipped : (t : ScanTest) (f : Fault) (w m n : ℕ) → mask t f w m ≡ true → mask t f w n ≡ true → m ≡ n
+one_flipped t (fault.Stem k v) w m n at_m at_n =
+    eqb-true m k (and_first (eqb m k) _ at_m) ∙ sym (eqb-true n k (and_first (eqb n k) _ at_n))
+one_flipped t (fault.Branch p v) w m n at_m at_n = by_place (pin_at t.netlist p).place (and_first (is_operand_of m (pin_at t.netlist p).place) _ at_m) (and_first (is_operand_of n (pin_at t.netlist p).place) _ at_n)
+  where
+    by_place : (x : PinPlace) → is_operand_of m x ≡ true → is_operand_of n x ≡ true → m ≡ n
+    by_place (place.Operand k i) here there = eqb-true m k here ∙ sym (eqb-true n k there)
+    by_place (place.Output k) here there = absurd cc
+one_flipped t (fault.Bridge a b kind) w m n at_m at_n = go (of_pair m at_m) (of_pair n at_n)
+  where
+    of_pair : (k : ℕ) → mask t (fault.Bridge a b kind) w k ≡ true → (k ≡ a) ⊎ (k ≡ b)
+    of_pair k at = elim (one_of_pair kind (eqb k a) (eqb k b) (and_first (takes kind (eqb k a) (eqb k b)) _ at)) [ inl first ↦ inl (eqb-true k a first) | inr second ↦ inr (eqb-true k b second) ]
+
+    never_both : (x y : ℕ) → x ≡ a → y ≡ b → mask t (fault.Bridge a b kind) w x ≡ true → mask t (fault.Bridge a b kind) w y ≡ true → ⊥
+    never_both x y is_a is_b at_x at_y =
+        both_ways (mask t (fault.Bridge a b kind) w a && mask t (fault.Bridge a b kind) w b) (masks_apart t w a b kind)
+        (and_from (mask t (fault.Bridge a b kind) w a) (mask t (fault.Bridge a b kind) w b) (subst (λ (k : ℕ). mask t (fault.Bridge a b kind) w k ≡ true) is_a at_x) (subst (λ (k : ℕ). mask t (fault.Bridge a b kind) w k ≡ true) is_b at_y))
+
+    go : (m ≡ a) ⊎ (m ≡ b) → (n ≡ a) ⊎ (n ≡ b) → m ≡ n
+    go (inl m_a) (inl n_a) = m_a ∙ sym n_a
+    go (inl m_a) (inr n_b) = absurd (never_both m n m_a n_b at_m at_n)
+    go (inr m_b) (inl n_a) = absurd (never_both n m n_a m_b at_n at_m)
+    go (inr m_b) (inr n_b) = m_b ∙ sym n_b
+one_flipped t (fault.Cell h c kind) w m n at_m at_n = absurd cc

@@ -221,6 +221,11 @@ none_counted A B (b ∷ xs) all none follows =
     rw (sum_by-cons (λ (x : Bit). cond (B x) 1 0) b xs, follows b all.0 parts.0, none_counted A B xs all.1 parts.1 follows) refl
 
 module _ (t : ScanTest) (sound : IsScanTest t) (order : List ℕ) (ordered : IsEvaluationOrder t.netlist order) where
+  -- where a logic fault predicts a fail, its site is flipped
+  pub predicted_flips : (f : Fault) (w k : ℕ) → Contains (universe t) f → IsLogic f → k < length (points_of t) → (pattern_at t w).kind ≡ Capture → predicts_fail t f (bit_of w k) ≡ true → flips t f w (point_at t k) ≡ true
+  predicted_flips f w k in' logic within captures shows =
+      flips_there t sound order ordered w f (point_at t k) (point_at-IsPoint t sound k within) (site_of t f sound in') (loop_free t f sound in') logic (sym (masks-capture t sound order ordered w f k in' logic within captures) ∙ shows)
+
   -- a predicted fail is one that the fault can explain
   pub predicted_explained : (f : Fault) (w k : ℕ) → Contains (universe t) f → w < length t.patterns → k < length (points_of t) → predicts_fail t f (bit_of w k) ≡ true → can_explain t f (pattern_at t w).kind w (point_at t k) ≡ true
   predicted_explained f w k in' lt within shows = by_kind (pattern_at t w).kind refl f in' shows
@@ -230,10 +235,6 @@ module _ (t : ScanTest) (sound : IsScanTest t) (order : List ℕ) (ordered : IsE
 
       in_shift : (f : Fault) → IsLogic f → (pattern_at t w).kind ≡ Shift → predicts_fail t f (bit_of w k) ≡ true → ⊥
       in_shift f logic shifts shows = both_ways (predicts_fail t f (bit_of w k)) (masks-shift t sound order ordered w f k logic within shifts) shows
-
-      in_capture : (f : Fault) → IsLogic f → Contains (universe t) f → (pattern_at t w).kind ≡ Capture → predicts_fail t f (bit_of w k) ≡ true → flips t f w (point_at t k) ≡ true
-      in_capture f logic in' captures shows =
-          flips_there t sound order ordered w f (point_at t k) abbrev_point (site_of t f sound in') (loop_free t f sound in') logic (sym (masks-capture t sound order ordered w f k in' logic within captures) ∙ shows)
 
       shifted : (h c : ℕ) (K : CellKind) (p : Point) → (pattern_at t w).kind ≡ Shift → are_opposite (observed t None w p) (observed t (Some (fault.Cell h c K)) w p) ≡ true → (is_cell_up_to h c p || is_cell_behind h c p) ≡ true
       shifted h c K (Output j) shifts fails = absurd (both_ways (are_opposite (observed t None w (Output j)) (observed t (Some (fault.Cell h c K)) w (Output j)))
@@ -248,9 +249,9 @@ module _ (t : ScanTest) (sound : IsScanTest t) (order : List ℕ) (ordered : IsE
       ]
 
       by_kind : (kind : PatternKind) → (pattern_at t w).kind ≡ kind → (f : Fault) → Contains (universe t) f → predicts_fail t f (bit_of w k) ≡ true → can_explain t f kind w (point_at t k) ≡ true
-      by_kind Capture captures (fault.Stem m v) in' shows = in_capture (fault.Stem m v) tt in' captures shows
-      by_kind Capture captures (fault.Branch p v) in' shows = in_capture (fault.Branch p v) tt in' captures shows
-      by_kind Capture captures (fault.Bridge a b kind) in' shows = in_capture (fault.Bridge a b kind) tt in' captures shows
+      by_kind Capture captures (fault.Stem m v) in' shows = predicted_flips (fault.Stem m v) w k in' tt within captures shows
+      by_kind Capture captures (fault.Branch p v) in' shows = predicted_flips (fault.Branch p v) w k in' tt within captures shows
+      by_kind Capture captures (fault.Bridge a b kind) in' shows = predicted_flips (fault.Bridge a b kind) w k in' tt within captures shows
       by_kind Capture captures (fault.Cell h c K) in' shows = cell_explained t sound order ordered w lt captures h c K (site_of t (fault.Cell h c K) sound in').0 (point_at t k) abbrev_point (sym (predicts_fail-is t sound (fault.Cell h c K) w k within) ∙ shows)
       by_kind Shift shifts (fault.Stem m v) in' shows = absurd (in_shift (fault.Stem m v) tt shifts shows)
       by_kind Shift shifts (fault.Branch p v) in' shows = absurd (in_shift (fault.Branch p v) tt shifts shows)
