@@ -19,7 +19,8 @@ pub fn faults_per_pair(profile: Profile) -> u32
     }
 }
 
-/// The faults of a pair, in the order of their places: those that `faults_per_pair` counts are the first.
+/// The faults of a pair, in the order of their places: those that `faults_per_pair` counts are the
+/// first.
 pub fn faults_of_pair(pair: &Pair) -> [Fault; 8]
     ensures { (profile : Profile) → take (listed.bridges_per_pair profile) result ≡ listed.bridge_faults profile pair.now }
 {

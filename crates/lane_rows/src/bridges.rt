@@ -22,9 +22,14 @@ impl Joins for Packed {
     }
 }
 
-/// The lanes in which a bridge flips a net that has the row `own`: the net takes the bridge's value, and that is the opposite.
+/// The lanes in which a bridge flips a net that has the row `own`: the net takes the bridge's
+/// value, and that is the opposite.
 pub fn flipped_lanes(is_taken: bool, own: Packed, value: Packed) -> Row
     ensures { (j : ℕ) → j < 512 → lane result j ≡ (is_taken && are_opposite (held own j) (held value j)) }
 {
-    if is_taken { own.opposite(value) } else { Row::none() }
+    if is_taken {
+        own.opposite(value)
+    } else {
+        Row::none()
+    }
 }

@@ -103,7 +103,8 @@ impl PackedGood {
         scratch.force_pair(parts.circuit(), &self.wiring, good, nets, row, steps);
     }
 
-    /// Forces those nets of a bridge that take its values, in a clean scratch. Neither leads to the other.
+    /// Forces those nets of a bridge that take its values, in a clean scratch. Neither leads to the
+    /// other.
     pub(crate) fn force_bridge<L: Ledger>(
         &self,
         parts: &Parts,

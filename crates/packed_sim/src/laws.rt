@@ -14,8 +14,9 @@ ghost use Rattle.scan_model.specs.Masks.{IsLogic, mask, flip_shows, straight, to
 
 use scan_model::Parts;
 
-/// A law, with nothing to run: in a pattern whose loads and inputs are more definite than another's each net has a value at
-/// least as definite, and each point a response, under each fault and without one.
+/// A law, with nothing to run: in a pattern whose loads and inputs are more definite than another's
+/// each net has a value at least as definite, and each point a response, under each fault and
+/// without one.
 pub fn more_definite(parts: &Parts)
     ensures gates { (w v n : ℕ) (fault : Option Fault) → IsPatternAtLeast (pattern_at parts.now w) (pattern_at parts.now v) → IsAtLeast (net_value parts.now fault w n) (net_value parts.now fault v n) }
     ensures points { (w v : ℕ) (fault : Option Fault) → IsPatternAtLeast (pattern_at parts.now w) (pattern_at parts.now v) → AreAtLeast (response parts.now fault w) (response parts.now fault v) }
@@ -23,9 +24,10 @@ pub fn more_definite(parts: &Parts)
     let _ = parts;
 }
 
-/// A law, with nothing to run: where the pattern captures, a logic fault predicts a fail exactly where a net that it flips,
-/// flipped alone over fault-free values, shows at the point, or its pin goes straight there; where it only shifts, nowhere. It
-/// flips one net at most, and where it predicts a fail its site is flipped.
+/// A law, with nothing to run: where the pattern captures, a logic fault predicts a fail exactly
+/// where a net that it flips, flipped alone over fault-free values, shows at the point, or its pin
+/// goes straight there; where it only shifts, nowhere. It flips one net at most, and where it
+/// predicts a fail its site is flipped.
 pub fn fails_of_flips(parts: &Parts)
     ensures capture { (f : Fault) (w k : ℕ) → Contains (universe parts.now) f → IsLogic f → k < length (points_of parts.now) → (pattern_at parts.now w).kind ≡ Capture
         → predicts_fail parts.now f (bit_of w k) ≡ (list_any (λ n. mask parts.now f w n && flip_shows parts.now w n k) (touched_nets parts.now f) || straight parts.now f w k) }

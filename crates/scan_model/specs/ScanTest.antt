@@ -1,4 +1,5 @@
--- A circuit with its scan chains, its patterns, its pairs of neighbouring nets and the profile of their bridges.
+-- A circuit with its scan chains, its patterns, its pairs of neighbouring nets and the profile of
+-- their bridges.
 use Rattle.std.specs.Prelude.{◌≡◌, ℕ, ◌+◌, ◌-◌, ◌<◌, ◌≤◌, max, List, [], ◌∷◌, ◌++◌, length, map, flat_map, cond, Bool, ◌==◌, ◌&&◌, ◌||◌, nat_lt, nat_eq, bytes_eq, IsFalse, All, slice_index_or}
 use Rattle.std.specs.List.{range_with_len, IsDistinct}
 use Rattle.scan_model.specs.declared.circuit.Driver.{Driver}

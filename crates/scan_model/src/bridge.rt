@@ -34,7 +34,8 @@ impl Joins for Tri {
 }
 
 impl BridgeKind {
-    /// Whether a net takes the bridge's value: it is the first net of the pair, or the second. One that doesn't keeps its own.
+    /// Whether a net takes the bridge's value: it is the first net of the pair, or the second. One
+    /// that doesn't keeps its own.
     pub fn takes(self, is_first: bool, is_second: bool) -> bool
         ensures { result ≡ takes self is_first is_second }
     {

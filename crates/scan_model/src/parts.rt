@@ -96,7 +96,8 @@ fn points_and_index(
 }
 
 impl Parts {
-    /// The parts of four lists that fit each other, with their points in test order and the faults of a profile.
+    /// The parts of four lists that fit each other, with their points in test order and the faults
+    /// of a profile.
     pub fn make(
         alloc: Global,
         profile: Profile,
