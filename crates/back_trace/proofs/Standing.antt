@@ -10,12 +10,12 @@ use Rattle.scan_model.specs.declared.parts.Pair.{Pair}
 use Rattle.scan_model.specs.declared.fault.Fault.{Fault}
 use Rattle.scan_model.specs.Netlist.{is_branch, pin_numbers, net_numbers}
 use Rattle.scan_model.specs.ScanTest.{ScanTest, IsScanTest, HasSite, cells_of}
-use Rattle.scan_model.specs.Universe.{universe, stems, branches, bridges, cells, stem_faults, branch_faults, bridge_faults, cell_faults}
+use Rattle.scan_model.specs.Universe.{universe, stems, branches, bridges, cells, stem_faults, branch_faults, bridge_faults, bridges_per_pair, cell_faults}
 use Rattle.scan_model.proofs.Sites.{site_of}
 use Rattle.fault_universe.proofs.Blocks.{Contains-at, block_at}
 use Rattle.fault_universe.proofs.StemPlaces.{length-stems_of}
 use Rattle.fault_universe.proofs.BranchPlaces.{length-branches_of}
-use Rattle.fault_universe.proofs.BridgePlaces.{length-bridges_of}
+use Rattle.fault_universe.proofs.BridgePlaces.{length-bridges_of, faults_counted, pairs_within}
 use Rattle.fault_universe.proofs.CellPlaces.{length-cells_from, cell_stands, chain_room}
 use Rattle.fault_universe.proofs.UniversePlaces.{in_first, in_second, in_third, in_fourth}
 use Rattle.back_trace.specs.Traces.{no_fault}
@@ -48,8 +48,8 @@ module _ (t : ScanTest) where
   pub branch_count : length (branches t) ≡ 2 * length pins
   branch_count = length-branches_of pins
 
-  pub bridge_count : length (bridges t) ≡ 4 * length t.pairs.kept
-  bridge_count = length-bridges_of t.pairs.kept
+  pub bridge_count : length (bridges t) ≡ bridges_per_pair t.profile * length t.pairs.kept
+  bridge_count = length-bridges_of t.profile t.pairs.kept
 
   pub cell_count : length (cells t) ≡ 4 * length (cells_of t.chains)
   cell_count = length-cells_from 0 t.chains
@@ -71,14 +71,15 @@ module _ (t : ScanTest) where
       in_second (stems t) (branches t) (bridges t) (cells t) at first is (omega arith) (omega (arith, lt, small, branch_count))
       ∙ block_at branch_faults 2 pins i k (at - first) pin (λ p. refl) there small (omega arith)
 
-  pub bridge_stands : (first i : ℕ) (pair : Pair) → first ≡ length (stems t) + length (branches t) → slice_get t.pairs.kept i ≡ Some pair → StandAt t (first + 4 * i) (bridge_faults pair)
+  pub bridge_stands : (first i : ℕ) (pair : Pair) → first ≡ length (stems t) + length (branches t) → slice_get t.pairs.kept i ≡ Some pair → StandAt t (first + bridges_per_pair t.profile * i) (bridge_faults t.profile pair)
   bridge_stands first i pair is there k lk =
-      let small : k < 4 = lk in
-      let at = first + 4 * i + k in
+      let count = bridges_per_pair t.profile in
+      let small : k < count = omega (arith, lk, faults_counted t.profile pair) in
+      let at = first + count * i + k in
       let lt : i < length t.pairs.kept = slice_get_within t.pairs.kept i pair there in
-      let rest : 4 * i + k ≡ at - length (stems t) - length (branches t) = omega (arith, is) in
-      in_third (stems t) (branches t) (bridges t) (cells t) at (length (stems t)) (length (branches t)) refl refl (omega (arith, is)) (omega (arith, is)) (omega (arith, is, lt, small, bridge_count))
-      ∙ block_at bridge_faults 4 t.pairs.kept i k (at - length (stems t) - length (branches t)) pair (λ p. refl) there small rest
+      let rest : count * i + k ≡ at - length (stems t) - length (branches t) = omega (arith, is) in
+      in_third (stems t) (branches t) (bridges t) (cells t) at (length (stems t)) (length (branches t)) refl refl (omega (arith, is)) (omega (arith, is)) (omega (arith, is, small, pairs_within t.profile i (length t.pairs.kept) lt, bridge_count))
+      ∙ block_at (bridge_faults t.profile) count t.pairs.kept i k (at - length (stems t) - length (branches t)) pair (faults_counted t.profile) there small rest
 
   pub cell_stands_at : (first place h i : ℕ) (d : Chain) → first ≡ length (stems t) + length (branches t) + length (bridges t) → place ≡ first + 4 * length (cells_of (take h t.chains)) → h < length t.chains → i < length (get_or t.chains h d).cells
       → StandAt t (place + 4 * i) (cell_faults h i)

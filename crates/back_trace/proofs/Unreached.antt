@@ -1,6 +1,8 @@
 -- Faults at sites without lanes explain nothing, and stay without a mark.
-use Rattle.std.proofs.Common.{◌≡◌, ℕ, zero, suc, ◌+◌, ◌-◌, ◌<◌, Bool, true, false, ◌&&◌, List, [], ◌∷◌, length, get_or, refl, sym, ap, ◌∙◌, inl, inr, arith}
+use Rattle.std.proofs.Common.{◌≡◌, ℕ, zero, suc, ◌+◌, ◌-◌, ◌<◌, Bool, true, false, ◌&&◌, List, [], ◌∷◌, length, get_or, refl, sym, ap, subst, ◌∙◌, inl, inr, arith}
+use Rattle.std.specs.List.{AllByRecursion}
 use Rattle.std.proofs.lemmas.Bool.{cases_lt, both_ways}
+use Rattle.std.proofs.lemmas.List.Elements.{All-from_recursion}
 use Rattle.scan_model.specs.declared.circuit.PinPlace.{PinPlace}
 use Rattle.scan_model.specs.declared.circuit.PinPlace.TheVariants as place
 use Rattle.scan_model.specs.declared.circuit.Driver.{Driver}
@@ -8,16 +10,18 @@ use Rattle.scan_model.specs.declared.circuit.Driver.TheVariants.{Input, Flop, Ga
 use Rattle.scan_model.specs.declared.fault.Stuck.{Stuck}
 use Rattle.scan_model.specs.declared.fault.Stuck.TheVariants as stuck
 use Rattle.scan_model.specs.declared.fault.BridgeKind.{BridgeKind}
-use Rattle.scan_model.specs.declared.fault.BridgeKind.TheVariants.{Dominant, WiredAnd, WiredOr}
+use Rattle.scan_model.specs.declared.fault.BridgeKind.TheVariants.{Dominant, WiredAnd, WiredOr, DominantAnd, DominantOr}
+use Rattle.scan_model.specs.declared.fault.Profile.{Profile}
+use Rattle.scan_model.specs.declared.fault.Profile.TheVariants.{One, Two}
 use Rattle.scan_model.specs.declared.parts.Pair.{Pair}
 use Rattle.scan_model.specs.declared.fault.Fault.{Fault}
 use Rattle.scan_model.specs.declared.fault.Fault.TheVariants as fault
 use Rattle.scan_model.specs.Values.{are_opposite}
 use Rattle.scan_model.specs.NetValue.{good_value}
-use Rattle.scan_model.specs.Faults.{stuck_value, bridged}
+use Rattle.scan_model.specs.Faults.{stuck_value, bridged, takes}
 use Rattle.scan_model.specs.Netlist.{driver_of, pin_at}
 use Rattle.scan_model.specs.ScanTest.{ScanTest}
-use Rattle.scan_model.specs.Universe.{universe, stem_faults, branch_faults, bridge_faults}
+use Rattle.scan_model.specs.Universe.{universe, stem_faults, branch_faults, bridge_faults, bridges_per_pair}
 use Rattle.scan_model.specs.Suspect.{net_reaches, place_reaches, operand_reaches}
 use Rattle.lane_rows.specs.declared.block.Block.{Block}
 use Rattle.lane_rows.specs.Lanes.{lane}
@@ -28,6 +32,7 @@ use Rattle.back_trace.specs.Traces.{lane_at, IsPlaceIn, AreMarked, no_fault}
 use Rattle.back_trace.specs.Marking.{IsUnreached, IsTraced, StandAt, MarksOn}
 use Rattle.back_trace.proofs.Explained.{logic_is, one_site_is, two_sites_are, operand_is, input_reaches_none}
 use Rattle.back_trace.proofs.Standing.{fault_there}
+use Rattle.fault_universe.proofs.BridgePlaces.{faults_counted}
 
 -- ---- marks that stay
 
@@ -58,13 +63,6 @@ each_of_two : (P : Fault → Type 0) (f g : Fault) → P f → P g → (k : ℕ)
 each_of_two P f g one two zero lt = one
 each_of_two P f g one two (suc zero) lt = two
 each_of_two P f g one two (suc (suc k)) lt = absurd (omega arith)
-
-each_of_four : (P : Fault → Type 0) (f g h i : Fault) → P f → P g → P h → P i → (k : ℕ) → k < 4 → P (get_or (f ∷ g ∷ h ∷ i ∷ []) k no_fault)
-each_of_four P f g h i one two three four zero lt = one
-each_of_four P f g h i one two three four (suc zero) lt = two
-each_of_four P f g h i one two three four (suc (suc zero)) lt = three
-each_of_four P f g h i one two three four (suc (suc (suc zero))) lt = four
-each_of_four P f g h i one two three four (suc (suc (suc (suc k)))) lt = absurd (omega arith)
 
 nothing : (b : Bool) → false ≡ (b && false)
 nothing true = refl
@@ -101,12 +99,28 @@ module _ (t : ScanTest) (block : Block) (x : Trace) (traced : IsTraced t block x
     bridge_none : (m n : ℕ) (kind : BridgeKind) → m < length t.netlist.nets → n < length t.netlist.nets → lane_at x.reach j m ≡ false → lane_at x.reach j n ≡ false → explains_in t (fault.Bridge m n kind) b x.fails j ≡ false
     bridge_none m n kind lm ln no_m no_n =
         let both = bridged kind (good_value t w m) (good_value t w n) in
-        let A = are_opposite (good_value t w m) both in
+        let A = takes kind true false && are_opposite (good_value t w m) both in
         let B = are_opposite (good_value t w n) both in
         sym (two_sites_are t b block good x.fails within j lj false false false (λ p. A && net_reaches t m p) (λ p. B && net_reaches t n p) refl
         (one_site_is t b block good x.fails within j lj false A false A (net_reaches t m) (nothing A) (net_none m lm no_m) (λ e. refl))
         (one_site_is t b block good x.fails within j lj false B false B (net_reaches t n) (nothing B) (net_none n ln no_n) (λ e. refl))
         ∙ sym (logic_is t b block good x.fails within j lj (fault.Bridge m n kind) tt))
+
+    abbrev IsNoneHere : Fault → Type 0
+    IsNoneHere f = explains_in t f b x.fails j ≡ false
+
+    bridges_none : (profile : Profile) (pair : Pair) → (pair.a < length t.netlist.nets) × (pair.b < length t.netlist.nets) → lane_at x.reach j pair.a ≡ false → lane_at x.reach j pair.b ≡ false → AllByRecursion IsNoneHere (bridge_faults profile pair)
+    bridges_none profile pair nets none_a none_b = go profile
+      where
+        straight : (kind : BridgeKind) → IsNoneHere (fault.Bridge pair.a pair.b kind)
+        straight kind = bridge_none pair.a pair.b kind nets.0 nets.1 none_a none_b
+
+        turned : (kind : BridgeKind) → IsNoneHere (fault.Bridge pair.b pair.a kind)
+        turned kind = bridge_none pair.b pair.a kind nets.1 nets.0 none_b none_a
+
+        go : (profile : Profile) → AllByRecursion IsNoneHere (bridge_faults profile pair)
+        go One = (straight Dominant, (turned Dominant, (straight WiredAnd, (straight WiredOr, tt))))
+        go Two = (straight Dominant, (turned Dominant, (straight WiredAnd, (straight WiredOr, (straight DominantAnd, (turned DominantAnd, (straight DominantOr, (turned DominantOr, tt))))))))
 
   -- ---- the marks of their faults stay
 
@@ -121,11 +135,9 @@ module _ (t : ScanTest) (block : Block) (x : Trace) (traced : IsTraced t block x
       (branch_none b good within j lj p stuck.Zero there none) (branch_none b good within j lj p stuck.One there none) k lk)
 
   pub bridge_stays : (pair : Pair) (from : ℕ) (marks : List Bool) → (pair.a < length t.netlist.nets) × (pair.b < length t.netlist.nets)
-      → ((j : ℕ) → j < 512 → lane_at x.reach j pair.a ≡ false) → ((j : ℕ) → j < 512 → lane_at x.reach j pair.b ≡ false) → StandAt t from (bridge_faults pair) → MarksOn t block x from (from + 4) marks marks
+      → ((j : ℕ) → j < 512 → lane_at x.reach j pair.a ≡ false) → ((j : ℕ) → j < 512 → lane_at x.reach j pair.b ≡ false) → StandAt t from (bridge_faults t.profile pair)
+      → MarksOn t block x from (from + bridges_per_pair t.profile) marks marks
   bridge_stays pair from marks nets none_a none_b stand =
-      let a = pair.a in
-      let b = pair.b in
-      marks_stay t block x from (bridge_faults pair) marks stand
-      (λ i good within k lk j lj. each_of_four (λ f. explains_in t f i x.fails j ≡ false) (fault.Bridge a b Dominant) (fault.Bridge b a Dominant) (fault.Bridge a b WiredAnd) (fault.Bridge a b WiredOr)
-      (bridge_none i good within j lj a b Dominant nets.0 nets.1 (none_a j lj) (none_b j lj)) (bridge_none i good within j lj b a Dominant nets.1 nets.0 (none_b j lj) (none_a j lj))
-      (bridge_none i good within j lj a b WiredAnd nets.0 nets.1 (none_a j lj) (none_b j lj)) (bridge_none i good within j lj a b WiredOr nets.0 nets.1 (none_a j lj) (none_b j lj)) k lk)
+      let faults = bridge_faults t.profile pair in
+      subst (λ (n : ℕ). MarksOn t block x from (from + n) marks marks) (faults_counted t.profile pair) (marks_stay t block x from faults marks stand
+      (λ b good within k lk j lj. All-from_recursion (λ f. explains_in t f b x.fails j ≡ false) faults (bridges_none b good within j lj t.profile pair nets (none_a j lj) (none_b j lj)) k no_fault lk))

@@ -12,7 +12,7 @@ ghost use Rattle.back_trace.specs.Fails.{any_fail, explains_in, IsWithin, Tells}
 ghost use Rattle.back_trace.specs.Traces.{is_from, IsPlaceIn, IsTraceOf};
 
 use crate::trace::Trace;
-use lane_rows::{Block, Packed, Row};
+use lane_rows::{Block, Packed, Row, flipped_lanes};
 use scan_model::{BridgeKind, Driver, Fault, Parts, Pin, PinPlace, Stuck};
 
 /// The lanes that are definite and not the stuck value.
@@ -22,17 +22,6 @@ fn other_lanes(values: Packed, stuck: Stuck) -> Row
     match stuck {
         Stuck::Zero => values.ones(),
         Stuck::One => values.zeros(),
-    }
-}
-
-/// The value that both nets of a bridge take.
-fn bridged(kind: BridgeKind, a: Packed, b: Packed) -> Packed
-    ensures { (j : ℕ) → j < 512 → held result j ≡ faults.bridged kind (held a j) (held b j) }
-{
-    match kind {
-        BridgeKind::Dominant => a,
-        BridgeKind::WiredAnd => a.and(b),
-        BridgeKind::WiredOr => a.or(b),
     }
 }
 
@@ -110,8 +99,9 @@ fn bridge_row(parts: &Parts, block: &Block, trace: &Trace, a: u32, b: u32, kind:
 {
     let values = block.values.as_slice();
     let (first, second) = (values[a as usize], values[b as usize]);
-    let both = bridged(kind, first, second);
-    let by_first = first.opposite(both).and(trace.reach.row(a as usize));
+    let both = kind.value(first, second);
+    let first_flips = flipped_lanes(kind.takes(true, false), first, both);
+    let by_first = first_flips.and(trace.reach.row(a as usize));
     let by_second = second.opposite(both).and(trace.reach.row(b as usize));
     by_first.or(by_second)
 }

@@ -4,8 +4,9 @@ ghost use Rattle.back_trace.specs.Marking.{IsPlaceBelow, IsUnreached, IsTraced, 
 
 use crate::explain::{is_explained, pin_of};
 use crate::trace::Trace;
+use fault_universe::{bridge_count, faults_of_pair, faults_per_pair};
 use lane_rows::Block;
-use scan_model::{BridgeKind, CellKind, Fault, Pair, Parts, PinPlace, Stuck};
+use scan_model::{CellKind, Fault, Pair, Parts, PinPlace, Stuck};
 
 /// Marks those of some faults that explain a failing bit of the block. They stand in the list of all faults from a place on.
 fn mark_each(
@@ -141,37 +142,17 @@ fn mark_pair(
 )
     requires traced { IsTraced parts.now block.now trace.now }
     requires nets { (pair.now.a < length parts.now.netlist.nets) × (pair.now.b < length parts.now.netlist.nets) }
-    requires faults { StandAt parts.now first (listed.bridge_faults pair.now) }
+    requires faults { StandAt parts.now first (listed.bridge_faults parts.now.profile pair.now) }
     requires marks { length marks.old ≡ length (listed.universe parts.now) }
-    ensures { MarksOn parts.now block.now trace.now first (first + 4) marks.old marks.new }
+    ensures { MarksOn parts.now block.now trace.now first (first + listed.bridges_per_pair parts.now.profile) marks.old marks.new }
 {
-    let Pair { a, b, .. } = *pair;
-    if trace.reach.is_empty_at(a as usize) && trace.reach.is_empty_at(b as usize) {
+    if trace.reach.is_empty_at(pair.a as usize) && trace.reach.is_empty_at(pair.b as usize) {
         return;
     }
-    let faults = [
-        Fault::Bridge {
-            a,
-            b,
-            kind: BridgeKind::Dominant,
-        },
-        Fault::Bridge {
-            a: b,
-            b: a,
-            kind: BridgeKind::Dominant,
-        },
-        Fault::Bridge {
-            a,
-            b,
-            kind: BridgeKind::WiredAnd,
-        },
-        Fault::Bridge {
-            a,
-            b,
-            kind: BridgeKind::WiredOr,
-        },
-    ];
-    mark_each(marks, first, &faults, parts, block, trace);
+    let all = faults_of_pair(pair);
+    let count = faults_per_pair(parts.profile());
+    let faults = &all[..count as usize];
+    mark_each(marks, first, faults, parts, block, trace);
 }
 
 /// Marks the bridge faults.
@@ -182,8 +163,16 @@ fn mark_bridges(marks: &mut [bool], first: usize, parts: &Parts, block: &Block, 
     ensures { MarksOn parts.now block.now trace.now first (first + length (listed.bridges parts.now)) marks.old marks.new }
 {
     let pairs = parts.pairs().kept.as_slice();
+    let count = faults_per_pair(parts.profile());
     for i in 0..pairs.len() {
-        mark_pair(marks, first + 4 * i, &pairs[i], parts, block, trace);
+        mark_pair(
+            marks,
+            first + count as usize * i,
+            &pairs[i],
+            parts,
+            block,
+            trace,
+        );
     }
 }
 
@@ -280,10 +269,9 @@ pub(crate) fn mark_explained(marks: &mut [bool], parts: &Parts, block: &Block, t
 {
     let nets = parts.circuit().nets().len();
     let pins = parts.circuit().branch_pins().len();
-    let pairs = parts.pairs().kept.len();
     let stems = 2 * nets;
     let branches = 2 * pins;
-    let bridges = 4 * pairs;
+    let bridges = bridge_count(parts) as usize;
     mark_stems(marks, parts, block, trace);
     mark_branches(marks, stems, parts, block, trace);
     mark_bridges(marks, stems + branches, parts, block, trace);

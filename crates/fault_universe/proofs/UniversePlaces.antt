@@ -53,7 +53,7 @@ pub finds_stem : (t : ScanTest) (n : ℕ) (v : Stuck) (o : Option ℕ) → Finds
 finds_stem t n v o found =
     let f = Stem n v in
     found_before (stems t ++ branches t ++ bridges t) (cells t) f o (only_cells (enumerate_from 0 t.chains) f)
-    (found_before (stems t ++ branches t) (bridges t) f o (λ there. (bridge_owner t.pairs.kept f there).2)
+    (found_before (stems t ++ branches t) (bridges t) f o (λ there. (bridge_owner t.profile t.pairs.kept f there).2)
     (found_before (stems t) (branches t) f o (λ there. (branch_owner (filter (is_branch t.netlist) (pin_numbers t.netlist)) f there).2) found))
 
 pub finds_branch : (t : ScanTest) (p : ℕ) (v : Stuck) (o : Option ℕ) → FindsPlace (branches t) (Branch p v) o → FindsPlace (universe t) (Branch p v) (option_map (λ k. length (stems t) + k) o)
@@ -61,7 +61,7 @@ finds_branch t p v o found =
     let f = Branch p v in
     let moved : Option ℕ = option_map (λ k. length (stems t) + k) o in
     found_before (stems t ++ branches t ++ bridges t) (cells t) f moved (only_cells (enumerate_from 0 t.chains) f)
-    (found_before (stems t ++ branches t) (bridges t) f moved (λ there. (bridge_owner t.pairs.kept f there).2)
+    (found_before (stems t ++ branches t) (bridges t) f moved (λ there. (bridge_owner t.profile t.pairs.kept f there).2)
     (found_after (stems t) (branches t) f o (only_stems t f) found))
 
 pub finds_bridge : (t : ScanTest) (a b : ℕ) (kind : BridgeKind) (o : Option ℕ) → FindsPlace (bridges t) (Bridge a b kind) o → FindsPlace (universe t) (Bridge a b kind) (option_map (λ k. length (stems t ++ branches t) + k) o)
@@ -81,5 +81,5 @@ finds_cell t h i kind o found =
         | inl here ↦ only_stems t f here
         | inr later ↦ (branch_owner (filter (is_branch t.netlist) (pin_numbers t.netlist)) f later).2
       ]
-      | inr later ↦ (bridge_owner t.pairs.kept f later).2
+      | inr later ↦ (bridge_owner t.profile t.pairs.kept f later).2
     ]) found

@@ -1,10 +1,11 @@
-ghost use Rattle.std.specs.Prelude.{◌≡◌, ◌++◌, ◌<◌, ◌≤◌, ◌^◌, length, slice_get, Some, OnOk, IfSome};
+ghost use Rattle.std.specs.Prelude.{◌≡◌, ◌++◌, ◌<◌, ◌≤◌, ◌^◌, length, slice_get, Some, OnOk, IfSome, MatchOption};
 ghost use Rattle.fault_universe.specs.FoundPlace.{FindsPlace};
-ghost use Rattle.fault_universe.specs.KeptPairs.{FindsPair};
+ghost use Rattle.fault_universe.specs.KeptPairs.{FindsPair, IsNoneOfPair};
 ghost use Rattle.scan_model.specs.declared.fault.Fault.TheVariants as fault;
 ghost use Rattle.scan_model.specs.Universe.{bridge_faults, bridges};
 
-use scan_model::{BridgeKind, Fault, NoMemory, Pair, Parts, Rows, nets_number};
+use crate::pair_faults::{faults_of_pair, faults_per_pair};
+use scan_model::{BridgeKind, Fault, NoMemory, Pair, Parts, Profile, Rows, nets_number};
 
 /// The pairs of neighbouring nets that are kept.
 fn kept_pairs(parts: &Parts) -> &[Pair]
@@ -14,27 +15,13 @@ fn kept_pairs(parts: &Parts) -> &[Pair]
     parts.pairs().kept.as_slice()
 }
 
-/// One of the four faults of a pair: the first net over the second, the second over the first, AND, OR.
-fn bridge_of(pair: &Pair, number: u32) -> Fault
-    requires { number < 4 }
-    ensures { slice_get (bridge_faults pair.now) number ≡ Some result }
+/// Adds the faults of a pair.
+fn push_pair(faults: &mut Rows<Fault>, profile: Profile, pair: &Pair) -> Result<(), NoMemory>
+    ensures { OnOk result (faults.new ≡ faults.old ++ bridge_faults profile pair.now) }
 {
-    let Pair { a, b, .. } = *pair;
-    let (a, b, kind) = match number {
-        0 => (a, b, BridgeKind::Dominant),
-        1 => (b, a, BridgeKind::Dominant),
-        2 => (a, b, BridgeKind::WiredAnd),
-        _ => (a, b, BridgeKind::WiredOr),
-    };
-    Fault::Bridge { a, b, kind }
-}
-
-/// Adds the four faults of a pair.
-fn push_pair(faults: &mut Rows<Fault>, pair: &Pair) -> Result<(), NoMemory>
-    ensures { OnOk result (faults.new ≡ faults.old ++ bridge_faults pair.now) }
-{
-    for number in 0..4 {
-        faults.push(bridge_of(pair, number))?;
+    let all = faults_of_pair(pair);
+    for fault in &all[..faults_per_pair(profile) as usize] {
+        faults.push(*fault)?;
     }
     Ok(())
 }
@@ -43,18 +30,19 @@ fn push_pair(faults: &mut Rows<Fault>, pair: &Pair) -> Result<(), NoMemory>
 pub(crate) fn push_bridges(faults: &mut Rows<Fault>, parts: &Parts) -> Result<(), NoMemory>
     ensures { OnOk result (faults.new ≡ faults.old ++ bridges parts.now) }
 {
+    let profile = parts.profile();
     for pair in kept_pairs(parts) {
-        push_pair(faults, pair)?;
+        push_pair(faults, profile, pair)?;
     }
     Ok(())
 }
 
 /// The number of bridge faults.
-pub(crate) fn bridge_count(parts: &Parts) -> u32
+pub fn bridge_count(parts: &Parts) -> u32
     ensures count { result ≡ length (bridges parts.now) }
-    ensures few { length (bridges parts.now) ≤ 262144 }
+    ensures few { length (bridges parts.now) ≤ 524288 }
 {
-    4 * kept_pairs(parts).len() as u32
+    faults_per_pair(parts.profile()) * kept_pairs(parts).len() as u32
 }
 
 /// The bridge fault at a place among the bridge faults, or `None` past their end.
@@ -62,11 +50,14 @@ pub(crate) fn bridge_at(parts: &Parts, place: u32) -> Option<Fault>
     ensures { result ≡ slice_get (bridges parts.now) place }
 {
     let pairs = kept_pairs(parts);
-    let at = place as usize / 4;
+    let count = faults_per_pair(parts.profile());
+    let at = (place / count) as usize;
     if at >= pairs.len() {
         return None;
     }
-    Some(bridge_of(&pairs[at], place % 4))
+    let all = faults_of_pair(&pairs[at]);
+    let faults = &all[..count as usize];
+    Some(faults[(place % count) as usize])
 }
 
 /// The place of the pair of these two nets, in this order, among the kept pairs.
@@ -83,16 +74,29 @@ fn pair_place(parts: &Parts, a: u32, b: u32) -> Option<u32>
     Some(index[at].place)
 }
 
-/// The place of the bridge in which one net drives another among the bridge faults.
-fn dominant_place(parts: &Parts, aggressor: u32, victim: u32) -> Option<u32>
-    ensures place { FindsPlace (bridges parts.now) (fault.Bridge aggressor victim BridgeKind.Dominant) result }
+/// The place of a fault in a list, where it is there.
+fn number_in(faults: &[Fault], fault: Fault) -> Option<usize>
+    ensures { FindsPlace faults.now fault result }
+{
+    for number in 0..faults.len() {
+        if faults[number] == fault {
+            return Some(number);
+        }
+    }
+    None
+}
+
+/// The place of a fault of the pair of these two nets, in this order, among the bridge faults.
+fn place_in_pair(parts: &Parts, a: u32, b: u32, fault: Fault) -> Option<u32>
+    ensures place { MatchOption result (IsNoneOfPair parts.now a b fault) (λ place. slice_get (bridges parts.now) place ≡ Some fault) }
     ensures small { IfSome result (λ place. place < 2 ^ 31) }
 {
-    if let Some(at) = pair_place(parts, aggressor, victim) {
-        return Some(4 * at);
-    }
-    let at = pair_place(parts, victim, aggressor)?;
-    Some(4 * at + 1)
+    let at = pair_place(parts, a, b)?;
+    let count = faults_per_pair(parts.profile());
+    let all = faults_of_pair(&kept_pairs(parts)[at as usize]);
+    let faults = &all[..count as usize];
+    let number = number_in(faults, fault)?;
+    Some(count * at + number as u32)
 }
 
 /// The place of a bridge fault among the bridge faults.
@@ -100,15 +104,9 @@ pub(crate) fn bridge_place(parts: &Parts, a: u32, b: u32, kind: BridgeKind) -> O
     ensures place { FindsPlace (bridges parts.now) (fault.Bridge a b kind) result }
     ensures small { IfSome result (λ place. place < 2 ^ 31) }
 {
-    match kind {
-        BridgeKind::Dominant => dominant_place(parts, a, b),
-        BridgeKind::WiredAnd => {
-            let at = pair_place(parts, a, b)?;
-            Some(4 * at + 2)
-        }
-        BridgeKind::WiredOr => {
-            let at = pair_place(parts, a, b)?;
-            Some(4 * at + 3)
-        }
+    let fault = Fault::Bridge { a, b, kind };
+    if let Some(place) = place_in_pair(parts, a, b, fault) {
+        return Some(place);
     }
+    place_in_pair(parts, b, a, fault)
 }

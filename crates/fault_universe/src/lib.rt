@@ -4,11 +4,14 @@
 mod branches;
 mod bridges;
 mod cells;
+mod pair_faults;
 mod places;
 mod stems;
 mod texts;
 mod words;
 
+pub use bridges::bridge_count;
+pub use pair_faults::{faults_of_pair, faults_per_pair};
 pub use places::{fault_at, place_of, universe, universe_len};
 pub use texts::{fault_text, push_fault};
 pub use words::{chain_name, net_name, push_number, push_word};

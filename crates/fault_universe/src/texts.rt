@@ -24,6 +24,8 @@ fn bridge_word(kind: BridgeKind) -> &'static str
         BridgeKind::Dominant => "dom",
         BridgeKind::WiredAnd => "and",
         BridgeKind::WiredOr => "or",
+        BridgeKind::DominantAnd => "dom-and",
+        BridgeKind::DominantOr => "dom-or",
     }
 }
 

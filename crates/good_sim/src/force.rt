@@ -7,7 +7,7 @@ ghost use Rattle.good_sim.specs.Shown.{forced_over};
 
 use crate::effect::Effect;
 use crate::evaluate::net_values;
-use scan_model::{BridgeKind, Fault, NoMemory, Parts, Stuck, Tri, tri_and, tri_or};
+use scan_model::{BridgeKind, Fault, NoMemory, Parts, Stuck, Tri};
 use std::alloc::Global;
 
 fn stuck_value(value: Stuck) -> Tri
@@ -19,15 +19,11 @@ fn stuck_value(value: Stuck) -> Tri
     }
 }
 
-/// The value that both nets of a bridge take.
-fn bridged(kind: BridgeKind, a: Tri, b: Tri) -> Tri
+/// The value of a bridge, from those that drive its nets.
+fn bridge_value(kind: BridgeKind, a: Tri, b: Tri) -> Tri
     ensures { result ≡ model.bridged kind a b }
 {
-    match kind {
-        BridgeKind::Dominant => a,
-        BridgeKind::WiredAnd => tri_and(a, b),
-        BridgeKind::WiredOr => tri_or(a, b),
-    }
+    kind.value(a, b)
 }
 
 /// What a fault forces in the logic. One in a chain forces nothing there.
@@ -55,8 +51,8 @@ pub(crate) fn effect_of(
         }),
         Some(Fault::Bridge { a, b, kind }) => {
             let good = net_values(alloc, parts.circuit(), source, Effect::Nothing)?;
-            let value = bridged(kind, good[a as usize], good[b as usize]);
-            Ok(Effect::Nets { a, b, value })
+            let value = bridge_value(kind, good[a as usize], good[b as usize]);
+            Ok(Effect::Bridge { a, b, kind, value })
         }
     }
 }

@@ -36,7 +36,7 @@ fn on_output(circuit: &Circuit, effect: Effect, output: usize) -> Option<Tri>
                 None
             }
         }
-        Effect::Nothing | Effect::Net { .. } | Effect::Nets { .. } => None,
+        Effect::Nothing | Effect::Net { .. } | Effect::Bridge { .. } => None,
     }
 }
 

@@ -28,9 +28,8 @@ use Rattle.scan_model.specs.Universe.{universe}
 use Rattle.scan_model.specs.Coverage.{bit_of}
 use Rattle.scan_model.specs.Response.{predicts_fail, observed}
 use Rattle.scan_model.specs.Suspect.{observed_net}
-use Rattle.scan_model.specs.Force.{force}
+use Rattle.scan_model.specs.Force.{force, force_taken}
 use Rattle.scan_model.specs.Masks.{IsLogic, point_pin, mask, flip_shows, straight, place_is_point, operand_is_point, place_nets}
-use Rattle.scan_model.proofs.counting.OneSite.{force_two}
 use Rattle.scan_model.proofs.counting.LogicFaults.{loop_free}
 use Rattle.scan_model.proofs.counting.Shown.{logic_keeps, point_pin-net, point_at-IsPoint, predicts_fail-is, observed_sees, observed_good}
 use Rattle.scan_model.proofs.counting.Masks.{masks-capture, masks-shift}
@@ -123,10 +122,10 @@ module _ (t : ScanTest) (sound : IsScanTest t) (order : List ℕ) (ordered : IsE
 
     pub bridge_bit : (a b : ℕ) (kind : BridgeKind) (word k i : ℕ) → 64 * word < length t.patterns → k < length (points_of t) → i < 64 → (row : Planes) (now : Tri)
         → (captures t (pattern_of (word / 8) (64 * (word % 8) + i)) ≡ true → held row (64 * (word % 8) + i) ≡ bridged kind (good_value t (pattern_of (word / 8) (64 * (word % 8) + i)) a) (good_value t (pattern_of (word / 8) (64 * (word % 8) + i)) b))
-        → (captures t (pattern_of (word / 8) (64 * (word % 8) + i)) ≡ true → now ≡ values_of t.netlist (source_of t None (pattern_of (word / 8) (64 * (word % 8) + i))) (force_two a b (held row (64 * (word % 8) + i))) (observed_at t k))
+        → (captures t (pattern_of (word / 8) (64 * (word % 8) + i)) ≡ true → now ≡ values_of t.netlist (source_of t None (pattern_of (word / 8) (64 * (word % 8) + i))) (force_taken kind a b (held row (64 * (word % 8) + i))) (observed_at t k))
         → (captures t (64 * word + i) && are_opposite (good_at g (word / 8) (64 * (word % 8) + i) (observed_at t k)) now) ≡ (ltb (64 * word + i) (length t.patterns) && predicts_fail t (fault.Bridge a b kind) (bit_of (64 * word + i) k))
     bridge_bit a b kind word k i lt in_points i_lt row now row_is is = forced_bit (fault.Bridge a b kind) tt (λ p. refl) word k i lt in_points i_lt now
-        (λ captured. is captured ∙ ap (λ (x : Tri). values_of t.netlist (source_of t None (pattern_of (word / 8) (64 * (word % 8) + i))) (force_two a b x) (observed_at t k)) (row_is captured))
+        (λ captured. is captured ∙ ap (λ (x : Tri). values_of t.netlist (source_of t None (pattern_of (word / 8) (64 * (word % 8) + i))) (force_taken kind a b x) (observed_at t k)) (row_is captured))
 
   pub bridge_apart : (a b : ℕ) (kind : BridgeKind) → Contains (universe t) (fault.Bridge a b kind) → AreApart t.netlist (a ∷ b ∷ [])
   bridge_apart a b kind in' m n m_in n_in gate inside =

@@ -11,3 +11,4 @@ pub mod Observed
 pub mod CellPlaces
 pub mod Loading
 pub mod ChainBits
+pub mod Taken

@@ -172,7 +172,7 @@ impl PackedGood {
         let (a, b, kind) = bridge;
         let block = word as usize / 8;
         let row = self.bridged_row(parts, block, a, b, kind);
-        self.force_nets(parts, scratch, block, (a, b), row, steps);
+        self.force_bridge(parts, scratch, block, bridge, row, steps);
         self.write_differences(parts, scratch, word, out);
     }
 

@@ -3,7 +3,7 @@ ghost use Rattle.std.specs.List.{IsDistinct};
 ghost use Rattle.scan_model.specs.Values.{are_opposite};
 ghost use Rattle.scan_model.specs.ScanTest.{points_of};
 ghost use Rattle.scan_model.specs.NetValue.{values_of, source_of};
-ghost use Rattle.scan_model.specs.Force.{force};
+ghost use Rattle.scan_model.specs.Force.{force, force_taken};
 ghost use Rattle.scan_model.specs.Masks.{flip_shows};
 ghost use Rattle.scan_model.proofs.counting.OneSite.{force_two};
 ghost use Rattle.lane_rows.specs.Lanes.{lane};
@@ -16,7 +16,7 @@ ghost use Rattle.packed_sim.specs.Belongs.{BelongsTo, IsScratchIn, IsScratchOf, 
 use crate::good::PackedGood;
 use crate::scratch::Scratch;
 use lane_rows::{Packed, Row};
-use scan_model::{Parts, Steps};
+use scan_model::{BridgeKind, Parts, Steps};
 use std::sync::ledger::Ledger;
 
 impl Scratch {
@@ -101,6 +101,36 @@ impl PackedGood {
     {
         let good = self.values(block);
         scratch.force_pair(parts.circuit(), &self.wiring, good, nets, row, steps);
+    }
+
+    /// Forces those nets of a bridge that take its values, in a clean scratch. Neither leads to the
+    /// other.
+    pub(crate) fn force_bridge<L: Ledger>(
+        &self,
+        parts: &Parts,
+        scratch: &mut Scratch,
+        block: usize,
+        bridge: (u32, u32, BridgeKind),
+        row: Packed,
+        steps: &mut Steps<L>,
+    )
+        requires good { BelongsTo parts.now self.now }
+        requires scratch { IsScratchOf self.now scratch.old }
+        requires block { block < length self.now.rows }
+        requires first { bridge.0 < length parts.now.netlist.nets }
+        requires second { bridge.1 < length parts.now.netlist.nets }
+        requires apart { AreApart parts.now.netlist (bridge.0 ∷ bridge.1 ∷ []) }
+        ensures scratch { IsScratchIn self.now scratch.new }
+        ensures values { (k j : ℕ) → k < length (points_of parts.now) → j < 512 → captures parts.now (pattern_of block j) ≡ true
+            → now_at self.now scratch.new block j (observed_at parts.now k) ≡ values_of parts.now.netlist (source_of parts.now None (pattern_of block j)) (force_taken bridge.2 bridge.0 bridge.1 (held row j)) (observed_at parts.now k) }
+        ensures steps { steps.new ≤ steps.old + length (gates_behind parts.now (bridge.0 ∷ bridge.1 ∷ [])) }
+    {
+        let (a, b, kind) = bridge;
+        if kind.takes(true, false) {
+            self.force_nets(parts, scratch, block, (a, b), row, steps);
+        } else {
+            self.force_net(parts, scratch, block, b, row, steps);
+        }
     }
 
     /// Flips a net in some lanes, in a clean scratch, and evaluates again what changes and leads to a point. Where the net

@@ -17,7 +17,7 @@ ghost use Rattle.packed_sim.specs.Belongs.{BelongsTo, captures};
 ghost use Rattle.packed_sim.specs.Ways.{read_values, senses_of, IsGateOfPin};
 
 use crate::good::PackedGood;
-use lane_rows::{Packed, Row};
+use lane_rows::{Packed, Row, flipped_lanes};
 use scan_model::{BridgeKind, Circuit, Driver, GateKind, Parts, PinPlace, Stuck};
 
 /// The lanes in which a row has the opposite of a stuck value.
@@ -78,17 +78,6 @@ fn sensed(circuit: &Circuit, values: &[Packed], kind: GateKind, gate: u32, row: 
 {
     let (none, one) = ways(circuit, values, kind, gate);
     none.or(one.and(in_the_way(kind, row)))
-}
-
-/// The values that a bridge gives to both its nets, from their own.
-fn joined(kind: BridgeKind, first: Packed, second: Packed) -> Packed
-    ensures { (j : ℕ) → j < 512 → held result j ≡ bridged kind (held first j) (held second j) }
-{
-    match kind {
-        BridgeKind::Dominant => first,
-        BridgeKind::WiredAnd => first.and(second),
-        BridgeKind::WiredOr => first.or(second),
-    }
 }
 
 pub(crate) fn net_of_pin(circuit: &Circuit, pin: u32) -> u32
@@ -163,7 +152,7 @@ impl PackedGood {
         }
     }
 
-    /// The values that a bridge gives to both its nets.
+    /// The values of a bridge, which a net that takes them is given.
     pub(crate) fn bridged_row(
         &self,
         parts: &Parts,
@@ -181,10 +170,10 @@ impl PackedGood {
         let _ = parts.circuit();
         let first = self.row_of(parts, block, a);
         let second = self.row_of(parts, block, b);
-        joined(kind, first, second)
+        kind.value(first, second)
     }
 
-    /// The lanes in which a bridge of two nets flips one of them.
+    /// The lanes in which a bridge of two nets flips a net.
     pub fn bridge_mask(
         &self,
         parts: &Parts,
@@ -199,11 +188,12 @@ impl PackedGood {
         requires b { pair.1 < length parts.now.netlist.nets }
         requires net { net < length parts.now.netlist.nets }
         ensures { (j : ℕ) → j < 512 → captures parts.now (pattern_of block j) ≡ true
-            → lane result j ≡ are_opposite (good_value parts.now (pattern_of block j) net) (bridged kind (good_value parts.now (pattern_of block j) pair.0) (good_value parts.now (pattern_of block j) pair.1)) }
+            → lane result j ≡ mask parts.now (fault.Bridge pair.0 pair.1 kind) (pattern_of block j) net }
     {
         let _ = parts.circuit();
-        let bridged = self.bridged_row(parts, block, pair.0, pair.1, kind);
+        let value = self.bridged_row(parts, block, pair.0, pair.1, kind);
         let own = self.row_of(parts, block, net);
-        own.opposite(bridged)
+        let is_taken = kind.takes(net == pair.0, net == pair.1);
+        flipped_lanes(is_taken, own, value)
     }
 }

@@ -1,5 +1,6 @@
 -- A circuit of six NAND gates, and what the definitions compute for it.
 use Rattle.std.specs.Prelude.{◌≡◌, ℕ, List, [], ◌∷◌, refl, false, None}
+use Rattle.scan_model.specs.declared.fault.Profile.TheVariants as profile
 use Rattle.scan_model.specs.declared.values.Tri.TheVariants.{Zero, One}
 use Rattle.scan_model.specs.declared.circuit.GateKind.TheVariants.{Nand}
 use Rattle.scan_model.specs.declared.circuit.Driver.TheVariants.{Input, Gate}
@@ -57,7 +58,7 @@ abbrev pub ones : Pattern
 ones = record { kind = Capture; inputs = One ∷ One ∷ One ∷ One ∷ One ∷ []; loads = [] }
 
 abbrev pub c17_test : ScanTest
-c17_test = record { netlist = c17; chains = []; patterns = ones ∷ []; pairs = record { kept = []; left_out = [] } }
+c17_test = record { profile = profile.One; netlist = c17; chains = []; patterns = ones ∷ []; pairs = record { kept = []; left_out = [] } }
 
 abbrev pub bit : ℕ → ℕ → Bit
 bit w k = record { pattern = w; point = k }

@@ -1,5 +1,6 @@
 -- A faulty chain of three cells, and a circuit with three flops in one chain.
 use Rattle.std.specs.Prelude.{◌≡◌, ℕ, [], ◌∷◌, refl, Some, None, length, false}
+use Rattle.scan_model.specs.declared.fault.Profile.TheVariants as profile
 use Rattle.scan_model.specs.declared.values.Tri.TheVariants.{Zero, One, Unknown}
 use Rattle.scan_model.specs.declared.circuit.GateKind.TheVariants.{And, Nand, Or, Nor, Not}
 use Rattle.scan_model.specs.declared.circuit.Driver.{Driver}
@@ -57,7 +58,7 @@ s27 = record {
 }
 
 abbrev pub s27_with : Pattern → ScanTest
-s27_with w = record { netlist = s27; chains = record { name = []; cells = 4 ∷ 5 ∷ 6 ∷ [] } ∷ []; patterns = w ∷ []; pairs = record { kept = []; left_out = [] } }
+s27_with w = record { profile = profile.One; netlist = s27; chains = record { name = []; cells = 4 ∷ 5 ∷ 6 ∷ [] } ∷ []; patterns = w ∷ []; pairs = record { kept = []; left_out = [] } }
 
 abbrev pub zeros : Pattern
 zeros = record { kind = Capture; inputs = Zero ∷ Zero ∷ Zero ∷ Zero ∷ []; loads = (Zero ∷ Zero ∷ Zero ∷ []) ∷ [] }

@@ -7,7 +7,7 @@ use Rattle.scan_model.specs.declared.values.Tri.TheVariants.{Unknown}
 use Rattle.scan_model.specs.declared.fault.CellKind.{CellKind}
 use Rattle.scan_model.specs.declared.fault.CellKind.TheVariants.{Stuck0, Stuck1, SlowRise, SlowFall}
 use Rattle.scan_model.specs.declared.fault.BridgeKind.{BridgeKind}
-use Rattle.scan_model.specs.declared.fault.BridgeKind.TheVariants.{Dominant, WiredAnd, WiredOr}
+use Rattle.scan_model.specs.declared.fault.BridgeKind.TheVariants.{Dominant, WiredAnd, WiredOr, DominantAnd, DominantOr}
 use Rattle.scan_model.specs.declared.fault.Fault.{Fault}
 use Rattle.scan_model.specs.declared.fault.Fault.TheVariants as fault
 use Rattle.scan_model.specs.declared.parts.PatternKind.{PatternKind}
@@ -18,7 +18,7 @@ use Rattle.scan_model.specs.Values.{IsAtLeast, AreAtLeast}
 use Rattle.scan_model.specs.Netlist.{driver_of, pin_at}
 use Rattle.scan_model.specs.ChainShift.{value_at, passed, loaded_at, load_with, unload_passes, unloaded_at, unload_with}
 use Rattle.scan_model.specs.ScanTest.{ScanTest, pattern_at, cells_of, points_of, chain_at}
-use Rattle.scan_model.specs.Faults.{stuck_value, bridged, forced_net, forced_pin, loaded, unloaded}
+use Rattle.scan_model.specs.Faults.{stuck_value, bridged, takes, forced_net, forced_pin, loaded, unloaded}
 use Rattle.scan_model.specs.NetValue.{assigned, driven, net_node, values_of, loads_of, source_of, good_value, forced_by, net_value, pin_value, nothing_forced}
 use Rattle.scan_model.specs.Response.{data_pin, output_pin, held, output_value, observed, response}
 use Rattle.scan_model.specs.Loads.{load}
@@ -121,6 +121,8 @@ bridged-at_least : (kind : BridgeKind) (v w x y : Tri) → IsAtLeast v w → IsA
 bridged-at_least Dominant v w x y h k = h
 bridged-at_least WiredAnd v w x y h k = and-at_least (v ∷ x ∷ []) (w ∷ y ∷ []) (h, (k, tt))
 bridged-at_least WiredOr v w x y h k = or-at_least (v ∷ x ∷ []) (w ∷ y ∷ []) (h, (k, tt))
+bridged-at_least DominantAnd v w x y h k = and-at_least (v ∷ x ∷ []) (w ∷ y ∷ []) (h, (k, tt))
+bridged-at_least DominantOr v w x y h k = or-at_least (v ∷ x ∷ []) (w ∷ y ∷ []) (h, (k, tt))
 
 -- what a fault forces is at least as definite where the fault-free values are
 forced_net-at_least : (g h : ℕ → Tri) (f : Option Fault) (n : ℕ) (x y : Tri) → ((m : ℕ) → IsAtLeast (g m) (h m)) → IsAtLeast x y → IsAtLeast (unwrap_or (forced_net g f n) x) (unwrap_or (forced_net h f n) y)
@@ -128,7 +130,7 @@ forced_net-at_least g h None n x y more e = e
 forced_net-at_least g h (Some (fault.Stem m v)) n x y more e = forced-at_least (cond (eqb n m) (Some (stuck_value v)) None) x y e
 forced_net-at_least g h (Some (fault.Branch p v)) n x y more e = e
 forced_net-at_least g h (Some (fault.Bridge a b kind)) n x y more e =
-    elim (eqb n a || eqb n b) as (λ c. IsAtLeast (unwrap_or (cond c (Some (bridged kind (g a) (g b))) None) x) (unwrap_or (cond c (Some (bridged kind (h a) (h b))) None) y)) [
+    elim (takes kind (eqb n a) (eqb n b)) as (λ c. IsAtLeast (unwrap_or (cond c (Some (bridged kind (g a) (g b))) None) x) (unwrap_or (cond c (Some (bridged kind (h a) (h b))) None) y)) [
       | true ↦ bridged-at_least kind (g a) (h a) (g b) (h b) (more a) (more b)
       | false ↦ e
     ]

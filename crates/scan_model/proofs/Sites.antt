@@ -5,6 +5,9 @@ use Rattle.std.specs.List.{range_with_len, enumerate_from, AllByRecursion}
 use Rattle.std.proofs.lemmas.List.Elements.{All-from_recursion, recursion_from_All, All-contains}
 use Rattle.scan_model.specs.declared.parts.Chain.{Chain}
 use Rattle.scan_model.specs.declared.fault.Fault.{Fault}
+use Rattle.scan_model.specs.declared.fault.Profile.{Profile}
+use Rattle.scan_model.specs.declared.fault.Profile.TheVariants.{One, Two}
+use Rattle.scan_model.specs.declared.parts.Pair.{Pair}
 use Rattle.scan_model.specs.Netlist.{net_numbers, pin_numbers, is_branch}
 use Rattle.scan_model.specs.ScanTest.{ScanTest, IsScanTest, chain_at, no_chain, HasSite}
 use Rattle.scan_model.specs.Universe.{universe, stems, branches, bridges, cells, stem_faults, branch_faults, bridge_faults, cell_faults, chain_faults}
@@ -41,6 +44,10 @@ cells_there t e there = in_flat_map (HasSite t) (λ i. i < 0 + length e.1.cells)
     (λ i lt. let site : (e.0 < length t.chains) × (i < length (chain_at t e.0).cells) = (there.0, omega (arith, ap (λ (c : Chain). length c.cells) there.1)) in (site, (site, (site, (site, tt)))))
     (in_range 0 (length e.1.cells))
 
+pair_there : (t : ScanTest) (profile : Profile) (p : Pair) → (p.a < length t.netlist.nets) × (p.b < length t.netlist.nets) → AllByRecursion (HasSite t) (bridge_faults profile p)
+pair_there t One p site = (site, ((site.1, site.0), (site, (site, tt))))
+pair_there t Two p site = (site, ((site.1, site.0), (site, (site, (site, ((site.1, site.0), (site, ((site.1, site.0), tt))))))))
+
 pub universe_there : (t : ScanTest) → IsScanTest t → All (HasSite t) (universe t)
 universe_there t sound = All-from_recursion (HasSite t) (universe t)
     (append (HasSite t) (stems t ++ branches t ++ bridges t) (cells t)
@@ -48,7 +55,7 @@ universe_there t sound = All-from_recursion (HasSite t) (universe t)
     (append (HasSite t) (stems t) (branches t)
     (in_flat_map (HasSite t) (λ n. n < 0 + length t.netlist.nets) stem_faults (net_numbers t.netlist) (λ n lt. (omega arith, (omega arith, tt))) (in_range 0 (length t.netlist.nets)))
     (in_flat_map (HasSite t) (λ p. p < 0 + length t.netlist.pins) branch_faults (filter (is_branch t.netlist) (pin_numbers t.netlist)) (λ p lt. (omega arith, (omega arith, tt))) (in_filter (λ p. p < 0 + length t.netlist.pins) (is_branch t.netlist) (pin_numbers t.netlist) (in_range 0 (length t.netlist.pins)))))
-    (in_flat_map (HasSite t) (λ p. (p.a < length t.netlist.nets) × (p.b < length t.netlist.nets)) bridge_faults t.pairs.kept (λ p site. (site, ((site.1, site.0), (site, (site, tt))))) (recursion_from_All (λ p. (p.a < length t.netlist.nets) × (p.b < length t.netlist.nets)) t.pairs.kept sound.pairs.kept_nets)))
+    (in_flat_map (HasSite t) (λ p. (p.a < length t.netlist.nets) × (p.b < length t.netlist.nets)) (bridge_faults t.profile) t.pairs.kept (pair_there t t.profile) (recursion_from_All (λ p. (p.a < length t.netlist.nets) × (p.b < length t.netlist.nets)) t.pairs.kept sound.pairs.kept_nets)))
     (in_flat_map (HasSite t) (λ e. (e.0 < length t.chains) × (e.1 ≡ chain_at t e.0)) chain_faults (enumerate_from 0 t.chains) (cells_there t)
     (in_chains t 0 t.chains (λ j lt. let s : 0 + j ≡ j = omega arith in rw s (lt, refl)))))
 

@@ -12,7 +12,7 @@ use Rattle.scan_model.specs.declared.fault.Fault.TheVariants as fault
 use Rattle.scan_model.specs.Values.{are_opposite, tri_not}
 use Rattle.scan_model.specs.Netlist.{pin_at, driver_of, is_gate, operands}
 use Rattle.scan_model.specs.ScanTest.{ScanTest, chain_at, point_at}
-use Rattle.scan_model.specs.Faults.{stuck_value, bridged}
+use Rattle.scan_model.specs.Faults.{stuck_value, bridged, takes}
 use Rattle.scan_model.specs.NetValue.{driven, values_of, source_of, good_value, forced_by, seen, nothing_forced}
 use Rattle.scan_model.specs.Response.{output_pin, data_pin}
 use Rattle.scan_model.specs.Suspect.{observed_net, is_output, is_cell}
@@ -45,7 +45,7 @@ forced_output t w f n = driven t.netlist (source_of t None w) (forced_by t (Some
 abbrev pub mask : ScanTest → Fault → ℕ → ℕ → Bool
 mask t (fault.Stem m v) w n = (n == m) && are_opposite (good_value t w m) (stuck_value v)
 mask t (fault.Branch p v) w n = is_operand_of n (pin_at t.netlist p).place && are_opposite (good_value t w n) (forced_output t w (fault.Branch p v) n)
-mask t (fault.Bridge a b kind) w n = ((n == a) || (n == b)) && are_opposite (good_value t w n) (bridged kind (good_value t w a) (good_value t w b))
+mask t (fault.Bridge a b kind) w n = takes kind (n == a) (n == b) && are_opposite (good_value t w n) (bridged kind (good_value t w a) (good_value t w b))
 mask t (fault.Cell h c kind) w n = false
 
 -- the pin at this place is the one that the point sees

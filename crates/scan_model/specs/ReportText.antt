@@ -8,7 +8,7 @@ use Rattle.scan_model.specs.declared.parts.Point.TheVariants.{Output, Cell}
 use Rattle.scan_model.specs.declared.fault.Stuck.{Stuck}
 use Rattle.scan_model.specs.declared.fault.Stuck.TheVariants as stuck
 use Rattle.scan_model.specs.declared.fault.BridgeKind.{BridgeKind}
-use Rattle.scan_model.specs.declared.fault.BridgeKind.TheVariants.{Dominant, WiredAnd, WiredOr}
+use Rattle.scan_model.specs.declared.fault.BridgeKind.TheVariants.{Dominant, WiredAnd, WiredOr, DominantAnd, DominantOr}
 use Rattle.scan_model.specs.declared.fault.CellKind.{CellKind}
 use Rattle.scan_model.specs.declared.fault.CellKind.TheVariants.{Stuck0, Stuck1, SlowRise, SlowFall}
 use Rattle.scan_model.specs.declared.fault.Fault.{Fault}
@@ -46,6 +46,8 @@ abbrev pub bridge_word : BridgeKind → List ℕ
 bridge_word Dominant = codes "dom"
 bridge_word WiredAnd = codes "and"
 bridge_word WiredOr = codes "or"
+bridge_word DominantAnd = codes "dom-and"
+bridge_word DominantOr = codes "dom-or"
 
 -- the words for where a branch leads
 abbrev pub branch_words : ScanTest → PinPlace → List (List ℕ)

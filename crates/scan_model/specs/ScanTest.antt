@@ -1,4 +1,5 @@
--- A circuit with its scan chains, its patterns and its pairs of neighbouring nets.
+-- A circuit with its scan chains, its patterns, its pairs of neighbouring nets and the profile of
+-- their bridges.
 use Rattle.std.specs.Prelude.{◌≡◌, ℕ, ◌+◌, ◌-◌, ◌<◌, ◌≤◌, max, List, [], ◌∷◌, ◌++◌, length, map, flat_map, cond, Bool, ◌==◌, ◌&&◌, ◌||◌, nat_lt, nat_eq, bytes_eq, IsFalse, All, slice_index_or}
 use Rattle.std.specs.List.{range_with_len, IsDistinct}
 use Rattle.scan_model.specs.declared.circuit.Driver.{Driver}
@@ -12,19 +13,21 @@ use Rattle.scan_model.specs.declared.parts.Pairs.{Pairs}
 use Rattle.scan_model.specs.declared.parts.Point.{Point}
 use Rattle.scan_model.specs.declared.parts.Point.TheVariants.{Output, Cell}
 use Rattle.scan_model.specs.declared.fault.Fault.{Fault}
+use Rattle.scan_model.specs.declared.fault.Profile.{Profile}
 use Rattle.scan_model.specs.declared.fault.Fault.TheVariants as fault
 use Rattle.scan_model.specs.Netlist.{Netlist, net_at, driver_of}
 use Rattle.scan_model.specs.Circuits.{IsCircuit}
 use Rattle.scan_model.specs.Cone.{in_fan_in}
 
 pub record ScanTest : Type 0 where
+  pub profile : Profile
   pub netlist : Netlist
   pub chains : List Chain
   pub patterns : List Pattern
   pub pairs : Pairs
 
-abbrev pub scan_test : Netlist → List Chain → List Pattern → Pairs → ScanTest
-scan_test netlist chains patterns pairs = record { netlist = netlist; chains = chains; patterns = patterns; pairs = pairs }
+abbrev pub scan_test : Profile → Netlist → List Chain → List Pattern → Pairs → ScanTest
+scan_test profile netlist chains patterns pairs = record { profile = profile; netlist = netlist; chains = chains; patterns = patterns; pairs = pairs }
 
 abbrev pub no_chain : Chain
 no_chain = record { name = []; cells = [] }

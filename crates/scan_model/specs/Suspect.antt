@@ -1,5 +1,5 @@
 -- Which faults can explain a failing bit, judged by the fault-free values alone.
-use Rattle.std.specs.Prelude.{ℕ, ◌+◌, List, map, filter, drop, Bool, false, ◌&&◌, ◌||◌, ◌==◌, nat_lt, nat_le, slice_index}
+use Rattle.std.specs.Prelude.{ℕ, ◌+◌, List, map, filter, drop, Bool, true, false, ◌&&◌, ◌||◌, ◌==◌, nat_lt, nat_le, slice_index}
 use Rattle.std.specs.List.{list_any, enumerate_from}
 use Rattle.scan_model.specs.declared.circuit.PinPlace.{PinPlace}
 use Rattle.scan_model.specs.declared.circuit.PinPlace.TheVariants as place
@@ -16,7 +16,7 @@ use Rattle.scan_model.specs.Values.{are_opposite}
 use Rattle.scan_model.specs.Netlist.{pin_at, driver_of}
 use Rattle.scan_model.specs.Cone.{in_fan_in}
 use Rattle.scan_model.specs.ScanTest.{ScanTest, chain_at, pattern_at, point_at}
-use Rattle.scan_model.specs.Faults.{stuck_value, bridged}
+use Rattle.scan_model.specs.Faults.{stuck_value, bridged, takes}
 use Rattle.scan_model.specs.NetValue.{good_value}
 use Rattle.scan_model.specs.Response.{data_pin}
 use Rattle.scan_model.specs.Universe.{universe}
@@ -56,7 +56,7 @@ abbrev pub flips : ScanTest → Fault → ℕ → Point → Bool
 flips t (fault.Stem n v) w point = are_opposite (good_value t w n) (stuck_value v) && net_reaches t n point
 flips t (fault.Branch p v) w point = are_opposite (good_value t w (pin_at t.netlist p).net) (stuck_value v) && place_reaches t (pin_at t.netlist p).place point
 flips t (fault.Bridge a b kind) w point =
-    (are_opposite (good_value t w a) (bridged kind (good_value t w a) (good_value t w b)) && net_reaches t a point)
+    (takes kind true false && are_opposite (good_value t w a) (bridged kind (good_value t w a) (good_value t w b)) && net_reaches t a point)
     || (are_opposite (good_value t w b) (bridged kind (good_value t w a) (good_value t w b)) && net_reaches t b point)
 flips t (fault.Cell h c kind) w point = false
 

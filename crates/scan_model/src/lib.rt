@@ -3,6 +3,7 @@
 
 mod bits;
 mod branches;
+mod bridge;
 mod circuit;
 mod cones;
 mod digest;
@@ -19,10 +20,11 @@ mod test_order;
 mod values;
 
 pub use bits::{bit, set_bit, set_bits, write_bit};
+pub use bridge::Joins;
 pub use circuit::{Circuit, Driver, GateKind, MakeFault, Net, Pin, PinPlace};
 pub use digest::Digest;
 pub use expected::Expected;
-pub use fault::{BridgeKind, CellKind, Fault, Stuck};
+pub use fault::{BridgeKind, CellKind, Fault, Profile, Stuck};
 pub use logs::{Bit, BitClass, Counts, CutGroup, LogFacts, LogForm, LogVersion, Range, Scored};
 pub use masks::{mark_patterns, pattern_mask};
 pub use pair_index::{PairPlace, nets_number};

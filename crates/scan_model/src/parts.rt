@@ -4,6 +4,7 @@ ghost use Rattle.scan_model.specs.ScanTest.{scan_test, points_of, cycle, longest
 ghost use Rattle.scan_model.specs.PairIndex.{IsPairIndex};
 
 use crate::circuit::Circuit;
+use crate::fault::Profile;
 use crate::pair_index::{PairPlace, pair_index};
 use crate::rows::{Name, NoMemory, Rows};
 use crate::test_order::points_in_order;
@@ -55,6 +56,7 @@ pub enum Point {
 /// A circuit with all that is tested on it. Contracts see a scan test.
 #[derive(Debug, Drop)]
 pub struct Parts {
+    profile: Profile,
     circuit: Circuit,
     chains: Rows<Chain>,
     patterns: Rows<Pattern>,
@@ -69,9 +71,9 @@ impl Model for Parts {
 
     ghost Value = { ScanTest };
 
-    ghost view = { λ p. scan_test p.circuit p.chains p.patterns p.pairs };
+    ghost view = { λ p. scan_test p.profile p.circuit p.chains p.patterns p.pairs };
 
-    ghost invariant = { λ p. IsSoundTest (scan_test p.circuit p.chains p.patterns p.pairs) p.points × IsPairIndex p.pairs.kept p.pair_index };
+    ghost invariant = { λ p. IsSoundTest (scan_test p.profile p.circuit p.chains p.patterns p.pairs) p.points × IsPairIndex p.pairs.kept p.pair_index };
 }
 
 /// The points in test order, and the places of the kept pairs.
@@ -94,16 +96,18 @@ fn points_and_index(
 }
 
 impl Parts {
-    /// The parts of four lists that fit each other, with their points in test order.
+    /// The parts of four lists that fit each other, with their points in test order and the faults
+    /// of a profile.
     pub fn make(
         alloc: Global,
+        profile: Profile,
         circuit: Circuit,
         chains: Rows<Chain>,
         patterns: Rows<Pattern>,
         pairs: Pairs,
     ) -> Result<Parts, NoMemory>
-        requires { IsScanTest (scan_test circuit chains patterns pairs) }
-        ensures { IfOk result (λ p. p ≡ scan_test circuit chains patterns pairs) }
+        requires { IsScanTest (scan_test profile circuit chains patterns pairs) }
+        ensures { IfOk result (λ p. p ≡ scan_test profile circuit chains patterns pairs) }
     {
         let outputs = circuit.outputs().len();
         let (points, pair_index) = points_and_index(
@@ -113,6 +117,7 @@ impl Parts {
             pairs.kept.as_slice(),
         )?;
         Ok(Parts {
+            profile,
             circuit,
             chains,
             patterns,
@@ -120,6 +125,14 @@ impl Parts {
             points,
             pair_index,
         })
+    }
+
+    /// Which bridges the pairs have.
+    pub fn profile(&self) -> Profile
+        ensures value { result ≡ self.now.profile }
+        ensures fits { IsScanTest self.now }
+    {
+        self.profile
     }
 
     pub fn circuit(&self) -> &Circuit

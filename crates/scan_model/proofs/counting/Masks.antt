@@ -2,7 +2,7 @@
 use Rattle.std.proofs.Common.{◌≡◌, ◌≢◌, ◌⊎◌, ℕ, zero, suc, ◌+◌, ◌<◌, Bool, true, false, cond, eqb, ◌&&◌, ◌||◌, List, [], ◌∷◌, length, map, Option, Some, None, refl, sym, ap, subst, ◌∙◌, inl, inr, arith}
 use Rattle.std.specs.Prelude.{Contains}
 use Rattle.std.specs.List.{range_with_len, list_any}
-use Rattle.std.proofs.lemmas.Bool.{cases_Bool, cases_eq, eq-eqb, ne_eqb, both_ways}
+use Rattle.std.proofs.lemmas.Bool.{cases_Bool, cases_eq, eq-eqb, eqb-true, ne_eqb, both_ways, and_from, and_left, and_right, or_cases}
 use mathlib.Core.Path.{fun_ext}
 use Rattle.scan_model.specs.declared.values.Tri.{Tri}
 use Rattle.scan_model.specs.declared.circuit.Driver.{Driver}
@@ -14,13 +14,15 @@ use Rattle.scan_model.specs.declared.parts.Point.{Point}
 use Rattle.scan_model.specs.declared.parts.PatternKind.TheVariants.{Capture, Shift}
 use Rattle.scan_model.specs.declared.fault.Stuck.{Stuck}
 use Rattle.scan_model.specs.declared.fault.BridgeKind.{BridgeKind}
+use Rattle.scan_model.specs.declared.fault.BridgeKind.TheVariants.{Dominant, WiredAnd, WiredOr, DominantAnd, DominantOr}
 use Rattle.scan_model.specs.declared.fault.Fault.{Fault}
 use Rattle.scan_model.specs.declared.fault.Fault.TheVariants as fault
 use Rattle.scan_model.specs.Values.{are_opposite, tri_not, gate_value}
 use Rattle.scan_model.specs.Netlist.{IsNetlist, IsPlacedAt, is_gate, is_gate_driver, driver_of, net_at, pin_at, operands}
 use Rattle.scan_model.specs.Walks.{IsEvaluationOrder}
 use Rattle.scan_model.specs.ScanTest.{ScanTest, IsScanTest, IsPoint, HasSite, pattern_at, points_of, point_at}
-use Rattle.scan_model.specs.Faults.{stuck_value, bridged}
+use Rattle.scan_model.specs.Faults.{stuck_value, bridged, takes}
+use Rattle.scan_model.specs.Cone.{in_fan_in}
 use Rattle.scan_model.specs.NetValue.{Forced, seen, driven, values_of, source_of, nothing_forced, good_value, net_value, pin_value}
 use Rattle.scan_model.specs.Universe.{universe}
 use Rattle.scan_model.specs.Coverage.{bit_of}
@@ -28,6 +30,7 @@ use Rattle.scan_model.specs.Response.{observed, predicts_fail}
 use Rattle.scan_model.specs.Suspect.{observed_net}
 use Rattle.scan_model.proofs.NetValues.{values_of-is}
 use Rattle.scan_model.proofs.Sites.{site_of}
+use Rattle.scan_model.proofs.FanSweeps.{in_own}
 use Rattle.scan_model.specs.Force.{force}
 use Rattle.scan_model.specs.Masks.{point_pin, flipped, flip_shows_at, flip_shows, is_operand_of, forced_output, mask, operand_is_point, place_is_point, straight_at, straight, place_nets, touched_nets, IsLogic}
 use Rattle.scan_model.proofs.counting.Valuations.{valuation_is}
@@ -124,11 +127,42 @@ module _ (t : ScanTest) (sound : IsScanTest t) (order : List ℕ) (ordered : IsE
         ap (λ (F : Forced). are_opposite (good o) (values_of t.netlist s F o)) (bridge_other a b x)
         ∙ ap (are_opposite (good o)) (one_of_two t.netlist order net_sound ordered s b a x site.1 is free.1 o lt) ∙ force_shows a x o lt ∙ sym (rw off (or_false (A && flip_shows_at t w a p)))
 
-    bridge_shows : are_opposite (good (observed_net t p)) (pin_value t (Some (fault.Bridge a b kind)) w (point_pin t p)) ≡ predicted (fault.Bridge a b kind) p
-    bridge_shows =
-        ap (λ (q : ℕ). are_opposite (good (observed_net t p)) (values_of t.netlist s (force_two a b x) q)) (point_pin-net t sound p is_point)
+    -- the forced nets, by who takes the value
+    abbrev forced_as : (Bool → Bool → Bool) → Forced
+    forced_as g = record { net = λ n. cond (g (eqb n a) (eqb n b)) (Some x) None; pin = λ q. None }
+
+    same_force : (g : Bool → Bool → Bool) → ((y z : Bool) → takes kind y z ≡ g y z) → forced_as (takes kind) ≡ forced_as g
+    same_force g same = ap (λ (f : ℕ → Option Tri). let F : Forced = record { net = f; pin = λ q. None } in F) (fun_ext (λ n. ap (λ (c : Bool). cond c (Some x) None) (same (eqb n a) (eqb n b))))
+
+    seen_as : (g : Bool → Bool → Bool) → ((y z : Bool) → takes kind y z ≡ g y z) → are_opposite (good (observed_net t p)) (pin_value t (Some (fault.Bridge a b kind)) w (point_pin t p)) ≡ are_opposite (good (observed_net t p)) (values_of t.netlist s (forced_as g) (observed_net t p))
+    seen_as g same =
+        ap (λ (q : ℕ). are_opposite (good (observed_net t p)) (values_of t.netlist s (forced_as (takes kind)) q)) (point_pin-net t sound p is_point)
+        ∙ ap (λ (F : Forced). are_opposite (good (observed_net t p)) (values_of t.netlist s F (observed_net t p))) (same_force g same)
+
+    both_take : ((y z : Bool) → takes kind y z ≡ (y || z)) → are_opposite (good (observed_net t p)) (pin_value t (Some (fault.Bridge a b kind)) w (point_pin t p)) ≡ predicted (fault.Bridge a b kind) p
+    both_take same =
+        seen_as (λ y z. y || z) same
         ∙ one_forced (one_site kind (good a) (good b))
-        ∙ sym (rw (eq-eqb a a refl, eq-eqb b b refl, or_true (eqb b a)) (or_false ((A && flip_shows_at t w a p) || ((B && flip_shows_at t w b p) || false)) ∙ ap (λ (y : Bool). (A && flip_shows_at t w a p) || y) (or_false (B && flip_shows_at t w b p))))
+        ∙ sym (rw (same (eqb a a) (eqb a b), same (eqb b a) (eqb b b), eq-eqb a a refl, eq-eqb b b refl, or_true (eqb b a)) (or_false ((A && flip_shows_at t w a p) || ((B && flip_shows_at t w b p) || false)) ∙ ap (λ (y : Bool). (A && flip_shows_at t w a p) || y) (or_false (B && flip_shows_at t w b p))))
+
+    apart : a ≢ b
+    apart same = both_ways (in_fan_in t.netlist b a) free.0 (ap (in_fan_in t.netlist b) same ∙ in_own t.netlist b)
+
+    second_takes : ((y z : Bool) → takes kind y z ≡ z) → are_opposite (good (observed_net t p)) (pin_value t (Some (fault.Bridge a b kind)) w (point_pin t p)) ≡ predicted (fault.Bridge a b kind) p
+    second_takes same =
+        seen_as (λ y z. z) same
+        ∙ force_shows b x (observed_net t p) lt
+        ∙ sym (rw (same (eqb a a) (eqb a b), same (eqb b a) (eqb b b), ne_eqb a b apart, eq-eqb b b refl) (or_false ((B && flip_shows_at t w b p) || false) ∙ or_false (B && flip_shows_at t w b p)))
+
+    bridge_by : (k : BridgeKind) → k ≡ kind → are_opposite (good (observed_net t p)) (pin_value t (Some (fault.Bridge a b kind)) w (point_pin t p)) ≡ predicted (fault.Bridge a b kind) p
+    bridge_by Dominant is = both_take (λ y z. ap (λ (k : BridgeKind). takes k y z) (sym is))
+    bridge_by WiredAnd is = both_take (λ y z. ap (λ (k : BridgeKind). takes k y z) (sym is))
+    bridge_by WiredOr is = both_take (λ y z. ap (λ (k : BridgeKind). takes k y z) (sym is))
+    bridge_by DominantAnd is = second_takes (λ y z. ap (λ (k : BridgeKind). takes k y z) (sym is))
+    bridge_by DominantOr is = second_takes (λ y z. ap (λ (k : BridgeKind). takes k y z) (sym is))
+
+    bridge_shows : are_opposite (good (observed_net t p)) (pin_value t (Some (fault.Bridge a b kind)) w (point_pin t p)) ≡ predicted (fault.Bridge a b kind) p
+    bridge_shows = bridge_by kind refl
 
   -- ---- branches
 
@@ -220,3 +254,49 @@ module _ (t : ScanTest) (sound : IsScanTest t) (order : List ℕ) (ordered : IsE
   pub masks-shift : (f : Fault) (k : ℕ) → IsLogic f → k < length (points_of t) → (pattern_at t w).kind ≡ Shift → predicts_fail t f (bit_of w k) ≡ false
   masks-shift f k logic lt shifts =
       predicts_fail-is t sound f w k lt ∙ ap (are_opposite (observed t None w (point_at t k))) (shifted_same t sound f w (point_at t k) shifts (logic_keeps f (point_at t k) logic)) ∙ not_opposite_itself (observed t None w (point_at t k))
+
+and_first : (x y : Bool) → (x && y) ≡ true → x ≡ true
+and_first true y e = refl
+and_first false y e = e
+
+-- the two masks of a bridge are never true together
+pub masks_apart : (t : ScanTest) (w a b : ℕ) (kind : BridgeKind) → (mask t (fault.Bridge a b kind) w a && mask t (fault.Bridge a b kind) w b) ≡ false
+masks_apart t w a b kind = go (one_site kind (good_value t w a) (good_value t w b))
+  where
+    go : (bridged kind (good_value t w a) (good_value t w b) ≡ good_value t w a) ⊎ (bridged kind (good_value t w a) (good_value t w b) ≡ good_value t w b) → (mask t (fault.Bridge a b kind) w a && mask t (fault.Bridge a b kind) w b) ≡ false
+    go (inl is) = and_left (mask t (fault.Bridge a b kind) w a) (mask t (fault.Bridge a b kind) w b) (and_right (takes kind (eqb a a) (eqb a b)) (are_opposite (good_value t w a) (bridged kind (good_value t w a) (good_value t w b))) (ap (are_opposite (good_value t w a)) is ∙ not_opposite_itself (good_value t w a)))
+    go (inr is) = and_right (mask t (fault.Bridge a b kind) w a) (mask t (fault.Bridge a b kind) w b) (and_right (takes kind (eqb b a) (eqb b b)) (are_opposite (good_value t w b) (bridged kind (good_value t w a) (good_value t w b))) (ap (are_opposite (good_value t w b)) is ∙ not_opposite_itself (good_value t w b)))
+
+-- a net that takes a bridge's value is one of the two
+one_of_pair : (kind : BridgeKind) (x y : Bool) → takes kind x y ≡ true → (x ≡ true) ⊎ (y ≡ true)
+one_of_pair Dominant x y e = or_cases x y e
+one_of_pair WiredAnd x y e = or_cases x y e
+one_of_pair WiredOr x y e = or_cases x y e
+one_of_pair DominantAnd x y e = inr e
+one_of_pair DominantOr x y e = inr e
+
+-- a fault flips one net at most in a pattern
+pub one_flipped : (t : ScanTest) (f : Fault) (w m n : ℕ) → mask t f w m ≡ true → mask t f w n ≡ true → m ≡ n
+one_flipped t (fault.Stem k v) w m n at_m at_n =
+    eqb-true m k (and_first (eqb m k) _ at_m) ∙ sym (eqb-true n k (and_first (eqb n k) _ at_n))
+one_flipped t (fault.Branch p v) w m n at_m at_n = by_place (pin_at t.netlist p).place (and_first (is_operand_of m (pin_at t.netlist p).place) _ at_m) (and_first (is_operand_of n (pin_at t.netlist p).place) _ at_n)
+  where
+    by_place : (x : PinPlace) → is_operand_of m x ≡ true → is_operand_of n x ≡ true → m ≡ n
+    by_place (place.Operand k i) here there = eqb-true m k here ∙ sym (eqb-true n k there)
+    by_place (place.Output k) here there = absurd cc
+one_flipped t (fault.Bridge a b kind) w m n at_m at_n = go (of_pair m at_m) (of_pair n at_n)
+  where
+    of_pair : (k : ℕ) → mask t (fault.Bridge a b kind) w k ≡ true → (k ≡ a) ⊎ (k ≡ b)
+    of_pair k at = elim (one_of_pair kind (eqb k a) (eqb k b) (and_first (takes kind (eqb k a) (eqb k b)) _ at)) [ inl first ↦ inl (eqb-true k a first) | inr second ↦ inr (eqb-true k b second) ]
+
+    never_both : (x y : ℕ) → x ≡ a → y ≡ b → mask t (fault.Bridge a b kind) w x ≡ true → mask t (fault.Bridge a b kind) w y ≡ true → ⊥
+    never_both x y is_a is_b at_x at_y =
+        both_ways (mask t (fault.Bridge a b kind) w a && mask t (fault.Bridge a b kind) w b) (masks_apart t w a b kind)
+        (and_from (mask t (fault.Bridge a b kind) w a) (mask t (fault.Bridge a b kind) w b) (subst (λ (k : ℕ). mask t (fault.Bridge a b kind) w k ≡ true) is_a at_x) (subst (λ (k : ℕ). mask t (fault.Bridge a b kind) w k ≡ true) is_b at_y))
+
+    go : (m ≡ a) ⊎ (m ≡ b) → (n ≡ a) ⊎ (n ≡ b) → m ≡ n
+    go (inl m_a) (inl n_a) = m_a ∙ sym n_a
+    go (inl m_a) (inr n_b) = absurd (never_both m n m_a n_b at_m at_n)
+    go (inr m_b) (inl n_a) = absurd (never_both n m n_a m_b at_n at_m)
+    go (inr m_b) (inr n_b) = m_b ∙ sym n_b
+one_flipped t (fault.Cell h c kind) w m n at_m at_n = absurd cc

@@ -5,7 +5,7 @@ use Rattle.std.specs.Prelude.{length}
 use Rattle.scan_model.specs.declared.values.Tri.{Tri}
 use Rattle.scan_model.specs.declared.values.Tri.TheVariants.{Zero, One, Unknown}
 use Rattle.scan_model.specs.declared.fault.BridgeKind.{BridgeKind}
-use Rattle.scan_model.specs.declared.fault.BridgeKind.TheVariants.{Dominant, WiredAnd, WiredOr}
+use Rattle.scan_model.specs.declared.fault.BridgeKind.TheVariants.{Dominant, WiredAnd, WiredOr, DominantAnd, DominantOr}
 use Rattle.scan_model.specs.Values.{IsAtLeast, are_opposite, tri_not}
 use Rattle.scan_model.specs.Faults.{bridged}
 use Rattle.scan_model.specs.Netlist.{Netlist, IsNetlist}
@@ -70,6 +70,24 @@ one_site WiredOr One Unknown = inl refl
 one_site WiredOr Unknown Zero = inl refl
 one_site WiredOr Unknown One = inr refl
 one_site WiredOr Unknown Unknown = inl refl
+one_site DominantAnd Zero Zero = inl refl
+one_site DominantAnd Zero One = inl refl
+one_site DominantAnd Zero Unknown = inl refl
+one_site DominantAnd One Zero = inr refl
+one_site DominantAnd One One = inl refl
+one_site DominantAnd One Unknown = inr refl
+one_site DominantAnd Unknown Zero = inr refl
+one_site DominantAnd Unknown One = inl refl
+one_site DominantAnd Unknown Unknown = inl refl
+one_site DominantOr Zero Zero = inl refl
+one_site DominantOr Zero One = inr refl
+one_site DominantOr Zero Unknown = inr refl
+one_site DominantOr One Zero = inl refl
+one_site DominantOr One One = inl refl
+one_site DominantOr One Unknown = inl refl
+one_site DominantOr Unknown Zero = inl refl
+one_site DominantOr Unknown One = inr refl
+one_site DominantOr Unknown Unknown = inl refl
 
 abbrev pub force_two : ℕ → ℕ → Tri → Forced
 force_two a b v = record { net = λ n. cond (eqb n a || eqb n b) (Some v) None; pin = λ p. None }

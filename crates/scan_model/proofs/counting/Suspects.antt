@@ -1,8 +1,8 @@
 -- A predicted fail is one that the fault can explain, so a fault that is no suspect has no failing bit.
-use Rattle.std.proofs.Common.{◌≡◌, ℕ, zero, suc, ◌+◌, ◌-◌, ◌<◌, ◌≤◌, Bool, true, false, cond, eqb, ltb, leb, ◌&&◌, ◌||◌, List, [], ◌∷◌, length, map, get_or, drop, Some, None, refl, sym, ap, subst, ◌∙◌, inl, inr, arith}
+use Rattle.std.proofs.Common.{◌≡◌, ◌≢◌, ℕ, zero, suc, ◌+◌, ◌-◌, ◌<◌, ◌≤◌, Bool, true, false, cond, eqb, ltb, leb, ◌&&◌, ◌||◌, List, [], ◌∷◌, length, map, get_or, drop, Some, None, refl, sym, ap, subst, ◌∙◌, inl, inr, arith}
 use Rattle.std.specs.Prelude.{Contains, count_by}
 use Rattle.std.specs.List.{range_with_len, list_any, AllByRecursion}
-use Rattle.std.proofs.lemmas.Bool.{cases_Bool, cases_eq, cases_lt, eq-eqb, eqb-true, both_ways, and_parts, and_from, or_cases, or_left, or_right, or_parts, and_cases, and_left, and_right, lt-ltb, le-leb}
+use Rattle.std.proofs.lemmas.Bool.{cases_Bool, cases_eq, cases_lt, eq-eqb, ne_eqb, eqb-true, both_ways, and_parts, and_from, or_cases, or_left, or_right, or_parts, and_cases, and_left, and_right, lt-ltb, le-leb}
 use Rattle.std.proofs.lemmas.List.{get_or_default, get_or-drop, length-drop}
 use Rattle.std.proofs.lemmas.List.Sums.{sum_by-cons}
 use Rattle.scan_model.specs.declared.values.Tri.{Tri}
@@ -24,7 +24,7 @@ use Rattle.scan_model.specs.Netlist.{IsNetlist, is_gate_driver, driver_of, pin_a
 use Rattle.scan_model.specs.Walks.{IsEvaluationOrder}
 use Rattle.scan_model.specs.Cone.{in_fan_in}
 use Rattle.scan_model.specs.ScanTest.{ScanTest, IsScanTest, IsPoint, HasSite, chain_at, pattern_at, points_of, point_at}
-use Rattle.scan_model.specs.Faults.{stuck_value, bridged}
+use Rattle.scan_model.specs.Faults.{stuck_value, bridged, takes}
 use Rattle.scan_model.specs.NetValue.{driven, values_of, source_of, nothing_forced, good_value, net_value}
 use Rattle.scan_model.specs.Universe.{universe}
 use Rattle.scan_model.specs.Coverage.{bit_of, bits_of}
@@ -32,7 +32,7 @@ use Rattle.scan_model.specs.Classes.{class, is_failing}
 use Rattle.scan_model.specs.Response.{observed, predicts_fail, captured}
 use Rattle.scan_model.specs.MatchCounts.{counts_of}
 use Rattle.scan_model.specs.Suspect.{observed_net, operand_reaches, place_reaches, net_reaches, flips, is_cell_up_to, is_cell_behind, can_explain, is_suspect}
-use Rattle.scan_model.proofs.FanSweeps.{any_found, any_among}
+use Rattle.scan_model.proofs.FanSweeps.{any_found, any_among, in_own}
 use Rattle.scan_model.proofs.Sites.{site_of}
 use Rattle.scan_model.specs.BranchMask.{senses}
 use Rattle.scan_model.specs.Masks.{flipped, flip_shows_at, is_operand_of, forced_output, mask, operand_is_point, place_is_point, straight_at, place_nets, touched_nets, IsLogic, operand_values}
@@ -44,7 +44,7 @@ use Rattle.scan_model.proofs.counting.Sources.{source_free}
 use Rattle.scan_model.proofs.counting.Chains.{unload_above}
 use Rattle.scan_model.proofs.counting.Shown.{not_opposite_itself, observed_net-in_range, point_at-IsPoint, predicts_fail-is, observed_good}
 use Rattle.scan_model.proofs.counting.ChainSteps.{outside_shows_net, own_shows, captured_net, shift_outside}
-use Rattle.scan_model.proofs.counting.LogicFaults.{each_under}
+use Rattle.scan_model.proofs.counting.LogicFaults.{IsLoopFree, loop_free, each_under}
 use Rattle.scan_model.proofs.counting.Masks.{masks-capture, masks-shift}
 
 no_false : (b : Bool) → (b || false) ≡ true → b ≡ true
@@ -76,27 +76,29 @@ module _ (t : ScanTest) (sound : IsScanTest t) (order : List ℕ) (ordered : IsE
   abbrev predicted : Fault → Point → Bool
   predicted f p = list_any (λ n. mask t f w n && flip_shows_at t w n p) (touched_nets t f) || straight_at t f w p
 
-  flips_there : (f : Fault) (p : Point) → IsPoint t p → HasSite t f → IsLogic f → predicted f p ≡ true → flips t f w p ≡ true
-  flips_there (fault.Stem m v) p is_point site logic shows =
+  flips_there : (f : Fault) (p : Point) → IsPoint t p → HasSite t f → IsLoopFree t f → IsLogic f → predicted f p ≡ true → flips t f w p ≡ true
+  flips_there (fault.Stem m v) p is_point site free logic shows =
       let A = are_opposite (good m) (stuck_value v) in
       let parts = and_parts (eqb m m && A) (flip_shows_at t w m p) (no_false ((eqb m m && A) && flip_shows_at t w m p) (no_false (((eqb m m && A) && flip_shows_at t w m p) || false) shows)) in
       and_from A (net_reaches t m p) (and_parts (eqb m m) A parts.0).1 (shows_in_cone m p is_point parts.1)
-  flips_there (fault.Bridge a b kind) p is_point site logic shows =
+  flips_there (fault.Bridge a b kind) p is_point site free logic shows =
       let x = bridged kind (good a) (good b) in
       let A = are_opposite (good a) x in
       let B = are_opposite (good b) x in
-      let MA = (eqb a a || eqb a b) && A in
-      let MB = (eqb b a || eqb b b) && B in
+      let apart : a ≢ b = λ same. both_ways (in_fan_in t.netlist b a) free.0 (ap (in_fan_in t.netlist b) same ∙ in_own t.netlist b) in
+      let MA = takes kind (eqb a a) (eqb a b) && A in
+      let MB = takes kind (eqb b a) (eqb b b) && B in
+      let takes_first : (takes kind (eqb a a) (eqb a b) && A) ≡ (takes kind true false && A) = rw (eq-eqb a a refl, ne_eqb a b apart) refl in
       elim (or_cases (MA && flip_shows_at t w a p) ((MB && flip_shows_at t w b p) || false) (no_false ((MA && flip_shows_at t w a p) || ((MB && flip_shows_at t w b p) || false)) shows)) [
         | inl first ↦
             let parts = and_parts MA (flip_shows_at t w a p) first in
-            or_left (A && net_reaches t a p) (B && net_reaches t b p) (and_from A (net_reaches t a p) (and_parts (eqb a a || eqb a b) A parts.0).1 (shows_in_cone a p is_point parts.1))
+            or_left ((takes kind true false && A) && net_reaches t a p) (B && net_reaches t b p) (and_from (takes kind true false && A) (net_reaches t a p) (sym takes_first ∙ parts.0) (shows_in_cone a p is_point parts.1))
         | inr second ↦
             let parts = and_parts MB (flip_shows_at t w b p) (no_false (MB && flip_shows_at t w b p) second) in
-            or_right (A && net_reaches t a p) (B && net_reaches t b p) (and_from B (net_reaches t b p) (and_parts (eqb b a || eqb b b) B parts.0).1 (shows_in_cone b p is_point parts.1))
+            or_right ((takes kind true false && A) && net_reaches t a p) (B && net_reaches t b p) (and_from B (net_reaches t b p) (and_parts (takes kind (eqb b a) (eqb b b)) B parts.0).1 (shows_in_cone b p is_point parts.1))
       ]
-  flips_there (fault.Cell h c kind) p is_point site logic shows = absurd logic
-  flips_there (fault.Branch q v) p is_point site logic shows = elim (or_cases (list_any shown (place_nets t (pin_at t.netlist q).place)) (place_is_point t (pin_at t.netlist q).place p && O) shows) [
+  flips_there (fault.Cell h c kind) p is_point site free logic shows = absurd logic
+  flips_there (fault.Branch q v) p is_point site free logic shows = elim (or_cases (list_any shown (place_nets t (pin_at t.netlist q).place)) (place_is_point t (pin_at t.netlist q).place p && O) shows) [
     | inl net ↦ by_place (pin_at t.netlist q).place refl net
     | inr pin ↦
         let parts = and_parts (place_is_point t (pin_at t.netlist q).place p) O pin in
@@ -219,6 +221,11 @@ none_counted A B (b ∷ xs) all none follows =
     rw (sum_by-cons (λ (x : Bit). cond (B x) 1 0) b xs, follows b all.0 parts.0, none_counted A B xs all.1 parts.1 follows) refl
 
 module _ (t : ScanTest) (sound : IsScanTest t) (order : List ℕ) (ordered : IsEvaluationOrder t.netlist order) where
+  -- where a logic fault predicts a fail, its site is flipped
+  pub predicted_flips : (f : Fault) (w k : ℕ) → Contains (universe t) f → IsLogic f → k < length (points_of t) → (pattern_at t w).kind ≡ Capture → predicts_fail t f (bit_of w k) ≡ true → flips t f w (point_at t k) ≡ true
+  predicted_flips f w k in' logic within captures shows =
+      flips_there t sound order ordered w f (point_at t k) (point_at-IsPoint t sound k within) (site_of t f sound in') (loop_free t f sound in') logic (sym (masks-capture t sound order ordered w f k in' logic within captures) ∙ shows)
+
   -- a predicted fail is one that the fault can explain
   pub predicted_explained : (f : Fault) (w k : ℕ) → Contains (universe t) f → w < length t.patterns → k < length (points_of t) → predicts_fail t f (bit_of w k) ≡ true → can_explain t f (pattern_at t w).kind w (point_at t k) ≡ true
   predicted_explained f w k in' lt within shows = by_kind (pattern_at t w).kind refl f in' shows
@@ -228,10 +235,6 @@ module _ (t : ScanTest) (sound : IsScanTest t) (order : List ℕ) (ordered : IsE
 
       in_shift : (f : Fault) → IsLogic f → (pattern_at t w).kind ≡ Shift → predicts_fail t f (bit_of w k) ≡ true → ⊥
       in_shift f logic shifts shows = both_ways (predicts_fail t f (bit_of w k)) (masks-shift t sound order ordered w f k logic within shifts) shows
-
-      in_capture : (f : Fault) → IsLogic f → Contains (universe t) f → (pattern_at t w).kind ≡ Capture → predicts_fail t f (bit_of w k) ≡ true → flips t f w (point_at t k) ≡ true
-      in_capture f logic in' captures shows =
-          flips_there t sound order ordered w f (point_at t k) abbrev_point (site_of t f sound in') logic (sym (masks-capture t sound order ordered w f k in' logic within captures) ∙ shows)
 
       shifted : (h c : ℕ) (K : CellKind) (p : Point) → (pattern_at t w).kind ≡ Shift → are_opposite (observed t None w p) (observed t (Some (fault.Cell h c K)) w p) ≡ true → (is_cell_up_to h c p || is_cell_behind h c p) ≡ true
       shifted h c K (Output j) shifts fails = absurd (both_ways (are_opposite (observed t None w (Output j)) (observed t (Some (fault.Cell h c K)) w (Output j)))
@@ -246,9 +249,9 @@ module _ (t : ScanTest) (sound : IsScanTest t) (order : List ℕ) (ordered : IsE
       ]
 
       by_kind : (kind : PatternKind) → (pattern_at t w).kind ≡ kind → (f : Fault) → Contains (universe t) f → predicts_fail t f (bit_of w k) ≡ true → can_explain t f kind w (point_at t k) ≡ true
-      by_kind Capture captures (fault.Stem m v) in' shows = in_capture (fault.Stem m v) tt in' captures shows
-      by_kind Capture captures (fault.Branch p v) in' shows = in_capture (fault.Branch p v) tt in' captures shows
-      by_kind Capture captures (fault.Bridge a b kind) in' shows = in_capture (fault.Bridge a b kind) tt in' captures shows
+      by_kind Capture captures (fault.Stem m v) in' shows = predicted_flips (fault.Stem m v) w k in' tt within captures shows
+      by_kind Capture captures (fault.Branch p v) in' shows = predicted_flips (fault.Branch p v) w k in' tt within captures shows
+      by_kind Capture captures (fault.Bridge a b kind) in' shows = predicted_flips (fault.Bridge a b kind) w k in' tt within captures shows
       by_kind Capture captures (fault.Cell h c K) in' shows = cell_explained t sound order ordered w lt captures h c K (site_of t (fault.Cell h c K) sound in').0 (point_at t k) abbrev_point (sym (predicts_fail-is t sound (fault.Cell h c K) w k within) ∙ shows)
       by_kind Shift shifts (fault.Stem m v) in' shows = absurd (in_shift (fault.Stem m v) tt shifts shows)
       by_kind Shift shifts (fault.Branch p v) in' shows = absurd (in_shift (fault.Branch p v) tt shifts shows)

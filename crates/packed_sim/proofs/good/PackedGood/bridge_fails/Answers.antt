@@ -10,8 +10,8 @@ bridged_row-row-requires g c =
     let site = site_of c.args.parts.now (fault.Bridge c.args.bridge.0 c.args.bridge.1 c.args.bridge.2) c.circuit.ensures.fits c.requires.fault in
     record { good = c.requires.good; block = block_inside c.args.parts.now c.args.self.now c.args.word c.requires.good c.requires.word; a = site.0; b = site.1 }
 
-pub force_nets-requires : goal.force_nets-requires
-force_nets-requires g c =
+pub force_bridge-requires : goal.force_bridge-requires
+force_bridge-requires g c =
     let site = site_of c.args.parts.now (fault.Bridge c.args.bridge.0 c.args.bridge.1 c.args.bridge.2) c.circuit.ensures.fits c.requires.fault in
     record {
       good = c.requires.good;
@@ -29,6 +29,6 @@ returns-clause-fails g c k i lt i_lt =
     let j = 64 * (word % 8) + i in
     c.write_differences.ensures k i lt i_lt
     ∙ bridge_bit t c.circuit.ensures.fits c.args.self.now.wiring.order.items c.requires.good.wired.wired.ordered c.args.self.now c.requires.good c.args.bridge.0 c.args.bridge.1 c.args.bridge.2 word k i c.requires.word lt i_lt c.bridged_row-row.result
-    (now_at c.args.self.now c.force_nets.new.scratch (word / 8) j (observed_at t k))
+    (now_at c.args.self.now c.force_bridge.new.scratch (word / 8) j (observed_at t k))
     (λ captured. c.bridged_row-row.ensures j (lane_inside word i i_lt) captured)
-    (λ captured. c.force_nets.ensures.values k j lt (lane_inside word i i_lt) captured)
+    (λ captured. c.force_bridge.ensures.values k j lt (lane_inside word i i_lt) captured)

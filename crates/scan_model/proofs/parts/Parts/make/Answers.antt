@@ -11,9 +11,9 @@ points_and_index-requires-clause-cells c = rw c.as_slice.ensures (longest_few c.
 
 pub invariant_of-result : goal.invariant_of-result
 invariant_of-result c =
-    let sound : IsSoundTest (scan_test c.args.circuit c.args.chains c.args.patterns c.args.pairs) c.in_ok-points.points = record {
+    let sound : IsSoundTest (scan_test c.args.profile c.args.circuit c.args.chains c.args.patterns c.args.pairs) c.in_ok-points.points = record {
       fits = c.requires;
       in_order = rw (← c.outputs.ensures.value, ← c.len-outputs.ensures, ← c.as_slice.ensures) c.in_ok-points.ensures.points;
-      few = points_few (scan_test c.args.circuit c.args.chains c.args.patterns c.args.pairs) c.requires;
+      few = points_few (scan_test c.args.profile c.args.circuit c.args.chains c.args.patterns c.args.pairs) c.requires;
     } in
     (sound, rw (← c.as_slice-2.ensures) c.in_ok-points.ensures.index)
