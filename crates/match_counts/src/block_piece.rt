@@ -1,12 +1,10 @@
 ghost use Rattle.std.specs.Prelude.{◌≡◌, ℕ, ◌+◌, ◌<◌, [], All, Contains, length, IfOk};
 ghost use Rattle.packed_sim.specs.Belongs.{BelongsTo};
-ghost use Rattle.match_counts.specs.Owners.{IsSuspectOf, AreOwners, Shares, suspect_at};
-ghost use Rattle.match_counts.specs.Owners as owning;
+ghost use Rattle.fault_effects.specs.Owners.{IsSuspectOf, AreOwners, Shares, suspect_at};
+ghost use Rattle.fault_effects.specs.Owners as owning;
 
-use crate::block_work::BlockWork;
 use crate::pieces::share_in_pieces;
-use crate::share::Share;
-use crate::work_kind::WorkKind;
+use fault_effects::{BlockWork, Share, WorkKind};
 use scan_model::{NoMemory, Rows};
 use std::alloc::Global;
 use std::thread::Threads;

@@ -1,11 +1,11 @@
 use Rattle.std.proofs.Common.{◌≡◌, ℕ, ◌+◌, ◌<◌, [], length, get_or, ap, ◌∙◌, inl, inr, arith}
 use Rattle.std.proofs.lemmas.Bool.{cases_eq}
 use Rattle.scan_model.specs.Netlist.{Netlist}
-use Rattle.match_counts.specs.declared.work_kind.WorkKind.TheVariants.{Cells}
-use Rattle.match_counts.specs.Owners.{owner, suspect_at}
-use Rattle.match_counts.specs.Pieces.{IsServed}
-use Rattle.match_counts.proofs.ShareLists.{shares_join}
-use Rattle.match_counts.proofs.OwnerGroups.{owned_in}
+use Rattle.fault_effects.specs.declared.work_kind.WorkKind.TheVariants.{Cells}
+use Rattle.fault_effects.specs.Owners.{owner, suspect_at}
+use Rattle.fault_effects.specs.Pieces.{IsServed}
+use Rattle.fault_effects.proofs.ShareLists.{shares_join}
+use Rattle.fault_effects.proofs.OwnerGroups.{owned_in}
 use Rattle.match_counts.proofs.block_piece.block_shares.Goals as goal
 
 pub returns : goal.returns

@@ -4,12 +4,12 @@ use Rattle.std.specs.List.{flat_map, AllZip}
 use Rattle.rayon.specs.Lists.{chunks_of}
 use Rattle.rayon.proofs.ToStd.{slice-AllZip, chunks_of-concat}
 use Rattle.scan_model.specs.declared.rows.NoMemory.{NoMemory}
-use Rattle.match_counts.specs.declared.share.Share.{Share}
-use Rattle.match_counts.specs.declared.block_work.BlockWork.{BlockWork}
-use Rattle.match_counts.specs.declared.work_kind.WorkKind.{WorkKind}
-use Rattle.match_counts.specs.Owners.{Shares}
-use Rattle.match_counts.specs.Pieces.{IsItem, IsServed}
-use Rattle.match_counts.proofs.PieceShares.{each_piece, pieces_joined}
+use Rattle.fault_effects.specs.declared.share.Share.{Share}
+use Rattle.fault_effects.specs.declared.block_work.BlockWork.{BlockWork}
+use Rattle.fault_effects.specs.declared.work_kind.WorkKind.{WorkKind}
+use Rattle.fault_effects.specs.Owners.{Shares}
+use Rattle.fault_effects.specs.Pieces.{IsItem, IsServed}
+use Rattle.fault_effects.proofs.PieceShares.{each_piece, pieces_joined}
 use Rattle.match_counts.proofs.pieces.pieces.Goals as goal
 
 pub collect-all-requires-clause-ready : goal.collect-all-requires-clause-ready
