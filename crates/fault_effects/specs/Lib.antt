@@ -11,3 +11,4 @@ pub mod Readers
 pub mod FlipOrder
 pub mod Regions
 pub mod KeptFlips
+pub mod SoundWork

@@ -1,3 +1,4 @@
+//! What the pieces of a block's work share.
 ghost use Rattle.std.specs.Prelude.{◌≡◌, ◌+◌, ◌<◌, length};
 ghost use Rattle.scan_model.specs.ScanTest.{points_of};
 ghost use Rattle.fault_effects.specs.Readers.{AreReads};

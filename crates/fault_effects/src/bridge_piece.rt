@@ -3,14 +3,15 @@ ghost use Rattle.scan_model.specs.declared.logs.LogFacts.{LogFacts};
 ghost use Rattle.scan_model.specs.declared.fault.Fault.TheVariants as fault;
 ghost use Rattle.scan_model.specs.ScanTest.{ScanTest};
 ghost use Rattle.scan_model.specs.Universe.{universe};
-ghost use Rattle.packed_sim.specs.Belongs.{BelongsTo, IsScratchOf};
+ghost use Rattle.packed_sim.specs.Belongs.{IsScratchOf};
 ghost use Rattle.fault_effects.specs.declared.side.Side.{Side};
 ghost use Rattle.fault_effects.specs.PointRows.{ArePointRows};
 ghost use Rattle.fault_effects.specs.Shares.{count_in};
 ghost use Rattle.fault_effects.specs.Flips.{count_on};
 ghost use Rattle.fault_effects.specs.declared.point_row.PointRow.{PointRow};
 ghost use Rattle.fault_effects.specs.KeptFlips.{IsKept, IsKeptPair};
-ghost use Rattle.fault_effects.specs.Owners.{IsSuspectOf, IsOwned, Shares, IsAmong};
+ghost use Rattle.fault_effects.specs.Owners.{IsOwned, Shares, IsAmong};
+ghost use Rattle.fault_effects.specs.SoundWork.{IsSound};
 
 use crate::block_work::BlockWork;
 use crate::kept_flip::KeptFlip;
@@ -48,7 +49,7 @@ fn bridge_count<L: Ledger>(
     kind: BridgeKind,
     steps: &mut Steps<L>,
 ) -> Result<BlockCount, NoMemory>
-    requires good { BelongsTo work.now.parts.now work.now.good.now }
+    requires work { IsSound work.now }
     requires scratch { IsScratchOf work.now.good.now scratch.old }
     requires first { IsKept work.now.parts.now work.now.rows.now work.now.block first.old }
     requires second { IsKept work.now.parts.now work.now.rows.now work.now.block second.old }
@@ -94,7 +95,7 @@ impl KeptPair {
         kind: BridgeKind,
         steps: &mut Steps<L>,
     ) -> Result<BlockCount, NoMemory>
-        requires good { BelongsTo work.now.parts.now work.now.good.now }
+        requires work { IsSound work.now }
         requires scratch { IsScratchOf work.now.good.now scratch.old }
         requires kept { IsKeptPair work.now.parts.now work.now.rows.now work.now.block self.old }
         requires one { pair.0 < length work.now.parts.now.netlist.nets }
@@ -122,8 +123,7 @@ pub(crate) fn share_bridges<L: Ledger>(
     shares: &mut Rows<Share>,
     steps: &mut Steps<L>,
 ) -> Result<(), NoMemory>
-    requires good { BelongsTo work.now.parts.now work.now.good.now }
-    requires suspects { All (IsSuspectOf work.now.parts.now) work.now.suspects.now }
+    requires work { IsSound work.now }
     requires scratch { IsScratchOf work.now.good.now scratch.old }
     requires group { All (IsOwned work.now.parts.now work.now.suspects.now (length work.now.parts.now.netlist.nets + 1)) group.now }
     ensures scratch { IsScratchOf work.now.good.now scratch.new }

@@ -1,27 +1,22 @@
-ghost use Rattle.std.specs.Prelude.{◌≡◌, ℕ, ◌+◌, ◌<◌, All, length, IfOk, OnOk};
-ghost use Rattle.scan_model.specs.ScanTest.{points_of};
-ghost use Rattle.packed_sim.specs.Belongs.{BelongsTo, IsScratchOf, IsScratchIn};
-ghost use Rattle.fault_effects.specs.Owners.{IsSuspectOf, IsOwned, Shares, IsAmong, suspect_at};
+ghost use Rattle.std.specs.Prelude.{◌≡◌, ◌+◌, ◌<◌, All, length, IfOk, OnOk};
+ghost use Rattle.packed_sim.specs.Belongs.{IsScratchOf, IsScratchIn};
+ghost use Rattle.fault_effects.specs.Owners.{IsOwned, Shares, IsAmong, suspect_at};
 ghost use Rattle.fault_effects.specs.Walks.{IsWalk, IsOfKind};
+ghost use Rattle.fault_effects.specs.SoundWork.{IsSound};
 
+use crate::block_work::BlockWork;
 use crate::notes::Notes;
-use crate::point_row::PointRow;
 use crate::share::Share;
-use crate::suspect::Suspect;
 use crate::walk::reach;
-use packed_sim::{PackedGood, Scratch};
-use scan_model::{CellKind, Fault, NoMemory, Parts, Rows, Steps};
+use packed_sim::Scratch;
+use scan_model::{CellKind, Fault, NoMemory, Rows, Steps};
 use std::alloc::Global;
 use std::sync::ledger::Ledger;
 
 /// Adds the share of a suspect if its fault is of this kind, and says where the walk stands then.
 fn share_cell<L: Ledger>(
-    parts: &Parts,
-    good: &PackedGood,
+    work: &BlockWork<'_>,
     scratch: &mut Scratch,
-    block: usize,
-    rows: &[PointRow],
-    suspects: &[Suspect],
     item: u32,
     kind: CellKind,
     at: Option<(u32, u32)>,
@@ -29,18 +24,15 @@ fn share_cell<L: Ledger>(
     shares: &mut Rows<Share>,
     steps: &mut Steps<L>,
 ) -> Result<Option<(u32, u32)>, NoMemory>
-    requires good { BelongsTo parts.now good.now }
-    requires block { block < length good.now.rows }
-    requires rows { length rows.now ≡ length (points_of parts.now) }
-    requires suspects { All (IsSuspectOf parts.now) suspects.now }
-    requires item { IsOwned parts.now suspects.now (length parts.now.netlist.nets + 2) item }
-    requires walk { IsWalk parts.now good.now rows.now block kind scratch.old notes.old at }
-    ensures scratch { IsScratchIn good.now scratch.new }
-    ensures walk { IfOk result (IsWalk parts.now good.now rows.now block kind scratch.new notes.new) }
-    ensures shares { OnOk result (Shares parts.now rows.now block suspects.now (λ i. (i ≡ item) × IsOfKind kind (suspect_at suspects.now i).fault) shares.old shares.new) }
+    requires work { IsSound work.now }
+    requires item { IsOwned work.now.parts.now work.now.suspects.now (length work.now.parts.now.netlist.nets + 2) item }
+    requires walk { IsWalk work.now.parts.now work.now.good.now work.now.rows.now work.now.block kind scratch.old notes.old at }
+    ensures scratch { IsScratchIn work.now.good.now scratch.new }
+    ensures walk { IfOk result (IsWalk work.now.parts.now work.now.good.now work.now.rows.now work.now.block kind scratch.new notes.new) }
+    ensures shares { OnOk result (Shares work.now.parts.now work.now.rows.now work.now.block work.now.suspects.now (λ i. (i ≡ item) × IsOfKind kind (suspect_at work.now.suspects.now i).fault) shares.old shares.new) }
 {
-    let _ = parts.chains();
-    let suspect = suspects[item as usize];
+    let _ = work.parts.chains();
+    let suspect = work.suspects[item as usize];
     let Fault::Cell {
         chain,
         pos,
@@ -52,18 +44,7 @@ fn share_cell<L: Ledger>(
     if own != kind {
         return Ok(at);
     }
-    reach(
-        parts,
-        good,
-        scratch,
-        block,
-        rows,
-        at,
-        (chain, pos),
-        kind,
-        notes,
-        steps,
-    )?;
+    reach(work, scratch, at, (chain, pos), kind, notes, steps)?;
     shares.push(Share {
         suspect: item,
         count: notes.sum(),
@@ -74,105 +55,50 @@ fn share_cell<L: Ledger>(
 /// Adds the shares of the suspects of one kind. They come in the order of their places, so from the last one on a walk
 /// goes down each chain once.
 fn share_kind<L: Ledger>(
-    parts: &Parts,
-    good: &PackedGood,
+    work: &BlockWork<'_>,
     scratch: &mut Scratch,
-    block: usize,
-    rows: &[PointRow],
-    suspects: &[Suspect],
     group: &[u32],
     kind: CellKind,
     notes: &mut Notes,
     shares: &mut Rows<Share>,
     steps: &mut Steps<L>,
 ) -> Result<(), NoMemory>
-    requires good { BelongsTo parts.now good.now }
-    requires scratch { IsScratchIn good.now scratch.old }
-    requires block { block < length good.now.rows }
-    requires rows { length rows.now ≡ length (points_of parts.now) }
-    requires suspects { All (IsSuspectOf parts.now) suspects.now }
-    requires group { All (IsOwned parts.now suspects.now (length parts.now.netlist.nets + 2)) group.now }
-    ensures scratch { IsScratchIn good.now scratch.new }
-    ensures shares { OnOk result (Shares parts.now rows.now block suspects.now (λ i. IsAmong group.now (length group.now) i × IsOfKind kind (suspect_at suspects.now i).fault) shares.old shares.new) }
+    requires work { IsSound work.now }
+    requires scratch { IsScratchIn work.now.good.now scratch.old }
+    requires group { All (IsOwned work.now.parts.now work.now.suspects.now (length work.now.parts.now.netlist.nets + 2)) group.now }
+    ensures scratch { IsScratchIn work.now.good.now scratch.new }
+    ensures shares { OnOk result (Shares work.now.parts.now work.now.rows.now work.now.block work.now.suspects.now (λ i. IsAmong group.now (length group.now) i × IsOfKind kind (suspect_at work.now.suspects.now i).fault) shares.old shares.new) }
 {
     let mut at = None;
     let mut left = group.len();
     while left > 0 {
         left -= 1;
-        at = share_cell(
-            parts,
-            good,
-            scratch,
-            block,
-            rows,
-            suspects,
-            group[left],
-            kind,
-            at,
-            notes,
-            shares,
-            steps,
-        )?;
+        at = share_cell(work, scratch, group[left], kind, at, notes, shares, steps)?;
     }
     Ok(())
 }
 
 /// Adds the shares of the suspects of all four kinds.
 fn share_kinds<L: Ledger>(
-    parts: &Parts,
-    good: &PackedGood,
+    work: &BlockWork<'_>,
     scratch: &mut Scratch,
-    block: usize,
-    rows: &[PointRow],
-    suspects: &[Suspect],
     group: &[u32],
     notes: &mut Notes,
     shares: &mut Rows<Share>,
     steps: &mut Steps<L>,
 ) -> Result<(), NoMemory>
-    requires good { BelongsTo parts.now good.now }
-    requires scratch { IsScratchIn good.now scratch.old }
-    requires block { block < length good.now.rows }
-    requires rows { length rows.now ≡ length (points_of parts.now) }
-    requires suspects { All (IsSuspectOf parts.now) suspects.now }
-    requires group { All (IsOwned parts.now suspects.now (length parts.now.netlist.nets + 2)) group.now }
-    ensures scratch { IsScratchIn good.now scratch.new }
-    ensures shares { OnOk result (Shares parts.now rows.now block suspects.now (IsAmong group.now (length group.now)) shares.old shares.new) }
+    requires work { IsSound work.now }
+    requires scratch { IsScratchIn work.now.good.now scratch.old }
+    requires group { All (IsOwned work.now.parts.now work.now.suspects.now (length work.now.parts.now.netlist.nets + 2)) group.now }
+    ensures scratch { IsScratchIn work.now.good.now scratch.new }
+    ensures shares { OnOk result (Shares work.now.parts.now work.now.rows.now work.now.block work.now.suspects.now (IsAmong group.now (length group.now)) shares.old shares.new) }
 {
-    let _ = parts.chains();
+    let _ = work.parts.chains();
+    share_kind(work, scratch, group, CellKind::Stuck0, notes, shares, steps)?;
+    share_kind(work, scratch, group, CellKind::Stuck1, notes, shares, steps)?;
     share_kind(
-        parts,
-        good,
+        work,
         scratch,
-        block,
-        rows,
-        suspects,
-        group,
-        CellKind::Stuck0,
-        notes,
-        shares,
-        steps,
-    )?;
-    share_kind(
-        parts,
-        good,
-        scratch,
-        block,
-        rows,
-        suspects,
-        group,
-        CellKind::Stuck1,
-        notes,
-        shares,
-        steps,
-    )?;
-    share_kind(
-        parts,
-        good,
-        scratch,
-        block,
-        rows,
-        suspects,
         group,
         CellKind::SlowRise,
         notes,
@@ -180,12 +106,8 @@ fn share_kinds<L: Ledger>(
         steps,
     )?;
     share_kind(
-        parts,
-        good,
+        work,
         scratch,
-        block,
-        rows,
-        suspects,
         group,
         CellKind::SlowFall,
         notes,
@@ -198,29 +120,20 @@ fn share_kinds<L: Ledger>(
 /// Adds the shares of the suspects that are cells of chains.
 pub(crate) fn share_cells<L: Ledger>(
     alloc: Global,
-    parts: &Parts,
-    good: &PackedGood,
+    work: &BlockWork<'_>,
     scratch: &mut Scratch,
-    block: usize,
-    rows: &[PointRow],
-    suspects: &[Suspect],
     group: &[u32],
     shares: &mut Rows<Share>,
     steps: &mut Steps<L>,
 ) -> Result<(), NoMemory>
-    requires good { BelongsTo parts.now good.now }
-    requires scratch { IsScratchOf good.now scratch.old }
-    requires block { block < length good.now.rows }
-    requires rows { length rows.now ≡ length (points_of parts.now) }
-    requires suspects { All (IsSuspectOf parts.now) suspects.now }
-    requires group { All (IsOwned parts.now suspects.now (length parts.now.netlist.nets + 2)) group.now }
-    ensures scratch { IsScratchOf good.now scratch.new }
-    ensures shares { OnOk result (Shares parts.now rows.now block suspects.now (IsAmong group.now (length group.now)) shares.old shares.new) }
+    requires work { IsSound work.now }
+    requires scratch { IsScratchOf work.now.good.now scratch.old }
+    requires group { All (IsOwned work.now.parts.now work.now.suspects.now (length work.now.parts.now.netlist.nets + 2)) group.now }
+    ensures scratch { IsScratchOf work.now.good.now scratch.new }
+    ensures shares { OnOk result (Shares work.now.parts.now work.now.rows.now work.now.block work.now.suspects.now (IsAmong group.now (length group.now)) shares.old shares.new) }
 {
     let mut notes = Notes::new(alloc);
-    let shared = share_kinds(
-        parts, good, scratch, block, rows, suspects, group, &mut notes, shares, steps,
-    );
-    good.clear(scratch);
+    let shared = share_kinds(work, scratch, group, &mut notes, shares, steps);
+    work.good.clear(scratch);
     shared
 }

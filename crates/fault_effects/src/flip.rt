@@ -1,5 +1,4 @@
 ghost use Rattle.std.specs.Prelude.{◌≡◌, ℕ, ◌<◌, List, true, length, OnOk};
-ghost use Rattle.scan_model.specs.ScanTest.{points_of};
 ghost use Rattle.scan_model.specs.declared.logs.LogFacts.{LogFacts};
 ghost use Rattle.lane_rows.specs.Lanes.{lane};
 ghost use Rattle.lane_rows.specs.GoodRows.{pattern_of};
@@ -7,8 +6,9 @@ ghost use Rattle.packed_sim.specs.Belongs.{BelongsTo, IsScratchOf, captures};
 ghost use Rattle.fault_effects.specs.PointRows.{ArePointRows};
 ghost use Rattle.fault_effects.specs.Readers.{IsPinOf};
 ghost use Rattle.fault_effects.specs.Flips.{IsFlipOf, AreFew, pin_flips};
+ghost use Rattle.fault_effects.specs.SoundWork.{IsSound};
 
-use crate::point_row::PointRow;
+use crate::block_work::BlockWork;
 use crate::shown::Shown;
 use lane_rows::Row;
 use packed_sim::{PackedGood, Scratch};
@@ -17,28 +17,24 @@ use std::sync::ledger::Ledger;
 
 /// Finds where a flip of a net shows.
 pub(crate) fn show_flip<L: Ledger>(
-    parts: &Parts,
-    good: &PackedGood,
+    work: &BlockWork<'_>,
     scratch: &mut Scratch,
-    block: usize,
-    rows: &[PointRow],
     shown: &mut Shown,
     net: u32,
     steps: &mut Steps<L>,
 ) -> Result<(), NoMemory>
-    requires good { BelongsTo parts.now good.now }
-    requires scratch { IsScratchOf good.now scratch.old }
-    requires block { block < length good.now.rows }
-    requires rows { length rows.now ≡ length (points_of parts.now) }
-    requires net { net < length parts.now.netlist.nets }
-    ensures scratch { IsScratchOf good.now scratch.new }
+    requires work { IsSound work.now }
+    requires scratch { IsScratchOf work.now.good.now scratch.old }
+    requires net { net < length work.now.parts.now.netlist.nets }
+    ensures scratch { IsScratchOf work.now.good.now scratch.new }
     ensures few { OnOk result (AreFew shown.new) }
-    ensures flip { OnOk result ((logs : List LogFacts) → ArePointRows parts.now logs block rows.now → IsFlipOf parts.now logs block net shown.new) }
+    ensures flip { OnOk result ((logs : List LogFacts) → ArePointRows work.now.parts.now logs work.now.block work.now.rows.now → IsFlipOf work.now.parts.now logs work.now.block net shown.new) }
 {
-    let _ = parts.points();
-    good.flip(parts, scratch, block, net, Row::all(), steps);
-    let gathered = shown.gather(parts, good, scratch, block, rows);
-    good.clear(scratch);
+    let _ = work.parts.points();
+    work.good
+        .flip(work.parts, scratch, work.block, net, Row::all(), steps);
+    let gathered = shown.gather(work, scratch);
+    work.good.clear(scratch);
     gathered?;
     Ok(())
 }

@@ -1,19 +1,20 @@
 ghost use Rattle.std.specs.Prelude.{◌≡◌, ℕ, ◌+◌, ◌^◌, ◌<◌, ◌&&◌, Bool, All, length, sum_by, OnOk};
-ghost use Rattle.scan_model.specs.ScanTest.{points_of};
 ghost use Rattle.lane_rows.specs.Lanes.{lane, count_lanes};
-ghost use Rattle.packed_sim.specs.Belongs.{BelongsTo, IsScratchIn};
+ghost use Rattle.packed_sim.specs.Belongs.{IsScratchIn};
 ghost use Rattle.fault_effects.specs.declared.side.Side.{Side};
 ghost use Rattle.fault_effects.specs.declared.share.BlockCount.{BlockCount};
 ghost use Rattle.fault_effects.specs.declared.side.Side.TheVariants as side;
 ghost use Rattle.fault_effects.specs.Flips.{tallied, row_on, point_row_at, list_on, IsShown, AreFew, count_on};
+ghost use Rattle.fault_effects.specs.SoundWork.{IsSound};
 
+use crate::block_work::BlockWork;
 use crate::lane_tally::tally;
 use crate::point_row::PointRow;
 use crate::share::BlockCount;
 use crate::shown::Shown;
 use lane_rows::Row;
-use packed_sim::{PackedGood, Scratch};
-use scan_model::{NoMemory, Parts};
+use packed_sim::Scratch;
+use scan_model::NoMemory;
 use std::alloc::Global;
 
 /// Adds a row, if it has a lane.
@@ -57,28 +58,22 @@ impl Shown {
     }
 
     /// Takes what a scratch shows at all points, in place of what was here.
-    pub(crate) fn gather(
-        &mut self,
-        parts: &Parts,
-        good: &PackedGood,
-        scratch: &Scratch,
-        block: usize,
-        rows: &[PointRow],
-    ) -> Result<(), NoMemory>
-        requires good { BelongsTo parts.now good.now }
-        requires scratch { IsScratchIn good.now scratch.now }
-        requires block { block < length good.now.rows }
-        requires rows { length rows.now ≡ length (points_of parts.now) }
-        ensures { OnOk result (IsShown parts.now good.now scratch.now block rows.now self.new) }
+    pub(crate) fn gather(&mut self, work: &BlockWork<'_>, scratch: &Scratch) -> Result<(), NoMemory>
+        requires work { IsSound work.now }
+        requires scratch { IsScratchIn work.now.good.now scratch.now }
+        ensures { OnOk result (IsShown work.now.parts.now work.now.good.now scratch.now work.now.block work.now.rows.now self.new) }
     {
-        let _ = parts.points();
+        let _ = work.parts.points();
         self.fails.clear();
         self.passes.clear();
-        let capture = good.blocks()[block].capture;
+        let capture = work.good.blocks()[work.block].capture;
         let nets = scratch.nets();
         for net in nets {
-            let caught = good.difference(parts, scratch, block, *net).and(capture);
-            self.add_points(rows, good.points_of_net(parts, *net), caught)?;
+            let caught = work
+                .good
+                .difference(work.parts, scratch, work.block, *net)
+                .and(capture);
+            self.add_points(work.rows, work.good.points_of_net(work.parts, *net), caught)?;
         }
         Ok(())
     }

@@ -1,8 +1,9 @@
 ghost use Rattle.std.specs.Prelude.{◌≡◌, ℕ, ◌<◌, List, length, OnOk};
 ghost use Rattle.scan_model.specs.ScanTest.{ScanTest};
-ghost use Rattle.packed_sim.specs.Belongs.{BelongsTo, IsScratchOf};
+ghost use Rattle.packed_sim.specs.Belongs.{IsScratchOf};
 ghost use Rattle.fault_effects.specs.declared.point_row.PointRow.{PointRow};
 ghost use Rattle.fault_effects.specs.KeptFlips.{HasFlip, IsKept};
+ghost use Rattle.fault_effects.specs.SoundWork.{IsSound};
 
 use crate::block_work::BlockWork;
 use crate::flip::show_flip;
@@ -37,7 +38,7 @@ impl KeptFlip {
         net: u32,
         steps: &mut Steps<L>,
     ) -> Result<(), NoMemory>
-        requires good { BelongsTo work.now.parts.now work.now.good.now }
+        requires work { IsSound work.now }
         requires scratch { IsScratchOf work.now.good.now scratch.old }
         requires kept { IsKept work.now.parts.now work.now.rows.now work.now.block self.old }
         requires net { net < length work.now.parts.now.netlist.nets }
@@ -48,16 +49,7 @@ impl KeptFlip {
         if self.net == Some(net) {
             return Ok(());
         }
-        show_flip(
-            work.parts,
-            work.good,
-            scratch,
-            work.block,
-            work.rows,
-            &mut self.shown,
-            net,
-            steps,
-        )?;
+        show_flip(work, scratch, &mut self.shown, net, steps)?;
         self.net = Some(net);
         Ok(())
     }

@@ -7,35 +7,31 @@ ghost use Rattle.scan_model.specs.Loads.{cell};
 ghost use Rattle.scan_model.specs.Response.{data_pin};
 ghost use Rattle.scan_model.specs.Suspect.{observed_net};
 ghost use Rattle.lane_rows.specs.Places.{has_place};
-ghost use Rattle.packed_sim.specs.Belongs.{BelongsTo, has_own_row};
+ghost use Rattle.packed_sim.specs.Belongs.{has_own_row};
 ghost use Rattle.packed_sim.specs.Loaded.{IsLoaded};
 ghost use Rattle.fault_effects.specs.declared.side.Side.{Side};
 ghost use Rattle.fault_effects.specs.Flips.{count_on};
 ghost use Rattle.fault_effects.specs.Cells.{note_at};
 ghost use Rattle.fault_effects.specs.Walks.{IsSmall, IsFresh, AreFreshAt, IsNetDone, IsRenoted};
+ghost use Rattle.fault_effects.specs.SoundWork.{IsSound};
 
+use crate::block_work::BlockWork;
 use crate::notes::Notes;
-use crate::point_row::PointRow;
 use crate::share::BlockCount;
-use packed_sim::{PackedGood, Scratch};
+use packed_sim::Scratch;
 use scan_model::{CellKind, NoMemory, Parts, Point};
 
 /// A chain that is loaded as under a fault of its shift path, over the rows of a block's points.
 #[derive(Drop)]
 pub(crate) struct Loaded<'a> {
-    pub parts: &'a Parts,
-    pub good: &'a PackedGood,
+    pub work: &'a BlockWork<'a>,
     pub scratch: &'a Scratch,
-    pub block: usize,
-    pub rows: &'a [PointRow],
     pub chain: u32,
     pub pos: u32,
     pub kind: CellKind,
-    ghost block_within: { block < length good.now.rows },
-    ghost rows_len: { length rows.now ≡ length (points_of parts.now) },
-    ghost chain_within: { chain < length parts.now.chains },
-    ghost pos_within: { pos < length (chain_at parts.now chain).cells },
-    ghost loaded: { IsLoaded parts.now good.now block chain pos kind scratch.now },
+    ghost chain_within: { chain < length work.now.parts.now.chains },
+    ghost pos_within: { pos < length (chain_at work.now.parts.now chain).cells },
+    ghost loaded: { IsLoaded work.now.parts.now work.now.good.now work.now.block chain pos kind scratch.now },
 }
 
 /// The cells of a chain.
@@ -106,20 +102,20 @@ fn position_below(shown_at: Point, chain: u32) -> Option<u32>
 impl Loaded<'_> {
     /// How many lanes of point k the fault predicts to fail.
     fn count_at(&self, k: usize) -> BlockCount
-        requires good { BelongsTo self.now.parts.now self.now.good.now }
-        requires point { k < length (points_of self.now.parts.now) }
+        requires work { IsSound self.now.work.now }
+        requires point { k < length (points_of self.now.work.now.parts.now) }
         ensures small { IsSmall result }
-        ensures count { (side : Side) → count_on side result ≡ note_at self.now.parts.now self.now.rows.now self.now.block (fault.Cell self.now.chain self.now.pos self.now.kind) side k }
+        ensures count { (side : Side) → count_on side result ≡ note_at self.now.work.now.parts.now self.now.work.now.rows.now self.now.work.now.block (fault.Cell self.now.chain self.now.pos self.now.kind) side k }
     {
-        let predicted = self.good.predicted_row(
-            self.parts,
+        let predicted = self.work.good.predicted_row(
+            self.work.parts,
             self.scratch,
-            self.block,
+            self.work.block,
             (self.chain, self.pos),
             self.kind,
             k,
         );
-        let row = self.rows[k];
+        let row = self.work.rows[k];
         BlockCount {
             tfsf: row.failing.count_both(predicted),
             tpsf: row.passing.count_both(predicted),
@@ -128,12 +124,12 @@ impl Loaded<'_> {
 
     /// Notes some points again.
     fn note_points(&self, notes: &mut Notes, points: &[u32])
-        requires good { BelongsTo self.now.parts.now self.now.good.now }
-        requires len { length notes.old ≡ length (points_of self.now.parts.now) }
-        requires points { All (λ k. k < length (points_of self.now.parts.now)) points.now }
+        requires work { IsSound self.now.work.now }
+        requires len { length notes.old ≡ length (points_of self.now.work.now.parts.now) }
+        requires points { All (λ k. k < length (points_of self.now.work.now.parts.now)) points.now }
         ensures len { length notes.new ≡ length notes.old }
-        ensures renoted { IsRenoted self.now.parts.now self.now.rows.now self.now.block (fault.Cell self.now.chain self.now.pos self.now.kind) notes.old notes.new }
-        ensures fresh { All (IsFresh self.now.parts.now self.now.rows.now self.now.block (fault.Cell self.now.chain self.now.pos self.now.kind) notes.new) points.now }
+        ensures renoted { IsRenoted self.now.work.now.parts.now self.now.work.now.rows.now self.now.work.now.block (fault.Cell self.now.chain self.now.pos self.now.kind) notes.old notes.new }
+        ensures fresh { All (IsFresh self.now.work.now.parts.now self.now.work.now.rows.now self.now.work.now.block (fault.Cell self.now.chain self.now.pos self.now.kind) notes.new) points.now }
     {
         for point in points {
             let k = *point as usize;
@@ -143,42 +139,42 @@ impl Loaded<'_> {
 
     /// Notes again what observes a net.
     fn note_net(&self, notes: &mut Notes, net: u32)
-        requires good { BelongsTo self.now.parts.now self.now.good.now }
-        requires len { length notes.old ≡ length (points_of self.now.parts.now) }
-        requires net { net < length self.now.parts.now.netlist.nets }
+        requires work { IsSound self.now.work.now }
+        requires len { length notes.old ≡ length (points_of self.now.work.now.parts.now) }
+        requires net { net < length self.now.work.now.parts.now.netlist.nets }
         ensures len { length notes.new ≡ length notes.old }
-        ensures renoted { IsRenoted self.now.parts.now self.now.rows.now self.now.block (fault.Cell self.now.chain self.now.pos self.now.kind) notes.old notes.new }
-        ensures fresh { AreFreshAt self.now.parts.now self.now.rows.now self.now.block (fault.Cell self.now.chain self.now.pos self.now.kind) notes.new net }
+        ensures renoted { IsRenoted self.now.work.now.parts.now self.now.work.now.rows.now self.now.work.now.block (fault.Cell self.now.chain self.now.pos self.now.kind) notes.old notes.new }
+        ensures fresh { AreFreshAt self.now.work.now.parts.now self.now.work.now.rows.now self.now.work.now.block (fault.Cell self.now.chain self.now.pos self.now.kind) notes.new net }
     {
-        let points = self.good.points_of_net(self.parts, net);
+        let points = self.work.good.points_of_net(self.work.parts, net);
         self.note_points(notes, points);
     }
 
     /// Notes a position of the chain again.
     pub(crate) fn note_position(&self, notes: &mut Notes, pos: u32)
-        requires good { BelongsTo self.now.parts.now self.now.good.now }
-        requires len { length notes.old ≡ length (points_of self.now.parts.now) }
-        requires pos { pos < length (chain_at self.now.parts.now self.now.chain).cells }
+        requires work { IsSound self.now.work.now }
+        requires len { length notes.old ≡ length (points_of self.now.work.now.parts.now) }
+        requires pos { pos < length (chain_at self.now.work.now.parts.now self.now.chain).cells }
         ensures len { length notes.new ≡ length notes.old }
-        ensures renoted { IsRenoted self.now.parts.now self.now.rows.now self.now.block (fault.Cell self.now.chain self.now.pos self.now.kind) notes.old notes.new }
-        ensures fresh { AreFreshAt self.now.parts.now self.now.rows.now self.now.block (fault.Cell self.now.chain self.now.pos self.now.kind) notes.new (observed_net self.now.parts.now (point.Cell self.now.chain pos)) }
+        ensures renoted { IsRenoted self.now.work.now.parts.now self.now.work.now.rows.now self.now.work.now.block (fault.Cell self.now.chain self.now.pos self.now.kind) notes.old notes.new }
+        ensures fresh { AreFreshAt self.now.work.now.parts.now self.now.work.now.rows.now self.now.work.now.block (fault.Cell self.now.chain self.now.pos self.now.kind) notes.new (observed_net self.now.work.now.parts.now (point.Cell self.now.chain pos)) }
     {
-        let net = position_net(self.parts, self.chain, pos);
+        let net = position_net(self.work.parts, self.chain, pos);
         self.note_net(notes, net);
     }
 
     /// Notes again the positions of the chain that stand below some points.
     fn note_below(&self, notes: &mut Notes, points: &[u32])
-        requires good { BelongsTo self.now.parts.now self.now.good.now }
-        requires len { length notes.old ≡ length (points_of self.now.parts.now) }
-        requires points { All (λ k. k < length (points_of self.now.parts.now)) points.now }
+        requires work { IsSound self.now.work.now }
+        requires len { length notes.old ≡ length (points_of self.now.work.now.parts.now) }
+        requires points { All (λ k. k < length (points_of self.now.work.now.parts.now)) points.now }
         ensures len { length notes.new ≡ length notes.old }
-        ensures renoted { IsRenoted self.now.parts.now self.now.rows.now self.now.block (fault.Cell self.now.chain self.now.pos self.now.kind) notes.old notes.new }
-        ensures fresh { All (λ k. (i : ℕ) → point_at self.now.parts.now k ≡ point.Cell self.now.chain (i + 1)
-            → AreFreshAt self.now.parts.now self.now.rows.now self.now.block (fault.Cell self.now.chain self.now.pos self.now.kind) notes.new (observed_net self.now.parts.now (point.Cell self.now.chain i))) points.now }
+        ensures renoted { IsRenoted self.now.work.now.parts.now self.now.work.now.rows.now self.now.work.now.block (fault.Cell self.now.chain self.now.pos self.now.kind) notes.old notes.new }
+        ensures fresh { All (λ k. (i : ℕ) → point_at self.now.work.now.parts.now k ≡ point.Cell self.now.chain (i + 1)
+            → AreFreshAt self.now.work.now.parts.now self.now.work.now.rows.now self.now.work.now.block (fault.Cell self.now.chain self.now.pos self.now.kind) notes.new (observed_net self.now.work.now.parts.now (point.Cell self.now.chain i))) points.now }
     {
         for point in points {
-            let at = self.parts.points().as_slice()[*point as usize];
+            let at = self.work.parts.points().as_slice()[*point as usize];
             if let Some(pos) = position_below(at, self.chain) {
                 self.note_position(notes, pos);
             }
@@ -187,25 +183,25 @@ impl Loaded<'_> {
 
     /// Notes again all that a change of a net can change.
     fn note_changed(&self, notes: &mut Notes, net: u32)
-        requires good { BelongsTo self.now.parts.now self.now.good.now }
-        requires len { length notes.old ≡ length (points_of self.now.parts.now) }
-        requires net { net < length self.now.parts.now.netlist.nets }
+        requires work { IsSound self.now.work.now }
+        requires len { length notes.old ≡ length (points_of self.now.work.now.parts.now) }
+        requires net { net < length self.now.work.now.parts.now.netlist.nets }
         ensures len { length notes.new ≡ length notes.old }
-        ensures renoted { IsRenoted self.now.parts.now self.now.rows.now self.now.block (fault.Cell self.now.chain self.now.pos self.now.kind) notes.old notes.new }
-        ensures done { IsNetDone self.now.parts.now self.now.rows.now self.now.block (fault.Cell self.now.chain self.now.pos self.now.kind) self.now.chain notes.new net }
+        ensures renoted { IsRenoted self.now.work.now.parts.now self.now.work.now.rows.now self.now.work.now.block (fault.Cell self.now.chain self.now.pos self.now.kind) notes.old notes.new }
+        ensures done { IsNetDone self.now.work.now.parts.now self.now.work.now.rows.now self.now.work.now.block (fault.Cell self.now.chain self.now.pos self.now.kind) self.now.chain notes.new net }
     {
-        let points = self.good.points_of_net(self.parts, net);
+        let points = self.work.good.points_of_net(self.work.parts, net);
         self.note_points(notes, points);
         self.note_below(notes, points);
     }
 
     /// Notes what observes a net with a row of its own.
     fn note_touched(&self, notes: &mut Notes)
-        requires good { BelongsTo self.now.parts.now self.now.good.now }
-        requires len { length notes.old ≡ length (points_of self.now.parts.now) }
+        requires work { IsSound self.now.work.now }
+        requires len { length notes.old ≡ length (points_of self.now.work.now.parts.now) }
         ensures len { length notes.new ≡ length notes.old }
-        ensures renoted { IsRenoted self.now.parts.now self.now.rows.now self.now.block (fault.Cell self.now.chain self.now.pos self.now.kind) notes.old notes.new }
-        ensures fresh { (n : ℕ) → has_own_row self.now.scratch.now n ≡ true → AreFreshAt self.now.parts.now self.now.rows.now self.now.block (fault.Cell self.now.chain self.now.pos self.now.kind) notes.new n }
+        ensures renoted { IsRenoted self.now.work.now.parts.now self.now.work.now.rows.now self.now.work.now.block (fault.Cell self.now.chain self.now.pos self.now.kind) notes.old notes.new }
+        ensures fresh { (n : ℕ) → has_own_row self.now.scratch.now n ≡ true → AreFreshAt self.now.work.now.parts.now self.now.work.now.rows.now self.now.work.now.block (fault.Cell self.now.chain self.now.pos self.now.kind) notes.new n }
     {
         let nets = self.scratch.nets();
         for net in nets {
@@ -215,17 +211,17 @@ impl Loaded<'_> {
 
     /// Notes all positions of the chain.
     fn note_chain(&self, notes: &mut Notes)
-        requires good { BelongsTo self.now.parts.now self.now.good.now }
-        requires len { length notes.old ≡ length (points_of self.now.parts.now) }
+        requires work { IsSound self.now.work.now }
+        requires len { length notes.old ≡ length (points_of self.now.work.now.parts.now) }
         ensures len { length notes.new ≡ length notes.old }
-        ensures renoted { IsRenoted self.now.parts.now self.now.rows.now self.now.block (fault.Cell self.now.chain self.now.pos self.now.kind) notes.old notes.new }
-        ensures fresh { (i : ℕ) → i < length (chain_at self.now.parts.now self.now.chain).cells
-            → AreFreshAt self.now.parts.now self.now.rows.now self.now.block (fault.Cell self.now.chain self.now.pos self.now.kind) notes.new (observed_net self.now.parts.now (point.Cell self.now.chain i)) }
+        ensures renoted { IsRenoted self.now.work.now.parts.now self.now.work.now.rows.now self.now.work.now.block (fault.Cell self.now.chain self.now.pos self.now.kind) notes.old notes.new }
+        ensures fresh { (i : ℕ) → i < length (chain_at self.now.work.now.parts.now self.now.chain).cells
+            → AreFreshAt self.now.work.now.parts.now self.now.work.now.rows.now self.now.work.now.block (fault.Cell self.now.chain self.now.pos self.now.kind) notes.new (observed_net self.now.work.now.parts.now (point.Cell self.now.chain i)) }
     {
-        let _ = self.parts.chains();
-        let cells = chain_cells(self.parts, self.chain);
+        let _ = self.work.parts.chains();
+        let cells = chain_cells(self.work.parts, self.chain);
         for cell in cells {
-            let net = data_net(self.parts, *cell);
+            let net = data_net(self.work.parts, *cell);
             self.note_net(notes, net);
         }
     }
@@ -233,12 +229,12 @@ impl Loaded<'_> {
     /// Notes all points for the first time. What neither observes a net with a row of its own nor stands in the chain
     /// shows its fault-free value, and keeps a count of zero.
     pub(crate) fn note_all(&self, notes: &mut Notes) -> Result<(), NoMemory>
-        requires good { BelongsTo self.now.parts.now self.now.good.now }
-        ensures len { OnOk result (length notes.new ≡ length (points_of self.now.parts.now)) }
-        ensures fresh { OnOk result ((k : ℕ) → k < length (points_of self.now.parts.now) → IsFresh self.now.parts.now self.now.rows.now self.now.block (fault.Cell self.now.chain self.now.pos self.now.kind) notes.new k) }
+        requires work { IsSound self.now.work.now }
+        ensures len { OnOk result (length notes.new ≡ length (points_of self.now.work.now.parts.now)) }
+        ensures fresh { OnOk result ((k : ℕ) → k < length (points_of self.now.work.now.parts.now) → IsFresh self.now.work.now.parts.now self.now.work.now.rows.now self.now.work.now.block (fault.Cell self.now.chain self.now.pos self.now.kind) notes.new k) }
     {
-        let _ = self.parts.points();
-        notes.reset(self.rows.len())?;
+        let _ = self.work.parts.points();
+        notes.reset(self.work.rows.len())?;
         self.note_touched(notes);
         self.note_chain(notes);
         Ok(())
@@ -246,10 +242,10 @@ impl Loaded<'_> {
 
     /// The least net with a mark, from one on.
     fn next_moved(&self, from: u32) -> Option<u32>
-        ensures { MatchOption result ((n : ℕ) → from ≤ n → n < length self.now.parts.now.netlist.nets → has_place self.now.scratch.now.moved n ≡ false)
-            (λ net. (from ≤ net) × (net < length self.now.parts.now.netlist.nets) × ((n : ℕ) → from ≤ n → n < net → has_place self.now.scratch.now.moved n ≡ false)) }
+        ensures { MatchOption result ((n : ℕ) → from ≤ n → n < length self.now.work.now.parts.now.netlist.nets → has_place self.now.scratch.now.moved n ≡ false)
+            (λ net. (from ≤ net) × (net < length self.now.work.now.parts.now.netlist.nets) × ((n : ℕ) → from ≤ n → n < net → has_place self.now.scratch.now.moved n ≡ false)) }
     {
-        let nets = self.parts.circuit().nets().len();
+        let nets = self.work.parts.circuit().nets().len();
         match self.scratch.moved.next_from(from as usize) {
             Some(net) => if net < nets { Some(net as u32) } else { None },
             None => None,
@@ -258,14 +254,14 @@ impl Loaded<'_> {
 
     /// Notes again all that a change of the marked nets can change.
     pub(crate) fn note_moved(&self, notes: &mut Notes)
-        requires good { BelongsTo self.now.parts.now self.now.good.now }
-        requires len { length notes.old ≡ length (points_of self.now.parts.now) }
+        requires work { IsSound self.now.work.now }
+        requires len { length notes.old ≡ length (points_of self.now.work.now.parts.now) }
         ensures len { length notes.new ≡ length notes.old }
-        ensures renoted { IsRenoted self.now.parts.now self.now.rows.now self.now.block (fault.Cell self.now.chain self.now.pos self.now.kind) notes.old notes.new }
-        ensures done { (n : ℕ) → n < length self.now.parts.now.netlist.nets → has_place self.now.scratch.now.moved n ≡ true
-            → IsNetDone self.now.parts.now self.now.rows.now self.now.block (fault.Cell self.now.chain self.now.pos self.now.kind) self.now.chain notes.new n }
+        ensures renoted { IsRenoted self.now.work.now.parts.now self.now.work.now.rows.now self.now.work.now.block (fault.Cell self.now.chain self.now.pos self.now.kind) notes.old notes.new }
+        ensures done { (n : ℕ) → n < length self.now.work.now.parts.now.netlist.nets → has_place self.now.scratch.now.moved n ≡ true
+            → IsNetDone self.now.work.now.parts.now self.now.work.now.rows.now self.now.work.now.block (fault.Cell self.now.chain self.now.pos self.now.kind) self.now.chain notes.new n }
     {
-        let _ = self.parts.circuit().nets();
+        let _ = self.work.parts.circuit().nets();
         let mut from = 0;
         while let Some(net) = self.next_moved(from) {
             self.note_changed(notes, net);

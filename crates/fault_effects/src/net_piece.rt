@@ -5,8 +5,9 @@ ghost use Rattle.lane_rows.specs.Lanes.{lane};
 ghost use Rattle.lane_rows.specs.GoodRows.{pattern_of};
 ghost use Rattle.packed_sim.specs.Belongs.{BelongsTo, IsScratchOf, captures};
 ghost use Rattle.fault_effects.specs.Regions.{IsMember, IsRegion};
-ghost use Rattle.fault_effects.specs.Owners.{IsSuspectOf, IsOwned, AreOwners, Shares, IsAmong, suspect_at};
+ghost use Rattle.fault_effects.specs.Owners.{IsOwned, Shares, IsAmong, suspect_at};
 ghost use Rattle.fault_effects.specs.Owners as owning;
+ghost use Rattle.fault_effects.specs.SoundWork.{IsSound};
 
 use crate::block_work::BlockWork;
 use crate::region::Region;
@@ -44,8 +45,7 @@ fn share_group(
     group: &[u32],
     shares: &mut Rows<Share>,
 ) -> Result<(), NoMemory>
-    requires good { BelongsTo work.now.parts.now work.now.good.now }
-    requires suspects { All (IsSuspectOf work.now.parts.now) work.now.suspects.now }
+    requires work { IsSound work.now }
     requires member { IsMember work.now.parts.now work.now.rows.now work.now.block shown.now (record { net = net; lanes = lanes }) }
     requires group { All (IsOwned work.now.parts.now work.now.suspects.now net) group.now }
     ensures { OnOk result (Shares work.now.parts.now work.now.rows.now work.now.block work.now.suspects.now (IsAmong group.now (length group.now)) shares.old shares.new) }
@@ -72,8 +72,7 @@ fn share_net<L: Ledger>(
     shares: &mut Rows<Share>,
     steps: &mut Steps<L>,
 ) -> Result<(), NoMemory>
-    requires good { BelongsTo work.now.parts.now work.now.good.now }
-    requires suspects { All (IsSuspectOf work.now.parts.now) work.now.suspects.now }
+    requires work { IsSound work.now }
     requires scratch { IsScratchOf work.now.good.now scratch.old }
     requires region { IsRegion work.now.parts.now work.now.rows.now work.now.block region.old }
     requires net { net < length work.now.parts.now.netlist.nets }
@@ -98,9 +97,7 @@ pub(crate) fn share_nets<L: Ledger>(
     shares: &mut Rows<Share>,
     steps: &mut Steps<L>,
 ) -> Result<(), NoMemory>
-    requires good { BelongsTo work.now.parts.now work.now.good.now }
-    requires suspects { All (IsSuspectOf work.now.parts.now) work.now.suspects.now }
-    requires owners { AreOwners work.now.parts.now work.now.suspects.now work.now.owners.now }
+    requires work { IsSound work.now }
     requires scratch { IsScratchOf work.now.good.now scratch.old }
     requires nets { All (λ n. n < length work.now.parts.now.netlist.nets) nets.now }
     ensures scratch { IsScratchOf work.now.good.now scratch.new }

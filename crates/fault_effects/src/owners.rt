@@ -1,4 +1,4 @@
-ghost use Rattle.std.specs.Prelude.{◌≡◌, ℕ, ◌+◌, ◌^◌, ◌<◌, ◌≤◌, [], ◌++◌, ◌∷◌, All, Contains, length, slice_index_or, IfOk, OnOk};
+ghost use Rattle.std.specs.Prelude.{◌≡◌, ◌+◌, ◌^◌, ◌<◌, ◌≤◌, [], ◌++◌, ◌∷◌, All, length, IfOk, OnOk};
 ghost use Rattle.scan_model.specs.ScanTest.{HasSite};
 ghost use Rattle.scan_model.specs.Universe.{universe};
 ghost use Rattle.fault_universe.specs.LineWords.{IsPlaceOf};
@@ -58,11 +58,7 @@ fn push_suspect(suspects: &mut Rows<Suspect>, parts: &Parts, place: u32) -> Resu
 }
 
 /// The suspects at some places, in their order.
-pub fn suspects_at(
-    alloc: Global,
-    parts: &Parts,
-    places: &[u32],
-) -> Result<Rows<Suspect>, NoMemory>
+pub fn suspects_at(alloc: Global, parts: &Parts, places: &[u32]) -> Result<Rows<Suspect>, NoMemory>
     ensures each { IfOk result (All (IsSuspectOf parts.now)) }
     ensures few { IfOk result (λ suspects. length suspects ≤ length places.now) }
     ensures places { IfOk result (λ suspects. All (λ p. p < length (universe parts.now)) places.now → places_of suspects ≡ places.now) }
@@ -75,11 +71,7 @@ pub fn suspects_at(
 }
 
 /// The numbers of the suspects by owner.
-pub fn owners_of(
-    alloc: Global,
-    parts: &Parts,
-    suspects: &[Suspect],
-) -> Result<Groups, NoMemory>
+pub fn owners_of(alloc: Global, parts: &Parts, suspects: &[Suspect]) -> Result<Groups, NoMemory>
     requires suspects { All (IsSuspectOf parts.now) suspects.now }
     requires few { length suspects.now < 2 ^ 32 }
     ensures len { IfOk result (λ groups. length groups ≡ length parts.now.netlist.nets + 3) }

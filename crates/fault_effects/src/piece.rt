@@ -1,8 +1,9 @@
 //! The share of one piece of a block's work: a list of nets, pins, bridges or cells, with a scratch of its own.
 ghost use Rattle.std.specs.Prelude.{◌≡◌, ◌<◌, [], All, OnOk, IfOk};
-ghost use Rattle.packed_sim.specs.Belongs.{BelongsTo, IsScratchOf};
-ghost use Rattle.fault_effects.specs.Owners.{IsSuspectOf, AreOwners, Shares};
+ghost use Rattle.packed_sim.specs.Belongs.{IsScratchOf};
+ghost use Rattle.fault_effects.specs.Owners.{Shares};
 ghost use Rattle.fault_effects.specs.Pieces.{IsItem, IsServed};
+ghost use Rattle.fault_effects.specs.SoundWork.{IsSound};
 
 use crate::block_work::BlockWork;
 use crate::bridge_piece::share_bridges;
@@ -27,25 +28,16 @@ fn share_items<L: Ledger>(
     shares: &mut Rows<Share>,
     steps: &mut Steps<L>,
 ) -> Result<(), NoMemory>
-    requires good { BelongsTo work.now.parts.now work.now.good.now }
-    requires suspects { All (IsSuspectOf work.now.parts.now) work.now.suspects.now }
-    requires owners { AreOwners work.now.parts.now work.now.suspects.now work.now.owners.now }
+    requires work { IsSound work.now }
     requires items { All (IsItem work.now.parts.now work.now.suspects.now kind) items.now }
     requires scratch { IsScratchOf work.now.good.now scratch.old }
     ensures { OnOk result (Shares work.now.parts.now work.now.rows.now work.now.block work.now.suspects.now (IsServed work.now.parts.now work.now.suspects.now kind items.now) shares.old shares.new) }
 {
-    let parts = work.parts;
-    let good = work.good;
-    let block = work.block;
-    let rows = work.rows;
-    let suspects = work.suspects;
     match kind {
         WorkKind::Nets => share_nets(alloc, work, scratch, items, shares, steps),
-        WorkKind::Pins => share_pins(parts, good, block, rows, suspects, items, shares),
+        WorkKind::Pins => share_pins(work, items, shares),
         WorkKind::Bridges => share_bridges(alloc, work, scratch, items, shares, steps),
-        WorkKind::Cells => share_cells(
-            alloc, parts, good, scratch, block, rows, suspects, items, shares, steps,
-        ),
+        WorkKind::Cells => share_cells(alloc, work, scratch, items, shares, steps),
     }
 }
 
@@ -57,9 +49,7 @@ fn piece_in<L: Ledger>(
     items: &[u32],
     blank: Blank,
 ) -> Result<Rows<Share>, NoMemory>
-    requires good { BelongsTo work.now.parts.now work.now.good.now }
-    requires suspects { All (IsSuspectOf work.now.parts.now) work.now.suspects.now }
-    requires owners { AreOwners work.now.parts.now work.now.suspects.now work.now.owners.now }
+    requires work { IsSound work.now }
     requires items { All (IsItem work.now.parts.now work.now.suspects.now kind) items.now }
     requires name { blank.name ≡ L.name }
     requires parts { blank.parts ≡ L.parts }
@@ -88,9 +78,7 @@ pub fn piece_shares(
     kind: WorkKind,
     items: &[u32],
 ) -> Result<Rows<Share>, NoMemory>
-    requires good { BelongsTo work.now.parts.now work.now.good.now }
-    requires suspects { All (IsSuspectOf work.now.parts.now) work.now.suspects.now }
-    requires owners { AreOwners work.now.parts.now work.now.suspects.now work.now.owners.now }
+    requires work { IsSound work.now }
     requires items { All (IsItem work.now.parts.now work.now.suspects.now kind) items.now }
     ensures { IfOk result (Shares work.now.parts.now work.now.rows.now work.now.block work.now.suspects.now (IsServed work.now.parts.now work.now.suspects.now kind items.now) []) }
 {

@@ -1,21 +1,20 @@
-ghost use Rattle.std.specs.Prelude.{◌≡◌, ℕ, ◌+◌, ◌*◌, ◌^◌, ◌<◌, ◌≤◌, ◌&&◌, List, All, length, sum_by, OnOk, if◌then◌else◌};
+ghost use Rattle.std.specs.Prelude.{◌≡◌, ◌+◌, ◌*◌, ◌^◌, ◌<◌, ◌≤◌, ◌&&◌, List, All, length, sum_by, OnOk, if◌then◌else◌};
 ghost use Rattle.scan_model.specs.declared.logs.LogFacts.{LogFacts};
 ghost use Rattle.scan_model.specs.declared.fault.Fault.TheVariants as fault;
-ghost use Rattle.scan_model.specs.ScanTest.{points_of, point_at, IsPoint};
+ghost use Rattle.scan_model.specs.ScanTest.{points_of, IsPoint};
 ghost use Rattle.scan_model.specs.Masks as masks;
 ghost use Rattle.fault_universe.specs.LineWords.{IsPlaceOf};
 ghost use Rattle.lane_rows.specs.Lanes.{lane, count_lanes};
-ghost use Rattle.packed_sim.specs.Belongs.{BelongsTo};
 ghost use Rattle.fault_effects.specs.declared.side.Side.{Side};
 ghost use Rattle.fault_effects.specs.PointRows.{counts_on, ArePointRows};
 ghost use Rattle.fault_effects.specs.Flips.{pin_sum, count_on, row_on, pin_lanes};
-ghost use Rattle.fault_effects.specs.Owners.{IsSuspectOf, IsOwned, Shares, IsAmong};
+ghost use Rattle.fault_effects.specs.Owners.{IsOwned, Shares, IsAmong};
+ghost use Rattle.fault_effects.specs.SoundWork.{IsSound};
 
+use crate::block_work::BlockWork;
 use crate::point_row::PointRow;
 use crate::share::{BlockCount, Share};
-use crate::suspect::Suspect;
 use lane_rows::Row;
-use packed_sim::PackedGood;
 use scan_model::{Driver, Fault, NoMemory, Parts, PinPlace, Point, Rows, Stuck};
 
 /// Whether what a point sees is the pin at this place.
@@ -75,29 +74,21 @@ fn count_points(
 }
 
 /// What a stuck pin that goes straight to a point explains and mispredicts in a block.
-fn pin_count(
-    parts: &Parts,
-    good: &PackedGood,
-    block: usize,
-    rows: &[PointRow],
-    pin: u32,
-    value: Stuck,
-) -> BlockCount
-    requires good { BelongsTo parts.now good.now }
-    requires block { block < length good.now.rows }
-    requires rows { length rows.now ≡ length (points_of parts.now) }
-    requires pin { pin < length parts.now.netlist.pins }
-    ensures { (logs : List LogFacts) (side : Side) → ArePointRows parts.now logs block rows.now → count_on side result ≡ pin_sum parts.now (counts_on parts.now logs side) block (fault.Branch pin value) }
+fn pin_count(work: &BlockWork<'_>, pin: u32, value: Stuck) -> BlockCount
+    requires work { IsSound work.now }
+    requires pin { pin < length work.now.parts.now.netlist.pins }
+    ensures { (logs : List LogFacts) (side : Side) → ArePointRows work.now.parts.now logs work.now.block work.now.rows.now → count_on side result ≡ pin_sum work.now.parts.now (counts_on work.now.parts.now logs side) work.now.block (fault.Branch pin value) }
 {
-    let _ = parts.points();
-    let at = parts.circuit().pins().as_slice()[pin as usize];
-    let mask = good
-        .stuck_mask(parts, block, at.net, value)
-        .and(good.blocks()[block].capture);
+    let _ = work.parts.points();
+    let at = work.parts.circuit().pins().as_slice()[pin as usize];
+    let mask = work
+        .good
+        .stuck_mask(work.parts, work.block, at.net, value)
+        .and(work.good.blocks()[work.block].capture);
     count_points(
-        parts,
-        rows,
-        good.points_of_net(parts, at.net),
+        work.parts,
+        work.rows,
+        work.good.points_of_net(work.parts, at.net),
         at.place,
         mask,
     )
@@ -105,30 +96,23 @@ fn pin_count(
 
 /// Adds the shares of the suspects whose pins go straight to points.
 pub(crate) fn share_pins(
-    parts: &Parts,
-    good: &PackedGood,
-    block: usize,
-    rows: &[PointRow],
-    suspects: &[Suspect],
+    work: &BlockWork<'_>,
     group: &[u32],
     shares: &mut Rows<Share>,
 ) -> Result<(), NoMemory>
-    requires good { BelongsTo parts.now good.now }
-    requires block { block < length good.now.rows }
-    requires rows { length rows.now ≡ length (points_of parts.now) }
-    requires suspects { All (IsSuspectOf parts.now) suspects.now }
-    requires group { All (IsOwned parts.now suspects.now (length parts.now.netlist.nets)) group.now }
-    ensures { OnOk result (Shares parts.now rows.now block suspects.now (IsAmong group.now (length group.now)) shares.old shares.new) }
+    requires work { IsSound work.now }
+    requires group { All (IsOwned work.now.parts.now work.now.suspects.now (length work.now.parts.now.netlist.nets)) group.now }
+    ensures { OnOk result (Shares work.now.parts.now work.now.rows.now work.now.block work.now.suspects.now (IsAmong group.now (length group.now)) shares.old shares.new) }
 {
-    let _ = parts.circuit().order();
+    let _ = work.parts.circuit().order();
     for item in group {
-        let suspect = suspects[*item as usize];
+        let suspect = work.suspects[*item as usize];
         let Fault::Branch { pin, value } = suspect.fault else {
             unreachable!()
         };
         shares.push(Share {
             suspect: *item,
-            count: pin_count(parts, good, block, rows, pin, value),
+            count: pin_count(work, pin, value),
         })?;
     }
     Ok(())

@@ -2,10 +2,11 @@
 //! which it flips the reader. So of a region the root alone is flipped.
 ghost use Rattle.std.specs.Prelude.{◌≡◌, ℕ, ◌<◌, List, All, length, IfOk, IfSome, OnOk};
 ghost use Rattle.scan_model.specs.ScanTest.{ScanTest};
-ghost use Rattle.packed_sim.specs.Belongs.{BelongsTo, IsScratchOf};
+ghost use Rattle.packed_sim.specs.Belongs.{IsScratchOf};
 ghost use Rattle.fault_effects.specs.declared.point_row.PointRow.{PointRow};
 ghost use Rattle.fault_effects.specs.declared.shown.Shown.{Shown};
 ghost use Rattle.fault_effects.specs.Regions.{IsMember, IsRegion};
+ghost use Rattle.fault_effects.specs.SoundWork.{IsSound};
 
 use crate::block_work::BlockWork;
 use crate::flip::{flipping_lanes, show_flip};
@@ -86,7 +87,7 @@ impl Region {
 
     /// The lanes in which a net shows where the root does, if the last member alone reads it.
     fn lanes_behind(&self, work: &BlockWork<'_>, net: u32) -> Option<Row>
-        requires good { BelongsTo work.now.parts.now work.now.good.now }
+        requires work { IsSound work.now }
         requires region { IsRegion work.now.parts.now work.now.rows.now work.now.block self.now }
         requires net { net < length work.now.parts.now.netlist.nets }
         ensures { IfSome result (λ lanes. IsMember work.now.parts.now work.now.rows.now work.now.block self.now.shown (record { net = net; lanes = lanes })) }
@@ -109,7 +110,7 @@ impl Region {
         net: u32,
         steps: &mut Steps<L>,
     ) -> Result<Row, NoMemory>
-        requires good { BelongsTo work.now.parts.now work.now.good.now }
+        requires work { IsSound work.now }
         requires scratch { IsScratchOf work.now.good.now scratch.old }
         requires region { IsRegion work.now.parts.now work.now.rows.now work.now.block self.old }
         requires net { net < length work.now.parts.now.netlist.nets }
@@ -118,16 +119,7 @@ impl Region {
         ensures member { IfOk result (λ lanes. IsMember work.now.parts.now work.now.rows.now work.now.block self.new.shown (record { net = net; lanes = lanes })) }
     {
         self.members.clear();
-        show_flip(
-            work.parts,
-            work.good,
-            scratch,
-            work.block,
-            work.rows,
-            &mut self.shown,
-            net,
-            steps,
-        )?;
+        show_flip(work, scratch, &mut self.shown, net, steps)?;
         Ok(Row::all())
     }
 
@@ -139,7 +131,7 @@ impl Region {
         net: u32,
         steps: &mut Steps<L>,
     ) -> Result<Row, NoMemory>
-        requires good { BelongsTo work.now.parts.now work.now.good.now }
+        requires work { IsSound work.now }
         requires scratch { IsScratchOf work.now.good.now scratch.old }
         requires region { IsRegion work.now.parts.now work.now.rows.now work.now.block self.old }
         requires net { net < length work.now.parts.now.netlist.nets }
@@ -162,7 +154,7 @@ impl Region {
         scratch: &mut Scratch,
         steps: &mut Steps<L>,
     ) -> Result<(), NoMemory>
-        requires good { BelongsTo work.now.parts.now work.now.good.now }
+        requires work { IsSound work.now }
         requires scratch { IsScratchOf work.now.good.now scratch.old }
         requires region { IsRegion work.now.parts.now work.now.rows.now work.now.block self.old }
         ensures scratch { IsScratchOf work.now.good.now scratch.new }
@@ -185,7 +177,7 @@ impl Region {
         net: u32,
         steps: &mut Steps<L>,
     ) -> Result<Row, NoMemory>
-        requires good { BelongsTo work.now.parts.now work.now.good.now }
+        requires work { IsSound work.now }
         requires scratch { IsScratchOf work.now.good.now scratch.old }
         requires region { IsRegion work.now.parts.now work.now.rows.now work.now.block self.old }
         requires net { net < length work.now.parts.now.netlist.nets }

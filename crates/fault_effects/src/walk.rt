@@ -1,16 +1,17 @@
-ghost use Rattle.std.specs.Prelude.{◌≡◌, ℕ, ◌+◌, ◌<◌, ◌≤◌, Some, None, true, length, IfSome, OnOk};
+ghost use Rattle.std.specs.Prelude.{◌≡◌, ◌+◌, ◌<◌, ◌≤◌, Some, None, true, length, IfSome, OnOk};
 ghost use Rattle.scan_model.specs.ScanTest.{points_of, chain_at};
 ghost use Rattle.lane_rows.specs.Places.{has_place, room};
-ghost use Rattle.packed_sim.specs.Belongs.{BelongsTo, IsScratchOf, IsScratchIn};
+ghost use Rattle.packed_sim.specs.Belongs.{IsScratchOf, IsScratchIn};
 ghost use Rattle.packed_sim.specs.Loaded.{IsLoaded};
 ghost use Rattle.fault_effects.specs.Walks.{IsWalk, IsWalkAt, IsStepNoted};
+ghost use Rattle.fault_effects.specs.SoundWork.{IsSound};
 
+use crate::block_work::BlockWork;
 use crate::loaded::Loaded;
 use crate::notes::Notes;
-use crate::point_row::PointRow;
 use lane_rows::PlaceSet;
-use packed_sim::{PackedGood, Scratch};
-use scan_model::{CellKind, NoMemory, Parts, Steps};
+use packed_sim::Scratch;
+use scan_model::{CellKind, NoMemory, Steps};
 use std::sync::ledger::Ledger;
 
 /// The least mark from one place on, if it stands before the end.
@@ -38,33 +39,26 @@ fn clear_marks(scratch: &mut Scratch, nets: usize)
 
 /// Begins a walk behind a position: the chain is loaded, and all points are noted.
 fn begin<L: Ledger>(
-    parts: &Parts,
-    good: &PackedGood,
+    work: &BlockWork<'_>,
     scratch: &mut Scratch,
-    block: usize,
-    rows: &[PointRow],
     behind: (u32, u32),
     kind: CellKind,
     notes: &mut Notes,
     steps: &mut Steps<L>,
 ) -> Result<(), NoMemory>
-    requires good { BelongsTo parts.now good.now }
-    requires scratch { IsScratchOf good.now scratch.old }
-    requires block { block < length good.now.rows }
-    requires rows { length rows.now ≡ length (points_of parts.now) }
-    requires chain { behind.0 < length parts.now.chains }
-    requires pos { behind.1 < length (chain_at parts.now behind.0).cells }
-    ensures scratch { IsScratchIn good.now scratch.new }
-    ensures walk { OnOk result (IsWalkAt parts.now good.now rows.now block behind.0 behind.1 kind scratch.new notes.new) }
+    requires work { IsSound work.now }
+    requires scratch { IsScratchOf work.now.good.now scratch.old }
+    requires chain { behind.0 < length work.now.parts.now.chains }
+    requires pos { behind.1 < length (chain_at work.now.parts.now behind.0).cells }
+    ensures scratch { IsScratchIn work.now.good.now scratch.new }
+    ensures walk { OnOk result (IsWalkAt work.now.parts.now work.now.good.now work.now.rows.now work.now.block behind.0 behind.1 kind scratch.new notes.new) }
 {
-    good.load(parts, scratch, block, behind, kind, steps);
-    clear_marks(scratch, parts.circuit().nets().len());
+    work.good
+        .load(work.parts, scratch, work.block, behind, kind, steps);
+    clear_marks(scratch, work.parts.circuit().nets().len());
     let loaded = Loaded {
-        parts,
-        good,
+        work,
         scratch,
-        block,
-        rows,
         chain: behind.0,
         pos: behind.1,
         kind,
@@ -74,33 +68,25 @@ fn begin<L: Ledger>(
 
 /// Notes again what a step of a walk has changed.
 fn note_step(
-    parts: &Parts,
-    good: &PackedGood,
+    work: &BlockWork<'_>,
     scratch: &Scratch,
-    block: usize,
-    rows: &[PointRow],
     behind: (u32, u32),
     above: u32,
     kind: CellKind,
     notes: &mut Notes,
 )
-    requires good { BelongsTo parts.now good.now }
-    requires block { block < length good.now.rows }
-    requires rows { length rows.now ≡ length (points_of parts.now) }
-    requires chain { behind.0 < length parts.now.chains }
-    requires pos { above < length (chain_at parts.now behind.0).cells }
+    requires work { IsSound work.now }
+    requires chain { behind.0 < length work.now.parts.now.chains }
+    requires pos { above < length (chain_at work.now.parts.now behind.0).cells }
     requires above { above ≡ behind.1 + 1 }
-    requires loaded { IsLoaded parts.now good.now block behind.0 behind.1 kind scratch.now }
-    requires len { length notes.old ≡ length (points_of parts.now) }
+    requires loaded { IsLoaded work.now.parts.now work.now.good.now work.now.block behind.0 behind.1 kind scratch.now }
+    requires len { length notes.old ≡ length (points_of work.now.parts.now) }
     ensures len { length notes.new ≡ length notes.old }
-    ensures step { IsStepNoted parts.now rows.now block behind.0 behind.1 kind scratch.now notes.old notes.new }
+    ensures step { IsStepNoted work.now.parts.now work.now.rows.now work.now.block behind.0 behind.1 kind scratch.now notes.old notes.new }
 {
     let loaded = Loaded {
-        parts,
-        good,
+        work,
         scratch,
-        block,
-        rows,
         chain: behind.0,
         pos: behind.1,
         kind,
@@ -112,103 +98,72 @@ fn note_step(
 
 /// Takes a walk one position down.
 fn step<L: Ledger>(
-    parts: &Parts,
-    good: &PackedGood,
+    work: &BlockWork<'_>,
     scratch: &mut Scratch,
-    block: usize,
-    rows: &[PointRow],
     behind: (u32, u32),
     above: u32,
     kind: CellKind,
     notes: &mut Notes,
     steps: &mut Steps<L>,
 )
-    requires good { BelongsTo parts.now good.now }
-    requires block { block < length good.now.rows }
-    requires rows { length rows.now ≡ length (points_of parts.now) }
+    requires work { IsSound work.now }
     requires above { above ≡ behind.1 + 1 }
-    requires walk { IsWalkAt parts.now good.now rows.now block behind.0 (behind.1 + 1) kind scratch.old notes.old }
-    ensures { IsWalkAt parts.now good.now rows.now block behind.0 behind.1 kind scratch.new notes.new }
+    requires walk { IsWalkAt work.now.parts.now work.now.good.now work.now.rows.now work.now.block behind.0 (behind.1 + 1) kind scratch.old notes.old }
+    ensures { IsWalkAt work.now.parts.now work.now.good.now work.now.rows.now work.now.block behind.0 behind.1 kind scratch.new notes.new }
 {
-    let _ = parts.chains();
-    good.load_more(parts, scratch, block, behind, kind, steps);
-    note_step(
-        parts, good, scratch, block, rows, behind, above, kind, notes,
-    );
-    clear_marks(scratch, parts.circuit().nets().len());
+    let _ = work.parts.chains();
+    work.good
+        .load_more(work.parts, scratch, work.block, behind, kind, steps);
+    note_step(work, scratch, behind, above, kind, notes);
+    clear_marks(scratch, work.parts.circuit().nets().len());
 }
 
 /// Takes a walk down its chain from one position to another.
 fn descend<L: Ledger>(
-    parts: &Parts,
-    good: &PackedGood,
+    work: &BlockWork<'_>,
     scratch: &mut Scratch,
-    block: usize,
-    rows: &[PointRow],
     from: (u32, u32),
     to: u32,
     kind: CellKind,
     notes: &mut Notes,
     steps: &mut Steps<L>,
 )
-    requires good { BelongsTo parts.now good.now }
-    requires block { block < length good.now.rows }
-    requires rows { length rows.now ≡ length (points_of parts.now) }
+    requires work { IsSound work.now }
     requires to { to ≤ from.1 }
-    requires walk { IsWalkAt parts.now good.now rows.now block from.0 from.1 kind scratch.old notes.old }
-    ensures { IsWalkAt parts.now good.now rows.now block from.0 to kind scratch.new notes.new }
+    requires walk { IsWalkAt work.now.parts.now work.now.good.now work.now.rows.now work.now.block from.0 from.1 kind scratch.old notes.old }
+    ensures { IsWalkAt work.now.parts.now work.now.good.now work.now.rows.now work.now.block from.0 to kind scratch.new notes.new }
 {
     let mut at = from.1;
     while at > to {
         let above = at;
         at -= 1;
-        step(
-            parts,
-            good,
-            scratch,
-            block,
-            rows,
-            (from.0, at),
-            above,
-            kind,
-            notes,
-            steps,
-        );
+        step(work, scratch, (from.0, at), above, kind, notes, steps);
     }
 }
 
 /// Brings a walk to a position: down the chain if it stands there or above, else from a new begin.
 pub(crate) fn reach<L: Ledger>(
-    parts: &Parts,
-    good: &PackedGood,
+    work: &BlockWork<'_>,
     scratch: &mut Scratch,
-    block: usize,
-    rows: &[PointRow],
     at: Option<(u32, u32)>,
     behind: (u32, u32),
     kind: CellKind,
     notes: &mut Notes,
     steps: &mut Steps<L>,
 ) -> Result<(), NoMemory>
-    requires good { BelongsTo parts.now good.now }
-    requires block { block < length good.now.rows }
-    requires rows { length rows.now ≡ length (points_of parts.now) }
-    requires chain { behind.0 < length parts.now.chains }
-    requires pos { behind.1 < length (chain_at parts.now behind.0).cells }
-    requires walk { IsWalk parts.now good.now rows.now block kind scratch.old notes.old at }
-    ensures scratch { IsScratchIn good.now scratch.new }
-    ensures walk { OnOk result (IsWalkAt parts.now good.now rows.now block behind.0 behind.1 kind scratch.new notes.new) }
+    requires work { IsSound work.now }
+    requires chain { behind.0 < length work.now.parts.now.chains }
+    requires pos { behind.1 < length (chain_at work.now.parts.now behind.0).cells }
+    requires walk { IsWalk work.now.parts.now work.now.good.now work.now.rows.now work.now.block kind scratch.old notes.old at }
+    ensures scratch { IsScratchIn work.now.good.now scratch.new }
+    ensures walk { OnOk result (IsWalkAt work.now.parts.now work.now.good.now work.now.rows.now work.now.block behind.0 behind.1 kind scratch.new notes.new) }
 {
     if let Some(from) = at {
         if from.0 == behind.0 && from.1 >= behind.1 {
-            descend(
-                parts, good, scratch, block, rows, from, behind.1, kind, notes, steps,
-            );
+            descend(work, scratch, from, behind.1, kind, notes, steps);
             return Ok(());
         }
     }
-    good.clear(scratch);
-    begin(
-        parts, good, scratch, block, rows, behind, kind, notes, steps,
-    )
+    work.good.clear(scratch);
+    begin(work, scratch, behind, kind, notes, steps)
 }

@@ -13,7 +13,7 @@ ghost use Rattle.match_counts.specs.Totals.{total_at, no_total, AreKnown};
 
 use crate::block_piece::block_shares;
 use crate::totals::{Total, add_shares, blank_table};
-use fault_effects::{BlockWork, Suspect, failing_count, owned_nets, rows_of_points, reads_of};
+use fault_effects::{BlockWork, Suspect, failing_count, owned_nets, reads_of, rows_of_points};
 use lane_rows::Groups;
 use log_join::Joined;
 use packed_sim::PackedGood;

@@ -4,8 +4,8 @@ ghost use Rattle.scan_model.specs.ScanTest.{ScanTest};
 ghost use Rattle.fault_effects.specs.Owners.{IsSuspectOf, places_of};
 ghost use Rattle.match_counts.specs.Totals.{AreTotals, candidates_at};
 
-use crate::totals::Total;
 use crate::plain::push_candidate;
+use crate::totals::Total;
 use fault_effects::Suspect;
 use scan_model::{Counts, NoMemory, Rows, Scored};
 use std::alloc::Global;

@@ -1,9 +1,9 @@
-ghost use Rattle.std.specs.Prelude.{◌≡◌, ℕ, ◌+◌, ◌<◌, ◌≤◌, ◌++◌, List, [], All, length, IfOk, OnOk};
+ghost use Rattle.std.specs.Prelude.{◌≡◌, ◌+◌, ◌<◌, ◌≤◌, ◌++◌, [], All, IfOk, OnOk};
 ghost use Rattle.std.specs.List.{flat_map};
-ghost use Rattle.packed_sim.specs.Belongs.{BelongsTo};
 ghost use Rattle.fault_effects.specs.declared.share.Share.{Share};
-ghost use Rattle.fault_effects.specs.Owners.{IsSuspectOf, AreOwners, Shares};
+ghost use Rattle.fault_effects.specs.Owners.{Shares};
 ghost use Rattle.fault_effects.specs.Pieces.{IsItem, IsServed};
+ghost use Rattle.fault_effects.specs.SoundWork.{IsSound};
 
 use fault_effects::{BlockWork, Share, WorkKind, piece_shares};
 use rayon::current_num_threads;
@@ -41,9 +41,7 @@ fn pieces<R: Threads + Sync>(
     items: &[u32],
     size: usize,
 ) -> Result<Vec<Rows<Share>>, NoMemory>
-    requires good { BelongsTo work.now.parts.now work.now.good.now }
-    requires suspects { All (IsSuspectOf work.now.parts.now) work.now.suspects.now }
-    requires owners { AreOwners work.now.parts.now work.now.suspects.now work.now.owners.now }
+    requires work { IsSound work.now }
     requires items { All (IsItem work.now.parts.now work.now.suspects.now kind) items.now }
     requires size { 0 < size }
     ensures { IfOk result (λ all. Shares work.now.parts.now work.now.rows.now work.now.block work.now.suspects.now (IsServed work.now.parts.now work.now.suspects.now kind items.now) [] (flat_map (λ shares. shares) all.items)) }
@@ -53,7 +51,7 @@ fn pieces<R: Threads + Sync>(
         .with_min_len(1)
         .map(
             |part: &[u32]| -> Result<Rows<Share>, NoMemory>
-                requires { BelongsTo work.now.parts.now work.now.good.now × All (IsSuspectOf work.now.parts.now) work.now.suspects.now × AreOwners work.now.parts.now work.now.suspects.now work.now.owners.now × All (IsItem work.now.parts.now work.now.suspects.now kind) part.now }
+                requires { IsSound work.now × All (IsItem work.now.parts.now work.now.suspects.now kind) part.now }
                 ensures { IfOk result (Shares work.entry.now.parts.now work.entry.now.rows.now work.entry.now.block work.entry.now.suspects.now (IsServed work.entry.now.parts.now work.entry.now.suspects.now kind part.entry.now) []) }
             { piece_shares(alloc, work, kind, part) },
         )
@@ -92,9 +90,7 @@ pub(crate) fn share_in_pieces<R: Threads + Sync>(
     items: &[u32],
     shares: &mut Rows<Share>,
 ) -> Result<(), NoMemory>
-    requires good { BelongsTo work.now.parts.now work.now.good.now }
-    requires suspects { All (IsSuspectOf work.now.parts.now) work.now.suspects.now }
-    requires owners { AreOwners work.now.parts.now work.now.suspects.now work.now.owners.now }
+    requires work { IsSound work.now }
     requires items { All (IsItem work.now.parts.now work.now.suspects.now kind) items.now }
     ensures { OnOk result (Shares work.now.parts.now work.now.rows.now work.now.block work.now.suspects.now (IsServed work.now.parts.now work.now.suspects.now kind items.now) shares.old shares.new) }
 {

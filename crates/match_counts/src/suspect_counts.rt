@@ -11,8 +11,7 @@ ghost use Rattle.match_counts.specs.Totals.{total_at, no_total, candidates_at};
 
 use crate::counting::count_blocks;
 use crate::listing::list_candidates;
-use crate::totals::Total;
-use crate::totals::blank_totals;
+use crate::totals::{Total, blank_totals};
 use back_trace::suspects_over;
 use fault_effects::{Suspect, owners_of, suspects_at};
 use fault_universe::universe_len;

@@ -18,7 +18,7 @@ loop-item-preserved g c =
     let item = get_or group i 0 in
     let own = c.requires.group i 0 c.loop-item-test.true in
     let s = suspect_at suspects item in
-    let suspect = c.requires.suspects item no_suspect own.within in
+    let suspect = c.requires.work.suspects item no_suspect own.within in
     let In : Fault → Type 0 = Contains (universe t) in
     record {
       scratch = c.in_ok-count.ensures.scratch;

@@ -13,16 +13,16 @@ use Rattle.fault_effects.proofs.cell_piece.share_cell.Goals as goal
 pub unreachable-requires : goal.unreachable-requires
 unreachable-requires g c =
     let own = c.requires.item in
-    let s = suspect_at c.args.suspects.now c.args.item in
-    let is = cell_owned c.args.parts.now s.fault c.chains.ensures.fits (c.requires.suspects c.args.item no_suspect own.within).site own.owned in
+    let s = suspect_at c.args.work.now.suspects.now c.args.item in
+    let is = cell_owned c.args.work.now.parts.now s.fault c.chains.ensures.fits (c.requires.work.suspects c.args.item no_suspect own.within).site own.owned in
     c.in_default.not-Cell is.chain is.pos is.kind is.is
 
 pub returns-clause-shares : goal.returns-clause-shares
 returns-clause-shares g c =
-    let t = c.args.parts.now in
-    let rows = c.args.rows.now in
-    let b = c.args.block in
-    let suspects = c.args.suspects.now in
+    let t = c.args.work.now.parts.now in
+    let rows = c.args.work.now.rows.now in
+    let b = c.args.work.now.block in
+    let suspects = c.args.work.now.suspects.now in
     let item = c.args.item in
     let s = suspect_at suspects item in
     let f = fault.Cell c.in-Cell.chain c.in-Cell.pos c.args.kind in

@@ -9,13 +9,13 @@ use Rattle.fault_effects.proofs.cell_piece.share_kind.Goals as goal
 pub loop-left-preserved : goal.loop-left-preserved
 loop-left-preserved g c =
     let group = c.args.group.now in
-    let suspects = c.args.suspects.now in
+    let suspects = c.args.work.now.suspects.now in
     let left = c.loop-left.left in
     let Kind : ℕ → Type 0 = λ i. IsOfKind c.args.kind (suspect_at suspects i).fault in
     record {
       walk = c.in_ok-at.ensures.walk;
       left_le = omega (arith, c.loop-left.invariant.left_le);
-      shares = shares_join c.args.parts.now c.args.rows.now c.args.block suspects (λ i. IsFrom group left i × Kind i) (λ i. (i ≡ slice_index group (left - 1)) × Kind i) (λ i. IsFrom group (left - 1) i × Kind i)
+      shares = shares_join c.args.work.now.parts.now c.args.work.now.rows.now c.args.work.now.block suspects (λ i. IsFrom group left i × Kind i) (λ i. (i ≡ slice_index group (left - 1)) × Kind i) (λ i. IsFrom group (left - 1) i × Kind i)
           c.args.shares.now c.loop-left.shares c.share_cell.new.shares c.loop-left.invariant.shares c.in_ok-at.ensures.shares
           (λ i lt both. elim (from_more group (left - 1) i both.0) [
             | inl more ↦

@@ -5,9 +5,9 @@ use Rattle.fault_effects.proofs.cell_piece.share_kind.Given as goal
 
 abbrev pub invariant-loop-left : goal.invariant-loop-left
 invariant-loop-left g l = record {
-  walk : IsWalk l.parts l.good l.rows l.block l.kind l.scratch l.notes l.at;
+  walk : IsWalk l.work.parts.now l.work.good.now l.work.rows.now l.work.block l.kind l.scratch l.notes l.at;
   left_le : l.left ≤ length l.group;
-  shares : Shares l.parts l.rows l.block l.suspects (λ i. IsFrom l.group l.left i × IsOfKind l.kind (suspect_at l.suspects i).fault) l.initial.shares l.shares;
+  shares : Shares l.work.parts.now l.work.rows.now l.work.block l.work.suspects.now (λ i. IsFrom l.group l.left i × IsOfKind l.kind (suspect_at l.work.suspects.now i).fault) l.initial.shares l.shares;
 }
 
 abbrev pub decreases-loop-left : goal.decreases-loop-left

@@ -19,7 +19,7 @@ loop-item-preserved c =
     let s = suspect_at suspects item in
     let Ordered : Netlist → Type 0 = λ n. IsEvaluationOrder n c.order.result.now in
     let ordered = subst Ordered c.circuit.ensures.value c.order.ensures in
-    let suspect = c.requires.suspects item no_suspect own.within in
+    let suspect = c.requires.work.suspects item no_suspect own.within in
     shares_join t rows b suspects (IsAmong group i) (λ k. k ≡ item) (IsAmong group (i + 1)) c.args.shares.now c.loop-item.shares c.push.new.self c.loop-item.invariant
     (shares_push t rows b suspects c.loop-item.shares c.push.new.self item c.count_in.result c.in_ok-push.ensures.ok own.within
     (λ logs points. c.count_in.ensures.count ∙ net_count t c.circuit.ensures.fits c.order.result.now ordered s.fault (in_universe t s suspect) logs b c.args.net c.args.shown.now c.args.lanes c.mask_of-mask.result c.and.result c.and.ensures own.owned c.requires.member.there c.mask_of-mask.ensures (c.requires.member.flip logs points)))

@@ -26,7 +26,7 @@ loop-net-preserved g c =
           c.in_ok-share_net.ensures.shares
           (λ i lt among. elim (among_more nets k (owner_at i) among) [
             | inl before ↦ inl before
-            | inr same ↦ inr (among_from group i (let In : List ℕ → Type 0 = λ xs. Contains xs i in subst In (ap (λ (x : ℕ). get_or c.args.work.now.owners.now x []) same ∙ sym c.group-group.ensures) (c.requires.owners.all i lt)))
+            | inr same ↦ inr (among_from group i (let In : List ℕ → Type 0 = λ xs. Contains xs i in subst In (ap (λ (x : ℕ). get_or c.args.work.now.owners.now x []) same ∙ sym c.group-group.ensures) (c.requires.work.owners.all i lt)))
           ]);
     }
 

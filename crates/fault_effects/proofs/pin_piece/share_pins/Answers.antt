@@ -8,10 +8,10 @@ use Rattle.fault_effects.proofs.pin_piece.share_pins.Goals as goal
 
 pub loop-item-preserved : goal.loop-item-preserved
 loop-item-preserved c =
-    let t = c.args.parts.now in
-    let rows = c.args.rows.now in
-    let b = c.args.block in
-    let suspects = c.args.suspects.now in
+    let t = c.args.work.now.parts.now in
+    let rows = c.args.work.now.rows.now in
+    let b = c.args.work.now.block in
+    let suspects = c.args.work.now.suspects.now in
     let group = c.args.group.now in
     let i = c.loop-item.item-index in
     let item = get_or group i 0 in
@@ -19,7 +19,7 @@ loop-item-preserved c =
     let s = suspect_at suspects item in
     let Ordered : Netlist → Type 0 = λ n. IsEvaluationOrder n c.order.result.now in
     let ordered = subst Ordered c.circuit.ensures.value c.order.ensures in
-    let suspect = c.requires.suspects item no_suspect own.within in
+    let suspect = c.requires.work.suspects item no_suspect own.within in
     shares_join t rows b suspects (IsAmong group i) (λ k. k ≡ item) (IsAmong group (i + 1)) c.args.shares.now c.loop-item.shares c.push.new.self c.loop-item.invariant
     (shares_push t rows b suspects c.loop-item.shares c.push.new.self item c.pin_count.result c.in_ok-push.ensures.ok own.within
     (λ logs points. pin_count_is t c.circuit.ensures.fits c.order.result.now ordered s.fault (in_universe t s suspect) logs b c.in-Branch.pin c.in-Branch.value c.pin_count.result c.in-Branch.is suspect.site own.owned (λ side. c.pin_count.ensures logs side points)))

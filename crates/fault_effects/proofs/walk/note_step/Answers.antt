@@ -8,9 +8,9 @@ use Rattle.fault_effects.proofs.walk.note_step.Goals as goal
 
 pub returns-clause-step : goal.returns-clause-step
 returns-clause-step c =
-    let t = c.args.parts.now in
-    let rows = c.args.rows.now in
-    let b = c.args.block in
+    let t = c.args.work.now.parts.now in
+    let rows = c.args.work.now.rows.now in
+    let b = c.args.work.now.block in
     let h = c.args.behind.0 in
     let f = fault.Cell h c.args.behind.1 c.args.kind in
     let moved = c.note_moved.new.notes in

@@ -21,6 +21,6 @@ returns g c =
     let cells_are : cells ≡ get_or groups (N + 2) [] = c.group-cells.ensures ∙ ap (λ (n : ℕ). get_or groups (n + 2) []) count in
     shares_join t w.rows.now w.block suspects (λ i. owner_at i < N + 2) (IsServed t suspects Cells cells) (λ i. owner_at i < N + 3) [] c.in_ok-shares.shares c.share_in_pieces.new.shares c.in_ok-shares.ensures c.in_ok-share_in_pieces.ensures
     (λ i lt below. elim (cases_eq (owner_at i) (N + 2)) [
-      | inl same ↦ inr (owned_in t suspects groups (N + 2) cells c.requires.owners cells_are i lt same)
+      | inl same ↦ inr (owned_in t suspects groups (N + 2) cells c.requires.work.owners cells_are i lt same)
       | inr other ↦ inl (omega (arith, below, other))
     ])

@@ -28,11 +28,11 @@ returns g c =
     let bridges_are : bridges ≡ get_or groups (N + 1) [] = c.group-bridges.ensures ∙ ap (λ (n : ℕ). get_or groups (n + 1) []) count in
     let with_pins = shares_join t rows b suspects (IsServed t suspects Nets c.args.nets.now) (IsServed t suspects Pins pins) (λ i. owner_at i < N + 1) none c.share_in_pieces.new.shares c.share_in_pieces-2.new.shares c.in_ok-share_in_pieces.ensures c.in_ok-share_in_pieces-2.ensures
     (λ i lt below. elim (cases_eq (owner_at i) N) [
-      | inl same ↦ inr (owned_in t suspects groups N pins c.requires.owners pins_are i lt same)
+      | inl same ↦ inr (owned_in t suspects groups N pins c.requires.work.owners pins_are i lt same)
       | inr other ↦ inl (c.requires.all i lt (omega (arith, below, other)))
     ]) in
     subst Part c.new-shares.ensures (shares_join t rows b suspects (λ i. owner_at i < N + 1) (IsServed t suspects Bridges bridges) (λ i. owner_at i < N + 2) none c.share_in_pieces-2.new.shares c.share_in_pieces-3.new.shares with_pins c.in_ok-share_in_pieces-3.ensures
     (λ i lt below. elim (cases_eq (owner_at i) (N + 1)) [
-      | inl same ↦ inr (owned_in t suspects groups (N + 1) bridges c.requires.owners bridges_are i lt same)
+      | inl same ↦ inr (owned_in t suspects groups (N + 1) bridges c.requires.work.owners bridges_are i lt same)
       | inr other ↦ inl (omega (arith, below, other))
     ]))

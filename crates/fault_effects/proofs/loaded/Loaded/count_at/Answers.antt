@@ -16,22 +16,22 @@ pub returns-clause-small : goal.returns-clause-small
 returns-clause-small c = by_side
   where
     by_side : (side : Side) → count_on side (record { tfsf = c.count_both.result; tpsf = c.count_both-2.result }) ≤ 512
-    by_side Failing = omega (arith, c.count_both.ensures, few_lanes (λ j. lane (get_or c.args.self.now.rows.now c.args.k c.index-self-k.result).failing j && lane c.predicted_row-predicted.result j))
-    by_side Passing = omega (arith, c.count_both-2.ensures, few_lanes (λ j. lane (get_or c.args.self.now.rows.now c.args.k c.index-self-k.result).passing j && lane c.predicted_row-predicted.result j))
+    by_side Failing = omega (arith, c.count_both.ensures, few_lanes (λ j. lane (get_or c.args.self.now.work.now.rows.now c.args.k c.index-self-k.result).failing j && lane c.predicted_row-predicted.result j))
+    by_side Passing = omega (arith, c.count_both-2.ensures, few_lanes (λ j. lane (get_or c.args.self.now.work.now.rows.now c.args.k c.index-self-k.result).passing j && lane c.predicted_row-predicted.result j))
 
 pub returns-clause-count : goal.returns-clause-count
 returns-clause-count c =
-    let t = c.args.self.now.parts.now in
-    let rows = c.args.self.now.rows.now in
-    let b = c.args.self.now.block in
+    let t = c.args.self.now.work.now.parts.now in
+    let rows = c.args.self.now.work.now.rows.now in
+    let b = c.args.self.now.work.now.block in
     let k = c.args.k in
     let f = fault.Cell c.args.self.now.chain c.args.self.now.pos c.args.self.now.kind in
-    let row : get_or rows k c.index-self-k.result ≡ point_row_at rows k = get_or_default rows k c.index-self-k.result no_point_row (omega (arith, c.requires.point, c.args.self.now.rows_len)) in
+    let row : get_or rows k c.index-self-k.result ≡ point_row_at rows k = get_or_default rows k c.index-self-k.result no_point_row (omega (arith, c.requires.point, c.args.self.now.work.now.rows_len)) in
     λ side. by_side side
     ∙ ap (λ (r : PointRow). count_lanes (λ j. lane (row_on side r) j && lane c.predicted_row-predicted.result j)) row
     ∙ same_lanes (λ j. lane (row_on side (point_row_at rows k)) j && lane c.predicted_row-predicted.result j) (λ j. lane (row_on side (point_row_at rows k)) j && fails_in t b f k j)
     (λ j lt. ap (λ (x : Bool). lane (row_on side (point_row_at rows k)) j && x) (c.predicted_row-predicted.ensures j lt))
   where
-    by_side : (side : Side) → count_on side (record { tfsf = c.count_both.result; tpsf = c.count_both-2.result }) ≡ count_lanes (λ j. lane (row_on side (get_or c.args.self.now.rows.now c.args.k c.index-self-k.result)) j && lane c.predicted_row-predicted.result j)
+    by_side : (side : Side) → count_on side (record { tfsf = c.count_both.result; tpsf = c.count_both-2.result }) ≡ count_lanes (λ j. lane (row_on side (get_or c.args.self.now.work.now.rows.now c.args.k c.index-self-k.result)) j && lane c.predicted_row-predicted.result j)
     by_side Failing = c.count_both.ensures
     by_side Passing = c.count_both-2.ensures

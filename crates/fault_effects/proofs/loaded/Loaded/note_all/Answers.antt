@@ -9,7 +9,7 @@ use Rattle.fault_effects.proofs.loaded.Loaded.note_all.Goals as goal
 pub returns-clause-fresh : goal.returns-clause-fresh
 returns-clause-fresh c =
     let self = c.args.self.now in
-    let t = self.parts.now in
-    begun_fresh t c.points.ensures.fits self.good.now c.requires.good self.block self.block_within self.chain self.pos self.kind self.scratch.now self.loaded self.rows.now c.reset.new.self c.note_touched.new.notes c.note_chain.new.notes
-    (λ k lt. ap (λ (notes : List BlockCount). noted_at notes k) c.in_ok-reset.ensures ∙ get_or-replicate (length self.rows.now) k no_count no_count (omega (arith, lt, self.rows_len)))
+    let t = self.work.now.parts.now in
+    begun_fresh t c.points.ensures.fits self.work.now.good.now c.requires.work.good self.work.now.block self.work.now.block_within self.chain self.pos self.kind self.scratch.now self.loaded self.work.now.rows.now c.reset.new.self c.note_touched.new.notes c.note_chain.new.notes
+    (λ k lt. ap (λ (notes : List BlockCount). noted_at notes k) c.in_ok-reset.ensures ∙ get_or-replicate (length self.work.now.rows.now) k no_count no_count (omega (arith, lt, self.work.now.rows_len)))
     c.note_touched.ensures.renoted c.note_chain.ensures.renoted c.note_touched.ensures.fresh c.note_chain.ensures.fresh

@@ -12,19 +12,19 @@ use Rattle.fault_effects.proofs.loaded.Loaded.note_changed.Goals as goal
 
 pub note_points-requires-clause-points : goal.note_points-requires-clause-points
 note_points-requires-clause-points c =
-    let t = c.args.self.now.parts.now in
+    let t = c.args.self.now.work.now.parts.now in
     rw c.points_of_net-points.ensures (λ k d lt. omega (arith, (filtered (λ x. eqb (observed_at t x) c.args.net) 0 (length (points_of t)) k d lt).0))
 
 pub note_below-requires-clause-points : goal.note_below-requires-clause-points
 note_below-requires-clause-points c =
-    let t = c.args.self.now.parts.now in
+    let t = c.args.self.now.work.now.parts.now in
     rw c.points_of_net-points.ensures (λ k d lt. omega (arith, (filtered (λ x. eqb (observed_at t x) c.args.net) 0 (length (points_of t)) k d lt).0))
 
 pub returns-clause-done : goal.returns-clause-done
 returns-clause-done c =
-    let t = c.args.self.now.parts.now in
-    let rows = c.args.self.now.rows.now in
-    let b = c.args.self.now.block in
+    let t = c.args.self.now.work.now.parts.now in
+    let rows = c.args.self.now.work.now.rows.now in
+    let b = c.args.self.now.work.now.block in
     let h = c.args.self.now.chain in
     let f = fault.Cell h c.args.self.now.pos c.args.self.now.kind in
     let mid = c.note_points.new.notes in

@@ -16,13 +16,13 @@ use Rattle.fault_effects.proofs.FlipSums.{shown_of_net, shown_by_nets, own_all_b
 use Rattle.fault_effects.proofs.shown.Shown.gather.Goals as goal
 
 pub difference-requires-clause-net : goal.difference-requires-clause-net
-difference-requires-clause-net c = own_all_below c.args.parts.now c.args.good.now c.args.scratch.now c.nets-nets.result.now c.requires.good c.requires.scratch c.nets-nets.ensures.all c.loop-net.net-index _ c.loop-net-test.true
+difference-requires-clause-net c = own_all_below c.args.work.now.parts.now c.args.work.now.good.now c.args.scratch.now c.nets-nets.result.now c.requires.work.good c.requires.scratch c.nets-nets.ensures.all c.loop-net.net-index _ c.loop-net-test.true
 
 pub points_of_net-requires-clause-net : goal.points_of_net-requires-clause-net
-points_of_net-requires-clause-net c = own_all_below c.args.parts.now c.args.good.now c.args.scratch.now c.nets-nets.result.now c.requires.good c.requires.scratch c.nets-nets.ensures.all c.loop-net.net-index _ c.loop-net-test.true
+points_of_net-requires-clause-net c = own_all_below c.args.work.now.parts.now c.args.work.now.good.now c.args.scratch.now c.nets-nets.result.now c.requires.work.good c.requires.scratch c.nets-nets.ensures.all c.loop-net.net-index _ c.loop-net-test.true
 
 pub add_points-requires : goal.add_points-requires
-add_points-requires c = rw c.points_of_net.ensures (λ k d lt. omega (arith, c.requires.rows, (filtered (λ x. eqb (observed_at c.args.parts.now x) (get_or c.nets-nets.result.now c.loop-net.net-index 0)) 0 (length (points_of c.args.parts.now)) k d lt).0))
+add_points-requires c = rw c.points_of_net.ensures (λ k d lt. omega (arith, c.args.work.now.rows_len, (filtered (λ x. eqb (observed_at c.args.work.now.parts.now x) (get_or c.nets-nets.result.now c.loop-net.net-index 0)) 0 (length (points_of c.args.work.now.parts.now)) k d lt).0))
 
 pub loop-net-init : goal.loop-net-init
 loop-net-init c = λ side. by_side side
@@ -33,16 +33,16 @@ loop-net-init c = λ side. by_side side
 
 pub loop-net-preserved : goal.loop-net-preserved
 loop-net-preserved c = λ side m.
-    let t = c.args.parts.now in
-    let g = c.args.good.now in
+    let t = c.args.work.now.parts.now in
+    let g = c.args.work.now.good.now in
     let s = c.args.scratch.now in
-    let b = c.args.block in
-    let rows = c.args.rows.now in
+    let b = c.args.work.now.block in
+    let rows = c.args.work.now.rows.now in
     let nets = c.nets-nets.result.now in
     let i = c.loop-net.net-index in
     let n = get_or nets i 0 in
-    let found = get_or c.blocks-2.result.now b c.index-blocks-block.result in
-    let block : found ≡ block_at g b = get_or_default c.blocks-2.result.now b c.index-blocks-block.result no_block (omega (arith, ap length c.blocks-2.ensures, c.requires.block)) ∙ ap (λ (bs : List Block). get_or bs b no_block) c.blocks-2.ensures in
+    let found = get_or c.blocks-2.result.now b c.index-blocks-work.result in
+    let block : found ≡ block_at g b = get_or_default c.blocks-2.result.now b c.index-blocks-work.result no_block (omega (arith, ap length c.blocks-2.ensures, c.args.work.now.block_within)) ∙ ap (λ (bs : List Block). get_or bs b no_block) c.blocks-2.ensures in
     let f = λ (x : ℕ). sum_by (λ k. count_lanes (λ j. caught_lane t g s b rows side k j && m j)) (points_of_net t x) in
     let old = tallied (list_on side c.loop-net.self) m in
     sum_next _ old _ _ (f n)
@@ -59,12 +59,12 @@ loop-net-preserved c = λ side m.
 
 pub returns : goal.returns
 returns c = λ side m.
-    let t = c.args.parts.now in
-    let g = c.args.good.now in
+    let t = c.args.work.now.parts.now in
+    let g = c.args.work.now.good.now in
     let s = c.args.scratch.now in
     let nets = c.nets-nets.result.now in
-    let f = λ (x : ℕ). sum_by (λ k. count_lanes (λ j. caught_lane t g s c.args.block c.args.rows.now side k j && m j)) (points_of_net t x) in
-    let below = own_all_below t g s nets c.requires.good c.requires.scratch c.nets-nets.ensures.all in
+    let f = λ (x : ℕ). sum_by (λ k. count_lanes (λ j. caught_lane t g s c.args.work.now.block c.args.work.now.rows.now side k j && m j)) (points_of_net t x) in
+    let below = own_all_below t g s nets c.requires.work.good c.requires.scratch c.nets-nets.ensures.all in
     c.loop-net.invariant side m
     ∙ ap (λ (ns : List ℕ). sum_by f ns) (take_all c.loop-net.net-index nets (omega arith))
-    ∙ shown_by_nets t g s c.args.block c.args.rows.now side m nets c.points.ensures.fits c.nets-nets.ensures.differ below (λ n lt absent. own_not s n nets c.nets-nets.ensures.all absent)
+    ∙ shown_by_nets t g s c.args.work.now.block c.args.work.now.rows.now side m nets c.points.ensures.fits c.nets-nets.ensures.differ below (λ n lt absent. own_not s n nets c.nets-nets.ensures.all absent)

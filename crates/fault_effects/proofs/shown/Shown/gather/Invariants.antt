@@ -8,4 +8,4 @@ use Rattle.fault_effects.proofs.shown.Shown.gather.Given as goal
 
 abbrev pub invariant-loop-net : goal.invariant-loop-net
 invariant-loop-net l = (side : Side) (m : ℕ → Bool) → tallied (list_on side l.self) m
-    ≡ sum_by (λ n. sum_by (λ k. count_lanes (λ j. caught_lane l.parts l.good l.scratch l.block l.rows side k j && m j)) (points_of_net l.parts n)) (take l.net-index l.nets)
+    ≡ sum_by (λ n. sum_by (λ k. count_lanes (λ j. caught_lane l.work.parts.now l.work.good.now l.scratch l.work.block l.work.rows.now side k j && m j)) (points_of_net l.work.parts.now n)) (take l.net-index l.nets)
