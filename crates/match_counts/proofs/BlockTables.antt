@@ -2,10 +2,10 @@
 use Rattle.std.proofs.Common.{◌≡◌, ◌⊎◌, ℕ, ◌+◌, ◌<◌, List, length, get_or, set, refl, sym, ap, ◌∙◌, inl, inr, arith}
 use Rattle.std.proofs.lemmas.Bool.{cases_eq}
 use Rattle.std.proofs.lemmas.List.{get_or-set_same, get_or-set_other}
-use Rattle.match_counts.specs.declared.share.BlockCount.{BlockCount}
-use Rattle.match_counts.specs.declared.share.Share.{Share}
-use Rattle.match_counts.specs.declared.share.Total.{Total}
-use Rattle.match_counts.specs.Shares.{no_share, no_count, HasShareBefore}
+use Rattle.fault_effects.specs.declared.share.BlockCount.{BlockCount}
+use Rattle.fault_effects.specs.declared.share.Share.{Share}
+use Rattle.match_counts.specs.declared.totals.Total.{Total}
+use Rattle.fault_effects.specs.Shares.{no_share, no_count, HasShareBefore}
 use Rattle.match_counts.specs.Totals.{count_at, IsBlankAt, total_at, no_total, plus, IsAtMost, AreTotalsAtMost}
 
 -- what is true of a suspect stays so

@@ -14,21 +14,21 @@ use Rattle.scan_model.specs.Universe.{universe}
 use Rattle.scan_model.specs.Suspect.{suspects, is_suspect}
 use Rattle.scan_model.specs.Coverage.{bits_of}
 use Rattle.fault_universe.proofs.BitSteps.{range_more}
-use Rattle.match_counts.specs.declared.share.Share.{Share}
-use Rattle.match_counts.specs.declared.share.Total.{Total}
-use Rattle.match_counts.specs.declared.suspect.Suspect.{Suspect}
-use Rattle.match_counts.specs.declared.side.Side.TheVariants.{Failing, Passing}
+use Rattle.fault_effects.specs.declared.share.Share.{Share}
+use Rattle.match_counts.specs.declared.totals.Total.{Total}
+use Rattle.fault_effects.specs.declared.suspect.Suspect.{Suspect}
+use Rattle.fault_effects.specs.declared.side.Side.TheVariants.{Failing, Passing}
 use Rattle.lane_rows.specs.Lanes.{lane, count_lanes}
 use Rattle.lane_rows.proofs.LaneCounts.{same_lanes}
-use Rattle.match_counts.specs.declared.point_row.PointRow.{PointRow}
-use Rattle.match_counts.specs.PointRows.{counts_on, ArePointRows, no_point_row}
-use Rattle.match_counts.specs.Hits.{hits}
-use Rattle.match_counts.specs.Shares.{hits_in, lanes_at, predicted_in, count_in, HasShare}
-use Rattle.match_counts.specs.Owners.{suspect_at, owner, share_of}
+use Rattle.fault_effects.specs.declared.point_row.PointRow.{PointRow}
+use Rattle.fault_effects.specs.PointRows.{counts_on, ArePointRows, no_point_row}
+use Rattle.fault_effects.specs.Hits.{hits}
+use Rattle.fault_effects.specs.Shares.{hits_in, lanes_at, predicted_in, count_in, HasShare}
+use Rattle.fault_effects.specs.Owners.{suspect_at, owner, share_of}
 use Rattle.match_counts.specs.Totals.{total_at, no_total, plus, sum_of, total_of, IsAdded, AreSums, AreKnown, AreTotalsAtMost}
-use Rattle.match_counts.proofs.Sums.{sum_agree, sum_agree_in, sum_of_map}
-use Rattle.match_counts.proofs.Hits.{bits_by_block}
-use Rattle.match_counts.proofs.OneFault.{hits_are}
+use Rattle.fault_effects.proofs.Sums.{sum_agree, sum_agree_in, sum_of_map}
+use Rattle.fault_effects.proofs.Hits.{bits_by_block}
+use Rattle.fault_effects.proofs.OneFault.{hits_are}
 
 abbrev total : ℕ → ℕ → Total
 total a b = record { tfsf = a; tpsf = b }

@@ -21,14 +21,14 @@ use Rattle.scan_model.specs.Classes.{class, is_failing}
 use Rattle.scan_model.specs.MatchCounts.{counts_of, is_candidate, scored, candidates}
 use Rattle.scan_model.specs.Suspect.{suspects, is_suspect}
 use Rattle.scan_model.proofs.Orders.{filter_range_at}
-use Rattle.match_counts.specs.declared.share.Total.{Total}
-use Rattle.match_counts.specs.declared.side.Side.TheVariants.{Failing}
-use Rattle.match_counts.specs.declared.suspect.Suspect.{Suspect}
-use Rattle.match_counts.specs.PointRows.{counts_on}
-use Rattle.match_counts.specs.Shares.{fault_of}
-use Rattle.match_counts.specs.Owners.{IsSuspectOf, places_of, suspect_at, no_suspect}
+use Rattle.match_counts.specs.declared.totals.Total.{Total}
+use Rattle.fault_effects.specs.declared.side.Side.TheVariants.{Failing}
+use Rattle.fault_effects.specs.declared.suspect.Suspect.{Suspect}
+use Rattle.fault_effects.specs.PointRows.{counts_on}
+use Rattle.fault_effects.specs.Shares.{fault_of}
+use Rattle.fault_effects.specs.Owners.{IsSuspectOf, places_of, suspect_at, no_suspect}
 use Rattle.match_counts.specs.Totals.{AreTotals, total_at, total_of, candidates_at}
-use Rattle.match_counts.proofs.Sums.{sum_agree, sum_plus}
+use Rattle.fault_effects.proofs.Sums.{sum_agree, sum_plus}
 
 parted : (p q : Bool) → cond {A = ℕ} p 1 0 ≡ cond (p && q) 1 0 + cond (p && not q) 1 0
 parted true true = omega arith

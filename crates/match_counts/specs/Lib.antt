@@ -1,15 +1,2 @@
 pub mod Tally
-pub mod Hits
-pub mod BlockSums
-pub mod PointRows
-pub mod Shares
-pub mod Flips
-pub mod Cells
-pub mod Walks
-pub mod Owners
 pub mod Totals
-pub mod Pieces
-pub mod Readers
-pub mod FlipOrder
-pub mod Regions
-pub mod KeptFlips

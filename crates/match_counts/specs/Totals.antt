@@ -7,14 +7,14 @@ use Rattle.scan_model.specs.declared.logs.Scored.{Scored}
 use Rattle.scan_model.specs.ScanTest.{ScanTest}
 use Rattle.scan_model.specs.Coverage.{bits_of}
 use Rattle.scan_model.specs.MatchCounts.{counts_of, scored, is_candidate}
-use Rattle.match_counts.specs.declared.share.BlockCount.{BlockCount}
-use Rattle.match_counts.specs.declared.share.Total.{Total}
-use Rattle.match_counts.specs.declared.side.Side.TheVariants.{Failing, Passing}
-use Rattle.match_counts.specs.PointRows.{counts_on}
-use Rattle.match_counts.specs.declared.share.Share.{Share}
-use Rattle.match_counts.specs.declared.suspect.Suspect.{Suspect}
-use Rattle.match_counts.specs.Shares.{predicted_in, fault_of, no_count, HasShare}
-use Rattle.match_counts.specs.Owners.{owner, suspect_at}
+use Rattle.fault_effects.specs.declared.share.BlockCount.{BlockCount}
+use Rattle.match_counts.specs.declared.totals.Total.{Total}
+use Rattle.fault_effects.specs.declared.side.Side.TheVariants.{Failing, Passing}
+use Rattle.fault_effects.specs.PointRows.{counts_on}
+use Rattle.fault_effects.specs.declared.share.Share.{Share}
+use Rattle.fault_effects.specs.declared.suspect.Suspect.{Suspect}
+use Rattle.fault_effects.specs.Shares.{predicted_in, fault_of, no_count, HasShare}
+use Rattle.fault_effects.specs.Owners.{owner, suspect_at}
 
 abbrev pub count_at : List BlockCount → ℕ → BlockCount
 count_at table i = slice_index_or table i no_count

@@ -1,12 +1,10 @@
 ghost use Rattle.std.specs.Prelude.{◌≡◌, ℕ, ◌+◌, ◌<◌, [], All, Contains, length, IfOk};
-ghost use Rattle.packed_sim.specs.Belongs.{BelongsTo};
-ghost use Rattle.match_counts.specs.Owners.{IsSuspectOf, AreOwners, Shares, suspect_at};
-ghost use Rattle.match_counts.specs.Owners as owning;
+ghost use Rattle.fault_effects.specs.Owners.{Shares, suspect_at};
+ghost use Rattle.fault_effects.specs.Owners as owning;
+ghost use Rattle.fault_effects.specs.SoundWork.{IsSound};
 
-use crate::block_work::BlockWork;
 use crate::pieces::share_in_pieces;
-use crate::share::Share;
-use crate::work_kind::WorkKind;
+use fault_effects::{BlockWork, Share, WorkKind};
 use scan_model::{NoMemory, Rows};
 use std::alloc::Global;
 use std::thread::Threads;
@@ -18,9 +16,7 @@ fn logic_shares<R: Threads + Sync>(
     work: &BlockWork<'_>,
     nets: &[u32],
 ) -> Result<Rows<Share>, NoMemory>
-    requires good { BelongsTo work.now.parts.now work.now.good.now }
-    requires suspects { All (IsSuspectOf work.now.parts.now) work.now.suspects.now }
-    requires owners { AreOwners work.now.parts.now work.now.suspects.now work.now.owners.now }
+    requires work { IsSound work.now }
     requires nets { All (λ n. n < length work.now.parts.now.netlist.nets) nets.now }
     requires all { (i : ℕ) → i < length work.now.suspects.now → owning.owner work.now.parts.now (suspect_at work.now.suspects.now i).fault < length work.now.parts.now.netlist.nets → Contains nets.now (owning.owner work.now.parts.now (suspect_at work.now.suspects.now i).fault) }
     ensures { IfOk result (Shares work.now.parts.now work.now.rows.now work.now.block work.now.suspects.now (λ i. owning.owner work.now.parts.now (suspect_at work.now.suspects.now i).fault < length work.now.parts.now.netlist.nets + 2) []) }
@@ -42,9 +38,7 @@ pub(crate) fn block_shares<R: Threads + Sync>(
     work: &BlockWork<'_>,
     nets: &[u32],
 ) -> Result<Rows<Share>, NoMemory>
-    requires good { BelongsTo work.now.parts.now work.now.good.now }
-    requires suspects { All (IsSuspectOf work.now.parts.now) work.now.suspects.now }
-    requires owners { AreOwners work.now.parts.now work.now.suspects.now work.now.owners.now }
+    requires work { IsSound work.now }
     requires nets { All (λ n. n < length work.now.parts.now.netlist.nets) nets.now }
     requires all { (i : ℕ) → i < length work.now.suspects.now → owning.owner work.now.parts.now (suspect_at work.now.suspects.now i).fault < length work.now.parts.now.netlist.nets → Contains nets.now (owning.owner work.now.parts.now (suspect_at work.now.suspects.now i).fault) }
     ensures { IfOk result (Shares work.now.parts.now work.now.rows.now work.now.block work.now.suspects.now (λ i. owning.owner work.now.parts.now (suspect_at work.now.suspects.now i).fault < length work.now.parts.now.netlist.nets + 3) []) }

@@ -5,21 +5,15 @@ ghost use Rattle.scan_model.specs.Response.{expected_rows};
 ghost use Rattle.scan_model.specs.Coverage.{bits_of};
 ghost use Rattle.log_join.specs.Joining.{StandsFor, IsJoinedOf};
 ghost use Rattle.packed_sim.specs.Belongs.{BelongsTo};
-ghost use Rattle.match_counts.specs.declared.side.Side.TheVariants as side;
-ghost use Rattle.match_counts.specs.PointRows.{counts_on};
-ghost use Rattle.match_counts.specs.Owners.{IsSuspectOf, AreOwners, suspect_at};
-ghost use Rattle.match_counts.specs.Owners as owning;
+ghost use Rattle.fault_effects.specs.declared.side.Side.TheVariants as side;
+ghost use Rattle.fault_effects.specs.PointRows.{counts_on};
+ghost use Rattle.fault_effects.specs.Owners.{IsSuspectOf, AreOwners, suspect_at};
+ghost use Rattle.fault_effects.specs.Owners as owning;
 ghost use Rattle.match_counts.specs.Totals.{total_at, no_total, AreKnown};
 
 use crate::block_piece::block_shares;
-use crate::block_work::BlockWork;
-use crate::flip_order::owned_nets;
-use crate::lane_tally::failing_count;
-use crate::point_rows::point_rows;
-use crate::readers::reads_of;
-use crate::share::Total;
-use crate::suspect::Suspect;
-use crate::totals::{add_shares, blank_table};
+use crate::totals::{Total, add_shares, blank_table};
+use fault_effects::{BlockWork, Suspect, failing_count, owned_nets, reads_of, rows_of_points};
 use lane_rows::Groups;
 use log_join::Joined;
 use packed_sim::PackedGood;
@@ -56,7 +50,7 @@ pub(crate) fn count_blocks<R: Threads + Sync>(
     let mut table = blank_table(alloc, totals.len())?;
     let mut failing = 0u64;
     for block in 0..good.blocks().len() {
-        let rows = point_rows(alloc, parts, joined, expected, block as u32)?;
+        let rows = rows_of_points(alloc, parts, joined, expected, block as u32)?;
         let work = BlockWork {
             parts,
             good,

@@ -1,12 +1,12 @@
 ghost use Rattle.std.specs.Prelude.{◌≡◌, List, All, length, IfOk};
 ghost use Rattle.scan_model.specs.declared.logs.LogFacts.{LogFacts};
 ghost use Rattle.scan_model.specs.ScanTest.{ScanTest};
-ghost use Rattle.match_counts.specs.Owners.{IsSuspectOf, places_of};
+ghost use Rattle.fault_effects.specs.Owners.{IsSuspectOf, places_of};
 ghost use Rattle.match_counts.specs.Totals.{AreTotals, candidates_at};
 
 use crate::plain::push_candidate;
-use crate::share::Total;
-use crate::suspect::Suspect;
+use crate::totals::Total;
+use fault_effects::Suspect;
 use scan_model::{Counts, NoMemory, Rows, Scored};
 use std::alloc::Global;
 

@@ -1,105 +1,16 @@
-ghost use Rattle.std.specs.Prelude.{◌≡◌, ℕ, ◌+◌, ◌<◌, ◌≤◌, ◌++◌, List, [], All, length, IfOk, OnOk};
+ghost use Rattle.std.specs.Prelude.{◌≡◌, ◌+◌, ◌<◌, ◌≤◌, ◌++◌, [], All, IfOk, OnOk};
 ghost use Rattle.std.specs.List.{flat_map};
-ghost use Rattle.packed_sim.specs.Belongs.{BelongsTo, IsScratchOf};
-ghost use Rattle.match_counts.specs.declared.share.Share.{Share};
-ghost use Rattle.match_counts.specs.Owners.{IsSuspectOf, AreOwners, Shares};
-ghost use Rattle.match_counts.specs.Pieces.{IsItem, IsServed};
+ghost use Rattle.fault_effects.specs.declared.share.Share.{Share};
+ghost use Rattle.fault_effects.specs.Owners.{Shares};
+ghost use Rattle.fault_effects.specs.Pieces.{IsItem, IsServed};
+ghost use Rattle.fault_effects.specs.SoundWork.{IsSound};
 
-use crate::block_work::BlockWork;
-use crate::bridge_piece::share_bridges;
-use crate::cell_piece::share_cells;
-use crate::net_piece::share_nets;
-use crate::pin_piece::share_pins;
-use crate::share::Share;
-use crate::work_kind::WorkKind;
-use packed_sim::Scratch;
+use fault_effects::{BlockWork, Share, WorkKind, piece_shares};
 use rayon::current_num_threads;
 use rayon::prelude::*;
-use scan_model::{NoMemory, Rows, Steps};
+use scan_model::{NoMemory, Rows};
 use std::alloc::Global;
-use std::marker::Brand;
-use std::sync::ledger::{Blank, Ledger};
 use std::thread::Threads;
-
-/// Adds the shares of the suspects that a list of work serves.
-fn share_items<L: Ledger>(
-    alloc: Global,
-    work: &BlockWork<'_>,
-    kind: WorkKind,
-    items: &[u32],
-    scratch: &mut Scratch,
-    shares: &mut Rows<Share>,
-    steps: &mut Steps<L>,
-) -> Result<(), NoMemory>
-    requires good { BelongsTo work.now.parts.now work.now.good.now }
-    requires suspects { All (IsSuspectOf work.now.parts.now) work.now.suspects.now }
-    requires owners { AreOwners work.now.parts.now work.now.suspects.now work.now.owners.now }
-    requires items { All (IsItem work.now.parts.now work.now.suspects.now kind) items.now }
-    requires scratch { IsScratchOf work.now.good.now scratch.old }
-    ensures { OnOk result (Shares work.now.parts.now work.now.rows.now work.now.block work.now.suspects.now (IsServed work.now.parts.now work.now.suspects.now kind items.now) shares.old shares.new) }
-{
-    let parts = work.parts;
-    let good = work.good;
-    let block = work.block;
-    let rows = work.rows;
-    let suspects = work.suspects;
-    match kind {
-        WorkKind::Nets => share_nets(alloc, work, scratch, items, shares, steps),
-        WorkKind::Pins => share_pins(parts, good, block, rows, suspects, items, shares),
-        WorkKind::Bridges => share_bridges(alloc, work, scratch, items, shares, steps),
-        WorkKind::Cells => share_cells(
-            alloc, parts, good, scratch, block, rows, suspects, items, shares, steps,
-        ),
-    }
-}
-
-/// `piece` with a ledger for its steps of simulation.
-fn piece_in<L: Ledger>(
-    alloc: Global,
-    work: &BlockWork<'_>,
-    kind: WorkKind,
-    items: &[u32],
-    blank: Blank,
-) -> Result<Rows<Share>, NoMemory>
-    requires good { BelongsTo work.now.parts.now work.now.good.now }
-    requires suspects { All (IsSuspectOf work.now.parts.now) work.now.suspects.now }
-    requires owners { AreOwners work.now.parts.now work.now.suspects.now work.now.owners.now }
-    requires items { All (IsItem work.now.parts.now work.now.suspects.now kind) items.now }
-    requires name { blank.name ≡ L.name }
-    requires parts { blank.parts ≡ L.parts }
-    requires some { 0 < blank.parts }
-    ensures { IfOk result (Shares work.now.parts.now work.now.rows.now work.now.block work.now.suspects.now (IsServed work.now.parts.now work.now.suspects.now kind items.now) []) }
-{
-    let mut steps = Steps::<L>::open(blank);
-    let mut scratch = Scratch::make(alloc, work.good)?;
-    let mut shares = Rows::new(alloc);
-    share_items(
-        alloc,
-        work,
-        kind,
-        items,
-        &mut scratch,
-        &mut shares,
-        &mut steps,
-    )?;
-    Ok(shares)
-}
-
-/// The shares of one piece of the work, with a scratch of its own.
-fn piece(
-    alloc: Global,
-    work: &BlockWork<'_>,
-    kind: WorkKind,
-    items: &[u32],
-) -> Result<Rows<Share>, NoMemory>
-    requires good { BelongsTo work.now.parts.now work.now.good.now }
-    requires suspects { All (IsSuspectOf work.now.parts.now) work.now.suspects.now }
-    requires owners { AreOwners work.now.parts.now work.now.suspects.now work.now.owners.now }
-    requires items { All (IsItem work.now.parts.now work.now.suspects.now kind) items.now }
-    ensures { IfOk result (Shares work.now.parts.now work.now.rows.now work.now.block work.now.suspects.now (IsServed work.now.parts.now work.now.suspects.now kind items.now) []) }
-{
-    piece_in::<Brand>(alloc, work, kind, items, Blank::new(1))
-}
 
 /// How few items are worth a thread of their own.
 fn least_size(kind: WorkKind) -> usize
@@ -130,9 +41,7 @@ fn pieces<R: Threads + Sync>(
     items: &[u32],
     size: usize,
 ) -> Result<Vec<Rows<Share>>, NoMemory>
-    requires good { BelongsTo work.now.parts.now work.now.good.now }
-    requires suspects { All (IsSuspectOf work.now.parts.now) work.now.suspects.now }
-    requires owners { AreOwners work.now.parts.now work.now.suspects.now work.now.owners.now }
+    requires work { IsSound work.now }
     requires items { All (IsItem work.now.parts.now work.now.suspects.now kind) items.now }
     requires size { 0 < size }
     ensures { IfOk result (λ all. Shares work.now.parts.now work.now.rows.now work.now.block work.now.suspects.now (IsServed work.now.parts.now work.now.suspects.now kind items.now) [] (flat_map (λ shares. shares) all.items)) }
@@ -142,9 +51,9 @@ fn pieces<R: Threads + Sync>(
         .with_min_len(1)
         .map(
             |part: &[u32]| -> Result<Rows<Share>, NoMemory>
-                requires { BelongsTo work.now.parts.now work.now.good.now × All (IsSuspectOf work.now.parts.now) work.now.suspects.now × AreOwners work.now.parts.now work.now.suspects.now work.now.owners.now × All (IsItem work.now.parts.now work.now.suspects.now kind) part.now }
+                requires { IsSound work.now × All (IsItem work.now.parts.now work.now.suspects.now kind) part.now }
                 ensures { IfOk result (Shares work.entry.now.parts.now work.entry.now.rows.now work.entry.now.block work.entry.now.suspects.now (IsServed work.entry.now.parts.now work.entry.now.suspects.now kind part.entry.now) []) }
-            { piece(alloc, work, kind, part) },
+            { piece_shares(alloc, work, kind, part) },
         )
         .collect::<Result<Vec<_>, NoMemory>>(rt, alloc);
     match all {
@@ -181,9 +90,7 @@ pub(crate) fn share_in_pieces<R: Threads + Sync>(
     items: &[u32],
     shares: &mut Rows<Share>,
 ) -> Result<(), NoMemory>
-    requires good { BelongsTo work.now.parts.now work.now.good.now }
-    requires suspects { All (IsSuspectOf work.now.parts.now) work.now.suspects.now }
-    requires owners { AreOwners work.now.parts.now work.now.suspects.now work.now.owners.now }
+    requires work { IsSound work.now }
     requires items { All (IsItem work.now.parts.now work.now.suspects.now kind) items.now }
     ensures { OnOk result (Shares work.now.parts.now work.now.rows.now work.now.block work.now.suspects.now (IsServed work.now.parts.now work.now.suspects.now kind items.now) shares.old shares.new) }
 {

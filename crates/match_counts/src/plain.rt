@@ -2,7 +2,6 @@ ghost use Rattle.std.specs.Prelude.{◌≡◌, ◌≤◌, ◌^◌, ◌++◌, ◌
 ghost use Rattle.scan_model.specs.declared.logs.LogFacts.{LogFacts};
 ghost use Rattle.scan_model.specs.ScanTest.{points_of, HasSite};
 ghost use Rattle.scan_model.specs.Response.{expected_rows};
-ghost use Rattle.scan_model.specs.Universe.{universe};
 ghost use Rattle.scan_model.specs.MatchCounts.{counts_of, candidates, is_candidate};
 ghost use Rattle.log_join.specs.Joining.{StandsFor, IsJoinedOf};
 

@@ -1,11 +1,18 @@
 ghost use Rattle.std.specs.Prelude.{◌≡◌, ℕ, ◌+◌, ◌^◌, ◌⊎◌, ◌<◌, length, All, slice_index_or, IfOk};
-ghost use Rattle.match_counts.specs.declared.share.BlockCount.{BlockCount};
-ghost use Rattle.match_counts.specs.Shares.{AreRight, HasShare, no_share};
+ghost use Rattle.fault_effects.specs.declared.share.BlockCount.{BlockCount};
+ghost use Rattle.fault_effects.specs.Shares.{AreRight, HasShare, no_share};
 ghost use Rattle.match_counts.specs.Totals as sums;
 
-use crate::share::{BlockCount, Share, Total};
+use fault_effects::{BlockCount, Share};
 use scan_model::NoMemory;
 use std::alloc::Global;
+
+/// What a fault explains and mispredicts in the blocks so far.
+#[derive(Clone, Copy, Debug)]
+pub(crate) struct Total {
+    pub tfsf: u64,
+    pub tpsf: u64,
+}
 
 /// Puts shares of one block into a table of its counts by suspect.
 fn set_shares(table: &mut [BlockCount], shares: &[Share])

@@ -1,12 +1,12 @@
 use Rattle.std.proofs.Common.{◌≡◌, ℕ, ◌+◌, ◌<◌, List, [], length, get_or, ap, subst, ◌∙◌, inl, inr, arith}
 use Rattle.std.proofs.lemmas.Bool.{cases_eq}
 use Rattle.scan_model.specs.Netlist.{Netlist}
-use Rattle.match_counts.specs.declared.share.Share.{Share}
-use Rattle.match_counts.specs.declared.work_kind.WorkKind.TheVariants.{Nets, Pins, Bridges}
-use Rattle.match_counts.specs.Owners.{owner, Shares, suspect_at}
-use Rattle.match_counts.specs.Pieces.{IsServed}
-use Rattle.match_counts.proofs.ShareLists.{shares_join}
-use Rattle.match_counts.proofs.OwnerGroups.{owned_in}
+use Rattle.fault_effects.specs.declared.share.Share.{Share}
+use Rattle.fault_effects.specs.declared.work_kind.WorkKind.TheVariants.{Nets, Pins, Bridges}
+use Rattle.fault_effects.specs.Owners.{owner, Shares, suspect_at}
+use Rattle.fault_effects.specs.Pieces.{IsServed}
+use Rattle.fault_effects.proofs.ShareLists.{shares_join}
+use Rattle.fault_effects.proofs.OwnerGroups.{owned_in}
 use Rattle.match_counts.proofs.block_piece.logic_shares.Goals as goal
 
 pub returns : goal.returns
@@ -28,11 +28,11 @@ returns g c =
     let bridges_are : bridges ≡ get_or groups (N + 1) [] = c.group-bridges.ensures ∙ ap (λ (n : ℕ). get_or groups (n + 1) []) count in
     let with_pins = shares_join t rows b suspects (IsServed t suspects Nets c.args.nets.now) (IsServed t suspects Pins pins) (λ i. owner_at i < N + 1) none c.share_in_pieces.new.shares c.share_in_pieces-2.new.shares c.in_ok-share_in_pieces.ensures c.in_ok-share_in_pieces-2.ensures
     (λ i lt below. elim (cases_eq (owner_at i) N) [
-      | inl same ↦ inr (owned_in t suspects groups N pins c.requires.owners pins_are i lt same)
+      | inl same ↦ inr (owned_in t suspects groups N pins c.requires.work.owners pins_are i lt same)
       | inr other ↦ inl (c.requires.all i lt (omega (arith, below, other)))
     ]) in
     subst Part c.new-shares.ensures (shares_join t rows b suspects (λ i. owner_at i < N + 1) (IsServed t suspects Bridges bridges) (λ i. owner_at i < N + 2) none c.share_in_pieces-2.new.shares c.share_in_pieces-3.new.shares with_pins c.in_ok-share_in_pieces-3.ensures
     (λ i lt below. elim (cases_eq (owner_at i) (N + 1)) [
-      | inl same ↦ inr (owned_in t suspects groups (N + 1) bridges c.requires.owners bridges_are i lt same)
+      | inl same ↦ inr (owned_in t suspects groups (N + 1) bridges c.requires.work.owners bridges_are i lt same)
       | inr other ↦ inl (omega (arith, below, other))
     ]))

@@ -2,13 +2,13 @@ use Rattle.std.proofs.Common.{◌≡◌, ℕ, ◌+◌, ◌*◌, ◌^◌, ◌<◌
 use Rattle.std.specs.Prelude.{Contains}
 use Rattle.std.proofs.lemmas.List.{take_at}
 use Rattle.std.proofs.lemmas.List.Elements.{All-nil}
-use Rattle.match_counts.specs.declared.point_row.PointRow.{PointRow}
-use Rattle.match_counts.specs.declared.share.Share.{Share}
-use Rattle.match_counts.specs.declared.side.Side.TheVariants.{Failing}
-use Rattle.match_counts.specs.PointRows.{counts_on, ArePointRows}
-use Rattle.match_counts.specs.Shares.{hits_in}
-use Rattle.match_counts.specs.Owners.{Shares, owner, suspect_at, share_of}
-use Rattle.match_counts.proofs.Sums.{sum_next}
+use Rattle.fault_effects.specs.declared.point_row.PointRow.{PointRow}
+use Rattle.fault_effects.specs.declared.share.Share.{Share}
+use Rattle.fault_effects.specs.declared.side.Side.TheVariants.{Failing}
+use Rattle.fault_effects.specs.PointRows.{counts_on, ArePointRows}
+use Rattle.fault_effects.specs.Shares.{hits_in}
+use Rattle.fault_effects.specs.Owners.{Shares, owner, suspect_at, share_of}
+use Rattle.fault_effects.proofs.Sums.{sum_next}
 use Rattle.match_counts.proofs.BlockTotals.{sums_next, sum_by_block, failing_is, by_blocks, sums_known, AreTotalsAtMost-le}
 use Rattle.match_counts.proofs.counting.count_blocks.Goals as goal
 

@@ -3,9 +3,9 @@ use Rattle.std.specs.Prelude.{sum_by}
 use Rattle.std.specs.List.{range_with_len}
 use Rattle.scan_model.specs.declared.logs.LogFacts.{LogFacts}
 use Rattle.log_join.specs.Joining.{StandsFor}
-use Rattle.match_counts.specs.declared.side.Side.TheVariants.{Failing}
-use Rattle.match_counts.specs.PointRows.{counts_on}
-use Rattle.match_counts.specs.Shares.{hits_in}
+use Rattle.fault_effects.specs.declared.side.Side.TheVariants.{Failing}
+use Rattle.fault_effects.specs.PointRows.{counts_on}
+use Rattle.fault_effects.specs.Shares.{hits_in}
 use Rattle.match_counts.specs.Totals.{AreSums, AreTotalsAtMost, IsBlank}
 use Rattle.match_counts.proofs.counting.count_blocks.Given as goal
 

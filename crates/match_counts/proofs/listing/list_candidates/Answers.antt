@@ -1,7 +1,7 @@
 use Rattle.std.proofs.Common.{List, ap, ◌∙◌}
 use Rattle.std.proofs.lemmas.List.{take_all}
-use Rattle.match_counts.specs.declared.suspect.Suspect.{Suspect}
-use Rattle.match_counts.specs.Owners.{places_of}
+use Rattle.fault_effects.specs.declared.suspect.Suspect.{Suspect}
+use Rattle.fault_effects.specs.Owners.{places_of}
 use Rattle.match_counts.specs.Totals.{candidates_at}
 use Rattle.match_counts.proofs.CandidateRows.{rows_more}
 use Rattle.match_counts.proofs.listing.list_candidates.Goals as goal

@@ -2,7 +2,7 @@ use Rattle.std.proofs.Common.{◌≡◌, List, take}
 use Rattle.std.specs.Prelude.{All}
 use Rattle.scan_model.specs.declared.logs.LogFacts.{LogFacts}
 use Rattle.scan_model.specs.ScanTest.{ScanTest}
-use Rattle.match_counts.specs.Owners.{IsSuspectOf, places_of}
+use Rattle.fault_effects.specs.Owners.{IsSuspectOf, places_of}
 use Rattle.match_counts.specs.Totals.{AreTotals, candidates_at}
 use Rattle.match_counts.proofs.listing.list_candidates.Given as goal
 

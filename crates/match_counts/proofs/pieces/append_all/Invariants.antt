@@ -1,6 +1,6 @@
 use Rattle.std.proofs.Common.{◌≡◌, ◌++◌, List, take}
 use Rattle.std.specs.List.{flat_map}
-use Rattle.match_counts.specs.declared.share.Share.{Share}
+use Rattle.fault_effects.specs.declared.share.Share.{Share}
 use Rattle.match_counts.proofs.pieces.append_all.Given as goal
 
 abbrev pub invariant-loop-piece : goal.invariant-loop-piece

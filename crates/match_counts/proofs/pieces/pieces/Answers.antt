@@ -4,12 +4,12 @@ use Rattle.std.specs.List.{flat_map, AllZip}
 use Rattle.rayon.specs.Lists.{chunks_of}
 use Rattle.rayon.proofs.ToStd.{slice-AllZip, chunks_of-concat}
 use Rattle.scan_model.specs.declared.rows.NoMemory.{NoMemory}
-use Rattle.match_counts.specs.declared.share.Share.{Share}
-use Rattle.match_counts.specs.declared.block_work.BlockWork.{BlockWork}
-use Rattle.match_counts.specs.declared.work_kind.WorkKind.{WorkKind}
-use Rattle.match_counts.specs.Owners.{Shares}
-use Rattle.match_counts.specs.Pieces.{IsItem, IsServed}
-use Rattle.match_counts.proofs.PieceShares.{each_piece, pieces_joined}
+use Rattle.fault_effects.specs.declared.share.Share.{Share}
+use Rattle.fault_effects.specs.declared.block_work.BlockWork.{BlockWork}
+use Rattle.fault_effects.specs.declared.work_kind.WorkKind.{WorkKind}
+use Rattle.fault_effects.specs.Owners.{Shares}
+use Rattle.fault_effects.specs.Pieces.{IsItem, IsServed}
+use Rattle.fault_effects.proofs.PieceShares.{each_piece, pieces_joined}
 use Rattle.match_counts.proofs.pieces.pieces.Goals as goal
 
 pub collect-all-requires-clause-ready : goal.collect-all-requires-clause-ready
@@ -21,7 +21,7 @@ collect-all-requires-clause-ready g c κs within =
     let chunks = chunks_of c.args.size c.args.items.now in
     let Items : ℕ → Type 0 = IsItem c.args.work.now.parts.now c.args.work.now.suspects.now c.args.kind in
     let each : All (All Items) chunks = each_piece Items chunks (subst (All Items) (sym (chunks_of-concat c.args.size c.args.items.now c.requires.size)) c.requires.items) in
-    rw (c.map.ensures.f, size, slice, some) (λ k d lt x is. ((c.requires.good, c.requires.suspects, c.requires.owners, (let Of : List ℕ → Type 0 = All Items in subst Of (sym is) (each k d lt))), λ y p. tt))
+    rw (c.map.ensures.f, size, slice, some) (λ k d lt x is. ((c.requires.work.good, c.requires.work.suspects, c.requires.work.owners, (let Of : List ℕ → Type 0 = All Items in subst Of (sym is) (each k d lt))), λ y p. tt))
 
 pub returns-in-Ok-Ok : goal.returns-in-Ok-Ok
 returns-in-Ok-Ok g c =

@@ -1,10 +1,10 @@
 use Rattle.std.proofs.Common.{List, [], sym, subst}
 use Rattle.std.specs.List.{flat_map}
 use Rattle.std.proofs.lemmas.Result.{on_ok_weaker}
-use Rattle.match_counts.specs.declared.share.Share.{Share}
-use Rattle.match_counts.specs.Owners.{Shares}
-use Rattle.match_counts.specs.Pieces.{IsServed}
-use Rattle.match_counts.proofs.PieceShares.{shares_behind}
+use Rattle.fault_effects.specs.declared.share.Share.{Share}
+use Rattle.fault_effects.specs.Owners.{Shares}
+use Rattle.fault_effects.specs.Pieces.{IsServed}
+use Rattle.fault_effects.proofs.PieceShares.{shares_behind}
 use Rattle.match_counts.proofs.pieces.share_in_pieces.Goals as goal
 
 pub returns : goal.returns

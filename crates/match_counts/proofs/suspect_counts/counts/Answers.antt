@@ -5,7 +5,7 @@ use Rattle.scan_model.specs.declared.logs.Scored.{Scored}
 use Rattle.scan_model.specs.MatchCounts.{counts_of}
 use Rattle.scan_model.specs.Suspect.{suspects}
 use Rattle.scan_model.specs.Universe.{universe}
-use Rattle.match_counts.specs.Owners.{places_of}
+use Rattle.fault_effects.specs.Owners.{places_of}
 use Rattle.match_counts.specs.Totals.{candidates_at}
 use Rattle.match_counts.proofs.BlockTotals.{suspects_few}
 use Rattle.match_counts.proofs.CandidateRows.{suspects_below, suspects_candidates}

@@ -1,5 +1,5 @@
-use Rattle.match_counts.specs.Owners.{suspect_at, no_suspect}
-use Rattle.match_counts.proofs.Owned.{owner_below}
+use Rattle.fault_effects.specs.Owners.{suspect_at, no_suspect}
+use Rattle.fault_effects.proofs.Owned.{owner_below}
 use Rattle.match_counts.proofs.suspect_counts.counts_over.Goals as goal
 
 pub returns : goal.returns

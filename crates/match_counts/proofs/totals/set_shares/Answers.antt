@@ -1,6 +1,6 @@
 use Rattle.std.proofs.Common.{◌<◌, length, get_or, inl, inr, arith}
 use Rattle.std.proofs.lemmas.Bool.{cases_eq}
-use Rattle.match_counts.specs.Shares.{no_share}
+use Rattle.fault_effects.specs.Shares.{no_share}
 use Rattle.match_counts.proofs.BlockTables.{set_keeps, set_here, set_elsewhere}
 use Rattle.match_counts.proofs.totals.set_shares.Goals as goal
 

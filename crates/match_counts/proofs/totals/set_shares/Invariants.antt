@@ -1,6 +1,6 @@
 use Rattle.std.proofs.Common.{◌≡◌, ◌⊎◌, ℕ, ◌<◌, get_or}
-use Rattle.match_counts.specs.declared.share.BlockCount.{BlockCount}
-use Rattle.match_counts.specs.Shares.{AreRight, HasShareBefore, no_share}
+use Rattle.fault_effects.specs.declared.share.BlockCount.{BlockCount}
+use Rattle.fault_effects.specs.Shares.{AreRight, HasShareBefore, no_share}
 use Rattle.match_counts.specs.Totals.{count_at}
 use Rattle.match_counts.proofs.totals.set_shares.Given as goal
 

@@ -1,0 +1,111 @@
+-- A fault that one net owns touches that net alone; one that a pin owns touches none.
+use Rattle.std.proofs.Common.{◌≡◌, ℕ, ◌+◌, ◌<◌, ◌≤◌, Bool, true, false, cond, [], ◌∷◌, length, refl, sym, ap, ◌∙◌, inl, inr, arith}
+use Rattle.std.proofs.lemmas.Bool.{cases_Bool, eq-eqb, and_left}
+use Rattle.scan_model.specs.declared.circuit.PinPlace.{PinPlace}
+use Rattle.scan_model.specs.declared.circuit.PinPlace.TheVariants as place
+use Rattle.scan_model.specs.declared.circuit.Driver.{Driver}
+use Rattle.scan_model.specs.declared.circuit.Driver.TheVariants.{Input, Flop, Gate}
+use Rattle.scan_model.specs.declared.parts.Point.{Point}
+use Rattle.scan_model.specs.declared.fault.Stuck.{Stuck}
+use Rattle.scan_model.specs.declared.fault.Fault.{Fault}
+use Rattle.scan_model.specs.declared.fault.Fault.TheVariants as fault
+use Rattle.scan_model.specs.Values.{are_opposite}
+use Rattle.scan_model.specs.Netlist.{pin_at, driver_of, is_gate, is_gate_driver, IsPlacedAt}
+use Rattle.scan_model.specs.declared.circuit.GateKind.{GateKind}
+use Rattle.scan_model.specs.ScanTest.{ScanTest, HasSite, IsScanTest, point_at}
+use Rattle.scan_model.specs.Faults.{stuck_value}
+use Rattle.scan_model.specs.NetValue.{good_value}
+use Rattle.scan_model.specs.Masks.{mask, straight, touched_nets, place_nets, place_is_point, operand_is_point, IsLogic}
+use Rattle.fault_effects.specs.Owners.{owner, pin_owner}
+
+-- the net owns the pin: it is the gate that reads it
+pub record IsGatePin (t : ScanTest) (x : PinPlace) (n : ℕ) : Type 0 where
+  pub index : ℕ
+  pub at : x ≡ place.Operand n index
+  pub gate : is_gate t.netlist n ≡ true
+
+pub gate_pin : (t : ScanTest) (x : PinPlace) (n : ℕ) → pin_owner t x ≡ n → n < length t.netlist.nets → IsGatePin t x n
+gate_pin t (place.Output k) n is lt = absurd (omega arith)
+gate_pin t (place.Operand m i) n is lt = elim (cases_Bool (is_gate t.netlist m)) [
+  | inl gate ↦
+      let same : m ≡ n = ap (λ (g : Bool). cond g m (length t.netlist.nets)) (sym gate) ∙ is in
+      record { index = i; at = ap (λ (x : ℕ). place.Operand x i) same; gate = ap (is_gate t.netlist) (sym same) ∙ gate }
+  | inr other ↦ absurd (let past : length t.netlist.nets ≡ n = ap (λ (g : Bool). cond g m (length t.netlist.nets)) (sym other) ∙ is in omega arith)
+]
+
+no_point : (t : ScanTest) (d : Driver) (n : ℕ) (point : Point) → is_gate_driver d ≡ true → operand_is_point t d n point ≡ false
+no_point t Input n point gate = absurd cc
+no_point t Flop n point gate = absurd cc
+no_point t (Gate kind) n point gate = refl
+
+-- a fault that a net owns
+pub record IsOfNet (t : ScanTest) (f : Fault) (n : ℕ) : Type 0 where
+  pub logic : IsLogic f
+  pub touches : touched_nets t f ≡ n ∷ []
+  pub silent : (w k : ℕ) → straight t f w k ≡ false
+
+pub of_net : (t : ScanTest) (f : Fault) (n : ℕ) → owner t f ≡ n → n < length t.netlist.nets → IsOfNet t f n
+of_net t (fault.Stem m v) n is lt = record { logic = tt; touches = ap (λ (x : ℕ). x ∷ []) is; silent = λ w k. refl }
+of_net t (fault.Bridge a b kind) n is lt = absurd (omega arith)
+of_net t (fault.Cell h c kind) n is lt = absurd (omega arith)
+of_net t (fault.Branch p v) n is lt =
+    let x = (pin_at t.netlist p).place in
+    let pin = gate_pin t x n is lt in
+    record {
+      logic = tt;
+      touches = ap (place_nets t) pin.at ∙ ap (λ (g : Bool). cond g (n ∷ []) []) pin.gate;
+      silent = λ w k. and_left (place_is_point t x (point_at t k)) (are_opposite (good_value t w (pin_at t.netlist p).net) (stuck_value v))
+          (ap (λ (y : PinPlace). place_is_point t y (point_at t k)) pin.at ∙ no_point t (driver_of t.netlist n) n (point_at t k) pin.gate);
+    }
+
+pub stem_mask : (t : ScanTest) (m n : ℕ) (v : Stuck) (w : ℕ) → m ≡ n → are_opposite (good_value t w n) (stuck_value v) ≡ mask t (fault.Stem m v) w n
+stem_mask t m n v w is = rw (is, eq-eqb n n refl) refl
+
+pub gate_kind : (t : ScanTest) (n : ℕ) → is_gate t.netlist n ≡ true → (kind : GateKind) × (driver_of t.netlist n ≡ Gate kind)
+gate_kind t n gate = of (driver_of t.netlist n) refl gate
+  where
+    of : (d : Driver) → driver_of t.netlist n ≡ d → is_gate_driver (driver_of t.netlist n) ≡ true → (kind : GateKind) × (driver_of t.netlist n ≡ Gate kind)
+    of Input is gate = absurd (let e : false ≡ true = ap is_gate_driver (sym is) ∙ gate in cc)
+    of Flop is gate = absurd (let e : false ≡ true = ap is_gate_driver (sym is) ∙ gate in cc)
+    of (Gate kind) is gate = (kind, is)
+
+-- what a pin owns is a gate of the circuit, or past the nets
+pin_owner-at_most : (t : ScanTest) (p : ℕ) → IsScanTest t → p < length t.netlist.pins → pin_owner t (pin_at t.netlist p).place ≤ length t.netlist.nets
+pin_owner-at_most t p sound lt = of (pin_at t.netlist p).place (sound.circuit.netlist.pin_places p lt)
+  where
+    of : (x : PinPlace) → IsPlacedAt t.netlist p x → pin_owner t x ≤ length t.netlist.nets
+    of (place.Output k) placed = omega arith
+    of (place.Operand n i) placed = elim (cases_Bool (is_gate t.netlist n)) [
+      | inl gate ↦ rw gate (omega (arith, placed.0))
+      | inr other ↦ rw other (omega arith)
+    ]
+
+-- a pin that no net owns touches no net
+pub straight_pin : (t : ScanTest) (p : ℕ) (v : Stuck) → IsScanTest t → p < length t.netlist.pins → pin_owner t (pin_at t.netlist p).place ≡ length t.netlist.nets → touched_nets t (fault.Branch p v) ≡ []
+straight_pin t p v sound lt is = of (pin_at t.netlist p).place (sound.circuit.netlist.pin_places p lt) is
+  where
+    of : (x : PinPlace) → IsPlacedAt t.netlist p x → pin_owner t x ≡ length t.netlist.nets → place_nets t x ≡ []
+    of (place.Output k) placed is = refl
+    of (place.Operand n i) placed is = elim (cases_Bool (is_gate t.netlist n)) [
+      | inl gate ↦ absurd (let same : n ≡ length t.netlist.nets = ap (λ (g : Bool). cond g n (length t.netlist.nets)) (sym gate) ∙ is in omega (arith, placed.0))
+      | inr other ↦ ap (λ (g : Bool). cond g (n ∷ []) []) other
+    ]
+
+abbrev pub IsBridgeOrCell : Fault → Type 0
+IsBridgeOrCell (fault.Stem n v) = ⊥
+IsBridgeOrCell (fault.Branch p v) = ⊥
+IsBridgeOrCell (fault.Bridge a b kind) = Unit {0}
+IsBridgeOrCell (fault.Cell h c kind) = Unit {0}
+
+-- what owns itself past the pins
+pub not_past : (t : ScanTest) (f : Fault) (k : ℕ) → IsScanTest t → HasSite t f → owner t f ≡ length t.netlist.nets + k → 0 < k → IsBridgeOrCell f
+not_past t (fault.Stem n v) k sound site is some = absurd (omega arith)
+not_past t (fault.Branch p v) k sound site is some = absurd (omega (arith, pin_owner-at_most t p sound site))
+not_past t (fault.Bridge a b kind) k sound site is some = tt
+not_past t (fault.Cell h c kind) k sound site is some = tt
+
+pub owner_below : (t : ScanTest) (f : Fault) → IsScanTest t → HasSite t f → owner t f < length t.netlist.nets + 3
+owner_below t (fault.Stem n v) sound site = omega arith
+owner_below t (fault.Branch p v) sound site = omega (arith, pin_owner-at_most t p sound site)
+owner_below t (fault.Bridge a b kind) sound site = omega arith
+owner_below t (fault.Cell h c kind) sound site = omega arith

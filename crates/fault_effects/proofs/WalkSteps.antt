@@ -1,0 +1,192 @@
+-- One step of a walk along a chain: what a point that isn't noted again shows.
+use Rattle.std.proofs.Common.{◌≡◌, ◌⊎◌, ℕ, ◌+◌, ◌<◌, Bool, true, false, not, eqb, ltb, ◌&&◌, ◌||◌, List, length, Option, Some, None, refl, sym, ap, subst, ◌∙◌, inl, inr, arith}
+use Rattle.std.proofs.lemmas.Bool.{cases_Bool, cases_eq, eq-eqb, ne_eqb, eqb-true, eqb-false, ltb-true, lt-ltb, or_parts}
+use Rattle.scan_model.specs.declared.parts.Point.{Point}
+use Rattle.scan_model.specs.declared.parts.Point.TheVariants.{Output, Cell}
+use Rattle.scan_model.specs.declared.parts.PatternKind.TheVariants.{Capture, Shift}
+use Rattle.scan_model.specs.declared.fault.CellKind.{CellKind}
+use Rattle.scan_model.specs.declared.fault.Fault.{Fault}
+use Rattle.scan_model.specs.declared.fault.Fault.TheVariants as fault
+use Rattle.scan_model.specs.Values.{are_opposite}
+use Rattle.scan_model.specs.ScanTest.{ScanTest, IsScanTest, IsPoint, chain_at, pattern_at, points_of, point_at}
+use Rattle.scan_model.specs.Coverage.{bit_of}
+use Rattle.scan_model.specs.Loads.{cell}
+use Rattle.scan_model.specs.NetValue.{net_value}
+use Rattle.scan_model.specs.Response.{predicts_fail, observed}
+use Rattle.scan_model.specs.Suspect.{observed_net}
+use Rattle.scan_model.specs.ChainWalk.{noted}
+use Rattle.scan_model.proofs.counting.ChainSteps.{step_stays, shift_outside, shift_stays}
+use Rattle.scan_model.proofs.counting.Shown.{point_at-IsPoint, predicts_fail-is}
+use Rattle.lane_rows.specs.Planes.{Planes, held}
+use Rattle.lane_rows.specs.Lanes.{lane}
+use Rattle.lane_rows.specs.GoodRows.{pattern_of, same_kind}
+use Rattle.lane_rows.proofs.LaneCounts.{same_lanes}
+use Rattle.lane_rows.specs.Places.{has_place, room}
+use Rattle.packed_sim.specs.declared.good.PackedGood.{PackedGood}
+use Rattle.packed_sim.specs.declared.scratch.Scratch.{Scratch}
+use Rattle.packed_sim.specs.Spread.{HasMoved, lane_now}
+use Rattle.packed_sim.specs.Belongs.{BelongsTo, block_at, captures, observed_at}
+use Rattle.packed_sim.specs.Loaded.{IsLoaded}
+use Rattle.packed_sim.proofs.Belonging.{observed_live, observed_in_range}
+use Rattle.packed_sim.proofs.CellPlaces.{point_of_cell}
+use Rattle.packed_sim.proofs.Loading.{load_len}
+use Rattle.packed_sim.proofs.FaultBits.{kinds}
+use Rattle.fault_effects.specs.declared.point_row.PointRow.{PointRow}
+use Rattle.fault_effects.specs.declared.share.BlockCount.{BlockCount}
+use Rattle.fault_effects.specs.declared.side.Side.{Side}
+use Rattle.fault_effects.specs.Flips.{count_on, row_on, point_row_at}
+use Rattle.fault_effects.specs.Cells.{fails_in, note_at}
+use Rattle.fault_effects.specs.Walks.{IsFresh, AreFreshAt, IsNetDone, IsRenoted}
+
+-- what is loaded stays loaded without the marks
+pub unmarked_loaded : (t : ScanTest) (g : PackedGood) (b h c : ℕ) (K : CellKind) (old new : Scratch) → new.overlay ≡ old.overlay → new.waiting ≡ old.waiting → room new.moved ≡ room old.moved
+    → IsLoaded t g b h c K old → IsLoaded t g b h c K new
+unmarked_loaded t g b h c K old new rows waiting rooms loaded = record {
+  inside = record {
+    own = ap length rows ∙ loaded.inside.own;
+    moved_room = omega (arith, rooms, loaded.inside.moved_room);
+    empty = λ k. ap (λ (w : List ℕ). has_place w k) waiting ∙ loaded.inside.empty k;
+    room = omega (arith, ap room waiting, loaded.inside.room);
+  };
+  cells = λ i j lt lane_lt w_lt. ap (λ (o : List (Option Planes)). lane_now o (block_at g b).values j (cell t h i)) rows ∙ loaded.cells i j lt lane_lt w_lt;
+  nets = λ live covers up n j n_lt matters lane_lt captured. ap (λ (o : List (Option Planes)). lane_now o (block_at g b).values j n) rows ∙ loaded.nets live covers up n j n_lt matters lane_lt captured;
+}
+
+module _ (t : ScanTest) (sound : IsScanTest t) (g : PackedGood) (belongs : BelongsTo t g) (b : ℕ) (block_lt : b < length g.rows) (h : ℕ) (h_lt : h < length t.chains) (K : CellKind) (c : ℕ) where
+  -- the net leads to no point, or is marked
+  abbrev changed : Scratch → ℕ → Bool
+  changed s n = not (belongs.wired.live n) || has_place s.moved n
+
+  abbrev faulty : ℕ → Fault
+  faulty i = fault.Cell h i K
+
+  not_not : (x : Bool) → not x ≡ false → x ≡ true
+  not_not true e = refl
+  not_not false e = absurd cc
+
+  live_changed : (x y : Bool) → x ≡ true → (not x || y) ≡ true → y ≡ true
+  live_changed true y is e = e
+  live_changed false y is e = absurd cc
+
+  module _ (old new : Scratch) (was : IsLoaded t g b h (c + 1) K old) (is : IsLoaded t g b h c K new) (moved : HasMoved (block_at g b).values old new) where
+    same_net : (j : ℕ) → j < 512 → captures t (pattern_of b j) ≡ true → (n : ℕ) → n < length t.netlist.nets → changed new n ≡ false
+        → net_value t (Some (faulty c)) (pattern_of b j) n ≡ net_value t (Some (faulty (c + 1))) (pattern_of b j) n
+    same_net j lt captured n n_lt same =
+        let parts = or_parts (not (belongs.wired.live n)) (has_place new.moved n) same in
+        let live = not_not (belongs.wired.live n) parts.0 in
+        sym (is.nets belongs.wired.live belongs.wired.covers belongs.wired.up n j n_lt live lt captured)
+        ∙ ap (λ (p : Planes). held p j) (moved.others n parts.1)
+        ∙ was.nets belongs.wired.live belongs.wired.covers belongs.wired.up n j n_lt live lt captured
+
+    stays_in_shift : (j : ℕ) → j < 512 → pattern_of b j < length t.patterns → (pattern_at t (pattern_of b j)).kind ≡ Shift → (p : Point) → IsPoint t p → noted t h c (changed new) p ≡ false
+        → observed t (Some (faulty c)) (pattern_of b j) p ≡ observed t (Some (faulty (c + 1))) (pattern_of b j) p
+    stays_in_shift j lt w_lt shifts (Output k) is_point miss =
+        shift_outside t sound (pattern_of b j) h K c (Output k) shifts tt ∙ sym (shift_outside t sound (pattern_of b j) h K (c + 1) (Output k) shifts tt)
+    stays_in_shift j lt w_lt shifts (Cell m i) is_point miss = elim (cases_eq m h) [
+      | inr other ↦ shift_outside t sound (pattern_of b j) h K c (Cell m i) shifts other ∙ sym (shift_outside t sound (pattern_of b j) h K (c + 1) (Cell m i) shifts other)
+      | inl own ↦
+          let w = pattern_of b j in
+          let within : i < length (chain_at t h).cells = omega (arith, ap (λ (x : ℕ). length (chain_at t x).cells) own, is_point.1) in
+          let off : (((eqb i c) || (eqb i (c + 1))) || (changed new (observed_net t (Cell h i)) || (ltb (i + 1) (length (chain_at t h).cells) && changed new (observed_net t (Cell h (i + 1)))))) ≡ false = rw (eq-eqb m h own) at miss in
+          let halves = or_parts (eqb i c || eqb i (c + 1)) (changed new (observed_net t (Cell h i)) || (ltb (i + 1) (length (chain_at t h).cells) && changed new (observed_net t (Cell h (i + 1))))) off in
+          let places = or_parts (eqb i c) (eqb i (c + 1)) halves.0 in
+          ap (λ (x : ℕ). observed t (Some (faulty c)) w (Cell x i)) own
+          ∙ shift_stays t sound w h K c i (omega (arith, load_len t sound g belongs b block_lt h h_lt w w_lt)) shifts (eqb-false i c places.0) (eqb-false i (c + 1) places.1)
+          ∙ ap (λ (x : ℕ). observed t (Some (faulty (c + 1))) w (Cell x i)) (sym own)
+    ]
+
+    stays : (k j : ℕ) → k < length (points_of t) → j < 512 → pattern_of b j < length t.patterns → noted t h c (changed new) (point_at t k) ≡ false
+        → observed t (Some (faulty c)) (pattern_of b j) (point_at t k) ≡ observed t (Some (faulty (c + 1))) (pattern_of b j) (point_at t k)
+    stays k j in_points lt w_lt miss =
+        let w = pattern_of b j in
+        let p = point_at t k in
+        let is_point = point_at-IsPoint t sound k in_points in
+        elim (kinds (pattern_at t w).kind) [
+          | inl capture ↦
+              let captured : captures t w ≡ true = ap (λ (x : Bool). x && same_kind Capture (pattern_at t w).kind) (lt-ltb w (length t.patterns) w_lt) ∙ ap (same_kind Capture) capture in
+              step_stays t sound w h K c (changed new) p is_point capture (same_net j lt captured) miss
+          | inr shift ↦ stays_in_shift j lt w_lt shift p is_point miss
+        ]
+
+    unnoted : (k j : ℕ) → k < length (points_of t) → j < 512 → noted t h c (changed new) (point_at t k) ≡ false → fails_in t b (faulty c) k j ≡ fails_in t b (faulty (c + 1)) k j
+    unnoted k j in_points lt miss =
+        let w = pattern_of b j in
+        let p = point_at t k in
+        elim (cases_Bool (ltb w (length t.patterns))) [
+          | inl there ↦ ap (λ (x : Bool). ltb w (length t.patterns) && x) (
+              predicts_fail-is t sound (faulty c) w k in_points
+              ∙ ap (are_opposite (observed t None w p)) (stays k j in_points lt (ltb-true w (length t.patterns) there) miss)
+              ∙ sym (predicts_fail-is t sound (faulty (c + 1)) w k in_points))
+          | inr gone ↦ ap (λ (x : Bool). x && predicts_fail t (faulty c) (bit_of w k)) gone ∙ sym (ap (λ (x : Bool). x && predicts_fail t (faulty (c + 1)) (bit_of w k)) gone)
+        ]
+
+    same_note : (rows : List PointRow) (side : Side) (k : ℕ) → k < length (points_of t) → noted t h c (changed new) (point_at t k) ≡ false → note_at t rows b (faulty c) side k ≡ note_at t rows b (faulty (c + 1)) side k
+    same_note rows side k in_points miss = same_lanes (λ j. lane (row_on side (point_row_at rows k)) j && fails_in t b (faulty c) k j) (λ j. lane (row_on side (point_row_at rows k)) j && fails_in t b (faulty (c + 1)) k j)
+        (λ j lt. ap (λ (x : Bool). lane (row_on side (point_row_at rows k)) j && x) (unnoted k j in_points lt miss))
+
+    -- a step that notes again the points of what moved, those below, and the two positions, leaves all notes fresh
+    module _ (rows : List PointRow) (before after : List BlockCount) (were : (k : ℕ) → k < length (points_of t) → IsFresh t rows b (faulty (c + 1)) before k) (renoted : IsRenoted t rows b (faulty c) before after)
+        (done : (n : ℕ) → n < length t.netlist.nets → has_place new.moved n ≡ true → IsNetDone t rows b (faulty c) h after n)
+        (here : AreFreshAt t rows b (faulty c) after (observed_net t (Cell h c)))
+        (above : AreFreshAt t rows b (faulty c) after (observed_net t (Cell h (c + 1)))) where
+      done_at : (k : ℕ) → k < length (points_of t) → changed new (observed_at t k) ≡ true → IsNetDone t rows b (faulty c) h after (observed_at t k)
+      done_at k lt is_changed = done (observed_at t k) (observed_in_range t sound g belongs k lt)
+          (live_changed (belongs.wired.live (observed_at t k)) (has_place new.moved (observed_at t k)) (observed_live t sound g belongs k lt) is_changed)
+
+      by_net : (k : ℕ) → k < length (points_of t) → changed new (observed_at t k) ≡ true → IsFresh t rows b (faulty c) after k
+      by_net k lt is_changed = (done_at k lt is_changed).own k lt refl
+
+      -- position i of the chain, by what is true of it
+      own_noted : (k i : ℕ) → k < length (points_of t) → i < length (chain_at t h).cells → point_at t k ≡ Cell h i
+          → (((eqb i c) || (eqb i (c + 1))) || (changed new (observed_net t (Cell h i)) || (ltb (i + 1) (length (chain_at t h).cells) && changed new (observed_net t (Cell h (i + 1)))))) ≡ true
+          → IsFresh t rows b (faulty c) after k
+      own_noted k i lt within at is_noted =
+          let near = eqb i c || eqb i (c + 1) in
+          let own = changed new (observed_net t (Cell h i)) in
+          let upper = ltb (i + 1) (length (chain_at t h).cells) && changed new (observed_net t (Cell h (i + 1))) in
+          let net : (m : ℕ) → i ≡ m → observed_at t k ≡ observed_net t (Cell h m) = λ m e. ap (observed_net t) at ∙ ap (λ (x : ℕ). observed_net t (Cell h x)) e in
+          elim (either near (own || upper) is_noted) [
+            | inl is_near ↦ elim (either (eqb i c) (eqb i (c + 1)) is_near) [
+              | inl e ↦ here k lt (net c (eqb-true i c e))
+              | inr e ↦ above k lt (net (c + 1) (eqb-true i (c + 1) e))
+            ]
+            | inr by_nets ↦ elim (either own upper by_nets) [
+              | inl e ↦ by_net k lt (ap (λ (p : Point). changed new (observed_net t p)) at ∙ e)
+              | inr e ↦
+                  let more : i + 1 < length (chain_at t h).cells = ltb-true (i + 1) (length (chain_at t h).cells) (left (ltb (i + 1) (length (chain_at t h).cells)) (changed new (observed_net t (Cell h (i + 1)))) e) in
+                  let next = point_of_cell t h (i + 1) h_lt more in
+                  let is_changed : changed new (observed_at t next.0) ≡ true = ap (λ (p : Point). changed new (observed_net t p)) next.2 ∙ right (ltb (i + 1) (length (chain_at t h).cells)) (changed new (observed_net t (Cell h (i + 1)))) e in
+                  (done_at next.0 next.1 is_changed).below next.0 i next.1 refl next.2 k lt (net i refl)
+            ]
+          ]
+        where
+          either : (x y : Bool) → (x || y) ≡ true → (x ≡ true) ⊎ (y ≡ true)
+          either true y e = inl refl
+          either false y e = inr e
+
+          left : (x y : Bool) → (x && y) ≡ true → x ≡ true
+          left true y e = refl
+          left false y e = absurd cc
+
+          right : (x y : Bool) → (x && y) ≡ true → y ≡ true
+          right true y e = e
+          right false y e = absurd cc
+
+      noted_fresh : (k : ℕ) (p : Point) → k < length (points_of t) → point_at t k ≡ p → noted t h c (changed new) p ≡ true → IsFresh t rows b (faulty c) after k
+      noted_fresh k (Output o) lt at is_noted = by_net k lt (ap (λ (p : Point). changed new (observed_net t p)) at ∙ is_noted)
+      noted_fresh k (Cell m i) lt at is_noted = elim (cases_eq m h) [
+        | inr other ↦ by_net k lt (ap (λ (p : Point). changed new (observed_net t p)) at ∙ (rw (ne_eqb m h other) at is_noted))
+        | inl own ↦
+            let is_own : point_at t k ≡ Cell h i = at ∙ ap (λ (x : ℕ). Cell x i) own in
+            let is_point : IsPoint t (Cell h i) = subst (IsPoint t) is_own (point_at-IsPoint t sound k lt) in
+            own_noted k i lt is_point.1 is_own (rw (eq-eqb m h own) at is_noted)
+      ]
+
+      pub all_fresh : (k : ℕ) → k < length (points_of t) → IsFresh t rows b (faulty c) after k
+      all_fresh k lt = elim (cases_Bool (noted t h c (changed new) (point_at t k))) [
+        | inl is_noted ↦ noted_fresh k (point_at t k) lt refl is_noted
+        | inr miss ↦ elim (renoted k) [
+          | inl fresh ↦ fresh
+          | inr same ↦ λ side. ap (λ (x : BlockCount). count_on side x) same ∙ were k lt side ∙ sym (same_note rows side k lt miss)
+        ]
+      ]

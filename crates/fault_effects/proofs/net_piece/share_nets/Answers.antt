@@ -1,0 +1,38 @@
+use Rattle.std.proofs.Common.{◌≡◌, ℕ, ◌+◌, List, [], length, get_or, sym, ap, subst, ◌∙◌, inl, inr, arith}
+use Rattle.std.specs.Prelude.{Contains}
+use Rattle.fault_effects.specs.Owners.{owner, IsAmong, Shares, suspect_at}
+use Rattle.fault_effects.proofs.ShareLists.{shares_join, shares_none, among_from, among_more}
+use Rattle.fault_effects.proofs.net_piece.share_nets.Goals as goal
+
+pub loop-net-init : goal.loop-net-init
+loop-net-init g c = record {
+  scratch = c.requires.scratch;
+  region = c.new-region.ensures c.args.work.now.parts.now c.args.work.now.rows.now c.args.work.now.block;
+  shares = shares_none c.args.work.now.parts.now c.args.work.now.rows.now c.args.work.now.block c.args.work.now.suspects.now _ c.args.shares.now (λ i lt among. omega (arith, among.1));
+}
+
+pub loop-net-preserved : goal.loop-net-preserved
+loop-net-preserved g c =
+    let t = c.args.work.now.parts.now in
+    let nets = c.args.nets.now in
+    let k = c.loop-net.net-index in
+    let net = get_or nets k 0 in
+    let group = c.group-group.result.now in
+    let owner_at : ℕ → ℕ = λ i. owner t (suspect_at c.args.work.now.suspects.now i).fault in
+    record {
+      scratch = c.share_net.ensures.scratch;
+      region = c.in_ok-share_net.ensures.region;
+      shares = shares_join t c.args.work.now.rows.now c.args.work.now.block c.args.work.now.suspects.now (λ i. IsAmong nets k (owner_at i)) (IsAmong group (length group)) (λ i. IsAmong nets (k + 1) (owner_at i)) c.args.shares.now c.loop-net.shares c.share_net.new.shares c.loop-net.invariant.shares
+          c.in_ok-share_net.ensures.shares
+          (λ i lt among. elim (among_more nets k (owner_at i) among) [
+            | inl before ↦ inl before
+            | inr same ↦ inr (among_from group i (let In : List ℕ → Type 0 = λ xs. Contains xs i in subst In (ap (λ (x : ℕ). get_or c.args.work.now.owners.now x []) same ∙ sym c.group-group.ensures) (c.requires.work.owners.all i lt)))
+          ]);
+    }
+
+pub returns-clause-shares : goal.returns-clause-shares
+returns-clause-shares g c =
+    let nets = c.args.nets.now in
+    let whole : c.loop-net.net-index ≡ length nets = omega arith in
+    let Upto : ℕ → Type 0 = λ n. Shares c.args.work.now.parts.now c.args.work.now.rows.now c.args.work.now.block c.args.work.now.suspects.now (λ i. IsAmong nets n (owner c.args.work.now.parts.now (suspect_at c.args.work.now.suspects.now i).fault)) c.args.shares.now c.loop-net.shares in
+    subst Upto whole c.loop-net.invariant.shares

@@ -1,0 +1,22 @@
+use Rattle.std.proofs.Common.{◌∙◌, arith}
+use Rattle.fault_effects.proofs.WalkSteps.{unmarked_loaded, all_fresh}
+use Rattle.fault_effects.proofs.walk.step.Goals as goal
+
+pub returns : goal.returns
+returns g c =
+    let t = c.args.work.now.parts.now in
+    let good = c.args.work.now.good.now in
+    let b = c.args.work.now.block in
+    let h = c.args.behind.0 in
+    let pos = c.args.behind.1 in
+    let K = c.args.kind in
+    let was = c.requires.walk in
+    let noted = c.note_step.ensures.step in
+    record {
+      chain = was.chain;
+      pos = omega (arith, was.pos);
+      loaded = unmarked_loaded t good b h pos K c.load_more.new.scratch c.clear_marks.new.scratch c.clear_marks.ensures.rows c.clear_marks.ensures.waiting c.clear_marks.ensures.room c.load_more.ensures.loaded;
+      len = c.note_step.ensures.len ∙ was.len;
+      fresh = all_fresh t c.chains.ensures.fits good c.requires.work.good b c.args.work.now.block_within h was.chain K pos c.args.scratch.now c.load_more.new.scratch was.loaded c.load_more.ensures.loaded c.load_more.ensures.moved
+          c.args.work.now.rows.now c.args.notes.now c.note_step.new.notes was.fresh noted.renoted noted.moved noted.here noted.above;
+    }

@@ -1,0 +1,14 @@
+pub mod Hits
+pub mod BlockSums
+pub mod PointRows
+pub mod Shares
+pub mod Flips
+pub mod Cells
+pub mod Walks
+pub mod Owners
+pub mod Pieces
+pub mod Readers
+pub mod FlipOrder
+pub mod Regions
+pub mod KeptFlips
+pub mod SoundWork

@@ -1,0 +1,41 @@
+//! What faults do in a block of 512 patterns, as far as flips of nets tell it: one flip serves all faults of a net, of a
+//! region of nets the root alone is flipped, two flips serve the faults of a pair, and a chain is walked cell by cell.
+#![tactic(auto)]
+
+mod block_work;
+mod bridge_piece;
+mod cell_piece;
+mod flip;
+mod flip_order;
+mod gather;
+mod kept_flip;
+mod lane_tally;
+mod loaded;
+mod net_piece;
+mod notes;
+mod owners;
+mod piece;
+mod pin_piece;
+mod point_row;
+mod point_rows;
+mod readers;
+mod region;
+mod share;
+mod shown;
+mod side;
+mod suspect;
+mod walk;
+mod work_kind;
+
+pub use block_work::BlockWork;
+pub use flip_order::owned_nets;
+pub use lane_tally::failing_count;
+pub use owners::{owners_of, suspects_at};
+pub use piece::piece_shares;
+pub use point_row::PointRow;
+pub use point_rows::rows_of_points;
+pub use readers::{Reads, reads_of};
+pub use share::{BlockCount, Share};
+pub use side::Side;
+pub use suspect::Suspect;
+pub use work_kind::WorkKind;

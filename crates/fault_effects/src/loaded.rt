@@ -1,0 +1,271 @@
+ghost use Rattle.std.specs.Prelude.{◌≡◌, ◌≢◌, ℕ, ◌+◌, ◌<◌, ◌≤◌, All, MatchOption, length, true, false, OnOk};
+ghost use Rattle.scan_model.specs.declared.fault.Fault.TheVariants as fault;
+ghost use Rattle.scan_model.specs.declared.parts.Point.TheVariants as point;
+ghost use Rattle.scan_model.specs.ScanTest.{IsFlop, IsPoint, points_of, point_at, chain_at};
+ghost use Rattle.scan_model.specs.Netlist.{driver_of, pin_at};
+ghost use Rattle.scan_model.specs.Loads.{cell};
+ghost use Rattle.scan_model.specs.Response.{data_pin};
+ghost use Rattle.scan_model.specs.Suspect.{observed_net};
+ghost use Rattle.lane_rows.specs.Places.{has_place};
+ghost use Rattle.packed_sim.specs.Belongs.{has_own_row};
+ghost use Rattle.packed_sim.specs.Loaded.{IsLoaded};
+ghost use Rattle.fault_effects.specs.declared.side.Side.{Side};
+ghost use Rattle.fault_effects.specs.Flips.{count_on};
+ghost use Rattle.fault_effects.specs.Cells.{note_at};
+ghost use Rattle.fault_effects.specs.Walks.{IsSmall, IsFresh, AreFreshAt, IsNetDone, IsRenoted};
+ghost use Rattle.fault_effects.specs.SoundWork.{IsSound};
+
+use crate::block_work::BlockWork;
+use crate::notes::Notes;
+use crate::share::BlockCount;
+use packed_sim::Scratch;
+use scan_model::{CellKind, NoMemory, Parts, Point};
+
+/// A chain that is loaded as under a fault of its shift path, over the rows of a block's points.
+#[derive(Drop)]
+pub(crate) struct Loaded<'a> {
+    pub work: &'a BlockWork<'a>,
+    pub scratch: &'a Scratch,
+    pub chain: u32,
+    pub pos: u32,
+    pub kind: CellKind,
+    ghost chain_within: { chain < length work.now.parts.now.chains },
+    ghost pos_within: { pos < length (chain_at work.now.parts.now chain).cells },
+    ghost loaded: { IsLoaded work.now.parts.now work.now.good.now work.now.block chain pos kind scratch.now },
+}
+
+/// The cells of a chain.
+fn chain_cells(parts: &Parts, chain: u32) -> &[u32]
+    requires { chain < length parts.now.chains }
+    ensures { result.now ≡ (chain_at parts.now chain).cells }
+{
+    parts.chains().as_slice()[chain as usize].cells.as_slice()
+}
+
+fn listed_net(parts: &Parts, chain: u32, pos: u32) -> u32
+    requires { IsPoint parts.now (point.Cell chain pos) }
+    ensures { result ≡ cell parts.now chain pos }
+{
+    chain_cells(parts, chain)[pos as usize]
+}
+
+/// The net of a cell.
+fn cell_net(parts: &Parts, chain: u32, pos: u32) -> u32
+    requires { IsPoint parts.now (point.Cell chain pos) }
+    ensures value { result ≡ cell parts.now chain pos }
+    ensures in_range { result < length parts.now.netlist.nets }
+    ensures flop { IsFlop (driver_of parts.now.netlist result) }
+{
+    let _ = parts.chains();
+    let net = listed_net(parts, chain, pos);
+    net
+}
+
+/// The net that a cell observes.
+fn data_net(parts: &Parts, cell: u32) -> u32
+    requires in_range { cell < length parts.now.netlist.nets }
+    requires flop { IsFlop (driver_of parts.now.netlist cell) }
+    ensures value { result ≡ (pin_at parts.now.netlist (data_pin parts.now.netlist cell)).net }
+    ensures in_range { result < length parts.now.netlist.nets }
+{
+    let circuit = parts.circuit();
+    let pin = circuit.nets().as_slice()[cell as usize].first_pin;
+    circuit.pins().as_slice()[pin as usize].net
+}
+
+/// The net that a position of a chain observes.
+fn position_net(parts: &Parts, chain: u32, pos: u32) -> u32
+    requires { IsPoint parts.now (point.Cell chain pos) }
+    ensures value { result ≡ observed_net parts.now (point.Cell chain pos) }
+    ensures in_range { result < length parts.now.netlist.nets }
+{
+    let cell = cell_net(parts, chain, pos);
+    data_net(parts, cell)
+}
+
+/// The position below that of a point, if the point is a cell of the chain above its first.
+fn position_below(shown_at: Point, chain: u32) -> Option<u32>
+    ensures { MatchOption result ((i : ℕ) → shown_at ≢ point.Cell chain (i + 1)) (λ at. shown_at ≡ point.Cell chain (at + 1)) }
+{
+    match shown_at {
+        Point::Output { .. } => None,
+        Point::Cell { chain: own, pos } => {
+            if own == chain && pos > 0 {
+                Some(pos - 1)
+            } else {
+                None
+            }
+        }
+    }
+}
+
+impl Loaded<'_> {
+    /// How many lanes of point k the fault predicts to fail.
+    fn count_at(&self, k: usize) -> BlockCount
+        requires work { IsSound self.now.work.now }
+        requires point { k < length (points_of self.now.work.now.parts.now) }
+        ensures small { IsSmall result }
+        ensures count { (side : Side) → count_on side result ≡ note_at self.now.work.now.parts.now self.now.work.now.rows.now self.now.work.now.block (fault.Cell self.now.chain self.now.pos self.now.kind) side k }
+    {
+        let predicted = self.work.good.predicted_row(
+            self.work.parts,
+            self.scratch,
+            self.work.block,
+            (self.chain, self.pos),
+            self.kind,
+            k,
+        );
+        let row = self.work.rows[k];
+        BlockCount {
+            tfsf: row.failing.count_both(predicted),
+            tpsf: row.passing.count_both(predicted),
+        }
+    }
+
+    /// Notes some points again.
+    fn note_points(&self, notes: &mut Notes, points: &[u32])
+        requires work { IsSound self.now.work.now }
+        requires len { length notes.old ≡ length (points_of self.now.work.now.parts.now) }
+        requires points { All (λ k. k < length (points_of self.now.work.now.parts.now)) points.now }
+        ensures len { length notes.new ≡ length notes.old }
+        ensures renoted { IsRenoted self.now.work.now.parts.now self.now.work.now.rows.now self.now.work.now.block (fault.Cell self.now.chain self.now.pos self.now.kind) notes.old notes.new }
+        ensures fresh { All (IsFresh self.now.work.now.parts.now self.now.work.now.rows.now self.now.work.now.block (fault.Cell self.now.chain self.now.pos self.now.kind) notes.new) points.now }
+    {
+        for point in points {
+            let k = *point as usize;
+            notes.put(k, self.count_at(k));
+        }
+    }
+
+    /// Notes again what observes a net.
+    fn note_net(&self, notes: &mut Notes, net: u32)
+        requires work { IsSound self.now.work.now }
+        requires len { length notes.old ≡ length (points_of self.now.work.now.parts.now) }
+        requires net { net < length self.now.work.now.parts.now.netlist.nets }
+        ensures len { length notes.new ≡ length notes.old }
+        ensures renoted { IsRenoted self.now.work.now.parts.now self.now.work.now.rows.now self.now.work.now.block (fault.Cell self.now.chain self.now.pos self.now.kind) notes.old notes.new }
+        ensures fresh { AreFreshAt self.now.work.now.parts.now self.now.work.now.rows.now self.now.work.now.block (fault.Cell self.now.chain self.now.pos self.now.kind) notes.new net }
+    {
+        let points = self.work.good.points_of_net(self.work.parts, net);
+        self.note_points(notes, points);
+    }
+
+    /// Notes a position of the chain again.
+    pub(crate) fn note_position(&self, notes: &mut Notes, pos: u32)
+        requires work { IsSound self.now.work.now }
+        requires len { length notes.old ≡ length (points_of self.now.work.now.parts.now) }
+        requires pos { pos < length (chain_at self.now.work.now.parts.now self.now.chain).cells }
+        ensures len { length notes.new ≡ length notes.old }
+        ensures renoted { IsRenoted self.now.work.now.parts.now self.now.work.now.rows.now self.now.work.now.block (fault.Cell self.now.chain self.now.pos self.now.kind) notes.old notes.new }
+        ensures fresh { AreFreshAt self.now.work.now.parts.now self.now.work.now.rows.now self.now.work.now.block (fault.Cell self.now.chain self.now.pos self.now.kind) notes.new (observed_net self.now.work.now.parts.now (point.Cell self.now.chain pos)) }
+    {
+        let net = position_net(self.work.parts, self.chain, pos);
+        self.note_net(notes, net);
+    }
+
+    /// Notes again the positions of the chain that stand below some points.
+    fn note_below(&self, notes: &mut Notes, points: &[u32])
+        requires work { IsSound self.now.work.now }
+        requires len { length notes.old ≡ length (points_of self.now.work.now.parts.now) }
+        requires points { All (λ k. k < length (points_of self.now.work.now.parts.now)) points.now }
+        ensures len { length notes.new ≡ length notes.old }
+        ensures renoted { IsRenoted self.now.work.now.parts.now self.now.work.now.rows.now self.now.work.now.block (fault.Cell self.now.chain self.now.pos self.now.kind) notes.old notes.new }
+        ensures fresh { All (λ k. (i : ℕ) → point_at self.now.work.now.parts.now k ≡ point.Cell self.now.chain (i + 1)
+            → AreFreshAt self.now.work.now.parts.now self.now.work.now.rows.now self.now.work.now.block (fault.Cell self.now.chain self.now.pos self.now.kind) notes.new (observed_net self.now.work.now.parts.now (point.Cell self.now.chain i))) points.now }
+    {
+        for point in points {
+            let at = self.work.parts.points().as_slice()[*point as usize];
+            if let Some(pos) = position_below(at, self.chain) {
+                self.note_position(notes, pos);
+            }
+        }
+    }
+
+    /// Notes again all that a change of a net can change.
+    fn note_changed(&self, notes: &mut Notes, net: u32)
+        requires work { IsSound self.now.work.now }
+        requires len { length notes.old ≡ length (points_of self.now.work.now.parts.now) }
+        requires net { net < length self.now.work.now.parts.now.netlist.nets }
+        ensures len { length notes.new ≡ length notes.old }
+        ensures renoted { IsRenoted self.now.work.now.parts.now self.now.work.now.rows.now self.now.work.now.block (fault.Cell self.now.chain self.now.pos self.now.kind) notes.old notes.new }
+        ensures done { IsNetDone self.now.work.now.parts.now self.now.work.now.rows.now self.now.work.now.block (fault.Cell self.now.chain self.now.pos self.now.kind) self.now.chain notes.new net }
+    {
+        let points = self.work.good.points_of_net(self.work.parts, net);
+        self.note_points(notes, points);
+        self.note_below(notes, points);
+    }
+
+    /// Notes what observes a net with a row of its own.
+    fn note_touched(&self, notes: &mut Notes)
+        requires work { IsSound self.now.work.now }
+        requires len { length notes.old ≡ length (points_of self.now.work.now.parts.now) }
+        ensures len { length notes.new ≡ length notes.old }
+        ensures renoted { IsRenoted self.now.work.now.parts.now self.now.work.now.rows.now self.now.work.now.block (fault.Cell self.now.chain self.now.pos self.now.kind) notes.old notes.new }
+        ensures fresh { (n : ℕ) → has_own_row self.now.scratch.now n ≡ true → AreFreshAt self.now.work.now.parts.now self.now.work.now.rows.now self.now.work.now.block (fault.Cell self.now.chain self.now.pos self.now.kind) notes.new n }
+    {
+        let nets = self.scratch.nets();
+        for net in nets {
+            self.note_net(notes, *net);
+        }
+    }
+
+    /// Notes all positions of the chain.
+    fn note_chain(&self, notes: &mut Notes)
+        requires work { IsSound self.now.work.now }
+        requires len { length notes.old ≡ length (points_of self.now.work.now.parts.now) }
+        ensures len { length notes.new ≡ length notes.old }
+        ensures renoted { IsRenoted self.now.work.now.parts.now self.now.work.now.rows.now self.now.work.now.block (fault.Cell self.now.chain self.now.pos self.now.kind) notes.old notes.new }
+        ensures fresh { (i : ℕ) → i < length (chain_at self.now.work.now.parts.now self.now.chain).cells
+            → AreFreshAt self.now.work.now.parts.now self.now.work.now.rows.now self.now.work.now.block (fault.Cell self.now.chain self.now.pos self.now.kind) notes.new (observed_net self.now.work.now.parts.now (point.Cell self.now.chain i)) }
+    {
+        let _ = self.work.parts.chains();
+        let cells = chain_cells(self.work.parts, self.chain);
+        for cell in cells {
+            let net = data_net(self.work.parts, *cell);
+            self.note_net(notes, net);
+        }
+    }
+
+    /// Notes all points for the first time. What neither observes a net with a row of its own nor stands in the chain
+    /// shows its fault-free value, and keeps a count of zero.
+    pub(crate) fn note_all(&self, notes: &mut Notes) -> Result<(), NoMemory>
+        requires work { IsSound self.now.work.now }
+        ensures len { OnOk result (length notes.new ≡ length (points_of self.now.work.now.parts.now)) }
+        ensures fresh { OnOk result ((k : ℕ) → k < length (points_of self.now.work.now.parts.now) → IsFresh self.now.work.now.parts.now self.now.work.now.rows.now self.now.work.now.block (fault.Cell self.now.chain self.now.pos self.now.kind) notes.new k) }
+    {
+        let _ = self.work.parts.points();
+        notes.reset(self.work.rows.len())?;
+        self.note_touched(notes);
+        self.note_chain(notes);
+        Ok(())
+    }
+
+    /// The least net with a mark, from one on.
+    fn next_moved(&self, from: u32) -> Option<u32>
+        ensures { MatchOption result ((n : ℕ) → from ≤ n → n < length self.now.work.now.parts.now.netlist.nets → has_place self.now.scratch.now.moved n ≡ false)
+            (λ net. (from ≤ net) × (net < length self.now.work.now.parts.now.netlist.nets) × ((n : ℕ) → from ≤ n → n < net → has_place self.now.scratch.now.moved n ≡ false)) }
+    {
+        let nets = self.work.parts.circuit().nets().len();
+        match self.scratch.moved.next_from(from as usize) {
+            Some(net) => if net < nets { Some(net as u32) } else { None },
+            None => None,
+        }
+    }
+
+    /// Notes again all that a change of the marked nets can change.
+    pub(crate) fn note_moved(&self, notes: &mut Notes)
+        requires work { IsSound self.now.work.now }
+        requires len { length notes.old ≡ length (points_of self.now.work.now.parts.now) }
+        ensures len { length notes.new ≡ length notes.old }
+        ensures renoted { IsRenoted self.now.work.now.parts.now self.now.work.now.rows.now self.now.work.now.block (fault.Cell self.now.chain self.now.pos self.now.kind) notes.old notes.new }
+        ensures done { (n : ℕ) → n < length self.now.work.now.parts.now.netlist.nets → has_place self.now.scratch.now.moved n ≡ true
+            → IsNetDone self.now.work.now.parts.now self.now.work.now.rows.now self.now.work.now.block (fault.Cell self.now.chain self.now.pos self.now.kind) self.now.chain notes.new n }
+    {
+        let _ = self.work.parts.circuit().nets();
+        let mut from = 0;
+        while let Some(net) = self.next_moved(from) {
+            self.note_changed(notes, net);
+            from = net + 1;
+        }
+    }
+}

@@ -1,0 +1,6 @@
+/// The two classes of bits that count.
+#[derive(Clone, Copy, Debug)]
+pub enum Side {
+    Failing,
+    Passing,
+}

@@ -1,0 +1,8 @@
+use scan_model::Fault;
+
+/// A suspect's place and fault.
+#[derive(Clone, Copy, Debug)]
+pub struct Suspect {
+    pub place: u32,
+    pub fault: Fault,
+}

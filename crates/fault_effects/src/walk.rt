@@ -1,0 +1,169 @@
+ghost use Rattle.std.specs.Prelude.{◌≡◌, ◌+◌, ◌<◌, ◌≤◌, Some, None, true, length, IfSome, OnOk};
+ghost use Rattle.scan_model.specs.ScanTest.{points_of, chain_at};
+ghost use Rattle.lane_rows.specs.Places.{has_place, room};
+ghost use Rattle.packed_sim.specs.Belongs.{IsScratchOf, IsScratchIn};
+ghost use Rattle.packed_sim.specs.Loaded.{IsLoaded};
+ghost use Rattle.fault_effects.specs.Walks.{IsWalk, IsWalkAt, IsStepNoted};
+ghost use Rattle.fault_effects.specs.SoundWork.{IsSound};
+
+use crate::block_work::BlockWork;
+use crate::loaded::Loaded;
+use crate::notes::Notes;
+use lane_rows::PlaceSet;
+use packed_sim::Scratch;
+use scan_model::{CellKind, NoMemory, Steps};
+use std::sync::ledger::Ledger;
+
+/// The least mark from one place on, if it stands before the end.
+fn next_mark(marks: &PlaceSet, from: usize, end: usize) -> Option<usize>
+    ensures { IfSome result (λ place. (from ≤ place) × (place < end) × (has_place marks.now place ≡ true)) }
+{
+    match marks.next_from(from) {
+        Some(place) => if place < end { Some(place) } else { None },
+        None => None,
+    }
+}
+
+/// Takes the marks of so many nets out.
+fn clear_marks(scratch: &mut Scratch, nets: usize)
+    ensures rows { scratch.new.overlay ≡ scratch.old.overlay }
+    ensures waiting { scratch.new.waiting ≡ scratch.old.waiting }
+    ensures room { room scratch.new.moved ≡ room scratch.old.moved }
+{
+    let mut from = 0;
+    while let Some(net) = next_mark(&scratch.moved, from, nets) {
+        scratch.moved.remove(net);
+        from = net + 1;
+    }
+}
+
+/// Begins a walk behind a position: the chain is loaded, and all points are noted.
+fn begin<L: Ledger>(
+    work: &BlockWork<'_>,
+    scratch: &mut Scratch,
+    behind: (u32, u32),
+    kind: CellKind,
+    notes: &mut Notes,
+    steps: &mut Steps<L>,
+) -> Result<(), NoMemory>
+    requires work { IsSound work.now }
+    requires scratch { IsScratchOf work.now.good.now scratch.old }
+    requires chain { behind.0 < length work.now.parts.now.chains }
+    requires pos { behind.1 < length (chain_at work.now.parts.now behind.0).cells }
+    ensures scratch { IsScratchIn work.now.good.now scratch.new }
+    ensures walk { OnOk result (IsWalkAt work.now.parts.now work.now.good.now work.now.rows.now work.now.block behind.0 behind.1 kind scratch.new notes.new) }
+{
+    work.good
+        .load(work.parts, scratch, work.block, behind, kind, steps);
+    clear_marks(scratch, work.parts.circuit().nets().len());
+    let loaded = Loaded {
+        work,
+        scratch,
+        chain: behind.0,
+        pos: behind.1,
+        kind,
+    };
+    loaded.note_all(notes)
+}
+
+/// Notes again what a step of a walk has changed.
+fn note_step(
+    work: &BlockWork<'_>,
+    scratch: &Scratch,
+    behind: (u32, u32),
+    above: u32,
+    kind: CellKind,
+    notes: &mut Notes,
+)
+    requires work { IsSound work.now }
+    requires chain { behind.0 < length work.now.parts.now.chains }
+    requires pos { above < length (chain_at work.now.parts.now behind.0).cells }
+    requires above { above ≡ behind.1 + 1 }
+    requires loaded { IsLoaded work.now.parts.now work.now.good.now work.now.block behind.0 behind.1 kind scratch.now }
+    requires len { length notes.old ≡ length (points_of work.now.parts.now) }
+    ensures len { length notes.new ≡ length notes.old }
+    ensures step { IsStepNoted work.now.parts.now work.now.rows.now work.now.block behind.0 behind.1 kind scratch.now notes.old notes.new }
+{
+    let loaded = Loaded {
+        work,
+        scratch,
+        chain: behind.0,
+        pos: behind.1,
+        kind,
+    };
+    loaded.note_moved(notes);
+    loaded.note_position(notes, behind.1);
+    loaded.note_position(notes, above);
+}
+
+/// Takes a walk one position down.
+fn step<L: Ledger>(
+    work: &BlockWork<'_>,
+    scratch: &mut Scratch,
+    behind: (u32, u32),
+    above: u32,
+    kind: CellKind,
+    notes: &mut Notes,
+    steps: &mut Steps<L>,
+)
+    requires work { IsSound work.now }
+    requires above { above ≡ behind.1 + 1 }
+    requires walk { IsWalkAt work.now.parts.now work.now.good.now work.now.rows.now work.now.block behind.0 (behind.1 + 1) kind scratch.old notes.old }
+    ensures { IsWalkAt work.now.parts.now work.now.good.now work.now.rows.now work.now.block behind.0 behind.1 kind scratch.new notes.new }
+{
+    let _ = work.parts.chains();
+    work.good
+        .load_more(work.parts, scratch, work.block, behind, kind, steps);
+    note_step(work, scratch, behind, above, kind, notes);
+    clear_marks(scratch, work.parts.circuit().nets().len());
+}
+
+/// Takes a walk down its chain from one position to another.
+fn descend<L: Ledger>(
+    work: &BlockWork<'_>,
+    scratch: &mut Scratch,
+    from: (u32, u32),
+    to: u32,
+    kind: CellKind,
+    notes: &mut Notes,
+    steps: &mut Steps<L>,
+)
+    requires work { IsSound work.now }
+    requires to { to ≤ from.1 }
+    requires walk { IsWalkAt work.now.parts.now work.now.good.now work.now.rows.now work.now.block from.0 from.1 kind scratch.old notes.old }
+    ensures { IsWalkAt work.now.parts.now work.now.good.now work.now.rows.now work.now.block from.0 to kind scratch.new notes.new }
+{
+    let mut at = from.1;
+    while at > to {
+        let above = at;
+        at -= 1;
+        step(work, scratch, (from.0, at), above, kind, notes, steps);
+    }
+}
+
+/// Brings a walk to a position: down the chain if it stands there or above, else from a new begin.
+pub(crate) fn reach<L: Ledger>(
+    work: &BlockWork<'_>,
+    scratch: &mut Scratch,
+    at: Option<(u32, u32)>,
+    behind: (u32, u32),
+    kind: CellKind,
+    notes: &mut Notes,
+    steps: &mut Steps<L>,
+) -> Result<(), NoMemory>
+    requires work { IsSound work.now }
+    requires chain { behind.0 < length work.now.parts.now.chains }
+    requires pos { behind.1 < length (chain_at work.now.parts.now behind.0).cells }
+    requires walk { IsWalk work.now.parts.now work.now.good.now work.now.rows.now work.now.block kind scratch.old notes.old at }
+    ensures scratch { IsScratchIn work.now.good.now scratch.new }
+    ensures walk { OnOk result (IsWalkAt work.now.parts.now work.now.good.now work.now.rows.now work.now.block behind.0 behind.1 kind scratch.new notes.new) }
+{
+    if let Some(from) = at {
+        if from.0 == behind.0 && from.1 >= behind.1 {
+            descend(work, scratch, from, behind.1, kind, notes, steps);
+            return Ok(());
+        }
+    }
+    work.good.clear(scratch);
+    begin(work, scratch, behind, kind, notes, steps)
+}

@@ -1,0 +1,8 @@
+/// The lists of work in a block: nets that own a suspect, and suspects that none owns.
+#[derive(Clone, Copy, Debug)]
+pub enum WorkKind {
+    Nets,
+    Pins,
+    Bridges,
+    Cells,
+}

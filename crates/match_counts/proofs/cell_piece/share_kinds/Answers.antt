@@ -1,7 +1,0 @@
-use Rattle.match_counts.proofs.KindShares.{four_kinds}
-use Rattle.match_counts.proofs.cell_piece.share_kinds.Goals as goal
-
-pub returns-clause-shares : goal.returns-clause-shares
-returns-clause-shares g c =
-    four_kinds c.args.parts.now c.args.rows.now c.args.block c.args.suspects.now c.args.group.now c.args.shares.now c.share_kind.new.shares c.share_kind-2.new.shares c.share_kind-3.new.shares c.share_kind-4.new.shares
-    c.chains.ensures.fits c.requires.suspects c.requires.group c.in_ok-share_kind.ensures.shares c.in_ok-share_kind-2.ensures.shares c.in_ok-share_kind-3.ensures.shares c.in_ok-share_kind-4.ensures.shares

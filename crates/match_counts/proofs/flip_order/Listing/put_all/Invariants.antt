@@ -1,9 +1,0 @@
-use Rattle.std.proofs.Common.{◌≡◌, ℕ, ◌<◌, true, false, length, get_or}
-use Rattle.match_counts.specs.FlipOrder.{IsListing}
-use Rattle.match_counts.proofs.flip_order.Listing.put_all.Given as goal
-
-abbrev pub invariant-loop-net : goal.invariant-loop-net
-invariant-loop-net l = record {
-  listing : IsListing l.owners (length l.parts.netlist.nets) l.self;
-  all : (n : ℕ) → n < l.net → get_or l.self.seen.items n false ≡ true;
-}

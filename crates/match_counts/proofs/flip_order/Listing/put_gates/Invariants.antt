@@ -1,6 +1,0 @@
-use Rattle.std.proofs.Common.{length}
-use Rattle.match_counts.specs.FlipOrder.{IsListing}
-use Rattle.match_counts.proofs.flip_order.Listing.put_gates.Given as goal
-
-abbrev pub invariant-loop-k : goal.invariant-loop-k
-invariant-loop-k l = IsListing l.owners (length l.parts.netlist.nets) l.self

@@ -1,9 +1,0 @@
-use Rattle.std.proofs.Common.{◌≡◌, ℕ, subst, arith}
-use Rattle.match_counts.specs.Walks.{IsWalkAt}
-use Rattle.match_counts.proofs.walk.descend.Goals as goal
-
-pub returns : goal.returns
-returns g c =
-    let same : c.loop-at.at ≡ c.args.to = omega (arith, c.loop-at.invariant.above, c.loop-at-test.false) in
-    let At : ℕ → Type 0 = λ n. IsWalkAt c.args.parts.now c.args.good.now c.args.rows.now c.args.block c.args.from.0 n c.args.kind c.loop-at.scratch c.loop-at.notes in
-    subst At same c.loop-at.invariant.walk

@@ -1,8 +1,0 @@
-use lane_rows::Row;
-
-/// The bits of a point in a block of 512 patterns: the lanes that are Failing, and those that are Passing.
-#[derive(Clone, Copy, Debug)]
-pub(crate) struct PointRow {
-    pub failing: Row,
-    pub passing: Row,
-}

@@ -1,8 +1,0 @@
-use scan_model::Fault;
-
-/// A suspect's place and fault.
-#[derive(Clone, Copy, Debug)]
-pub(crate) struct Suspect {
-    pub place: u32,
-    pub fault: Fault,
-}

@@ -1,8 +1,0 @@
-/// The lists of work in a block: nets that own a suspect, and suspects that none owns.
-#[derive(Clone, Copy, Debug)]
-pub(crate) enum WorkKind {
-    Nets,
-    Pins,
-    Bridges,
-    Cells,
-}
