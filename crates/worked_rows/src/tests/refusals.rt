@@ -152,7 +152,7 @@ fn is_refused_behind_the_headers(alloc: Global, row: (&str, u64, u32)) -> bool {
     let (lines, line, rule) = row;
     let design = design_of_s27(alloc, "CAPTURE 0000 000\n");
     match format!(in alloc; "FAILLOG 2\ndie D1\ndesign d\ntested 0 0\n{lines}") {
-        Ok(text) => fault_of(alloc, &design, (Section::Log, text.as_str()))
+        Ok(text) => fault_of(alloc, &design, text.as_str())
             == Some((Section::Log, TextFault { line, rule })),
         Err(_) => false,
     }
