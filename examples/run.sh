@@ -222,6 +222,13 @@ the_stores() {
     "$top/examples/stores.py" "$program" . || wrong=$((wrong + 1))
 }
 
+# One connection is read while another stays open.
+the_workers() {
+    cd "$work/bodies" || exit 1
+    runs=$((runs + 1))
+    "$top/examples/workers.py" "$program" . || wrong=$((wrong + 1))
+}
+
 # What can't be written ends with status 6.
 the_full_device() {
     [ -w /dev/full ] || return
@@ -252,6 +259,7 @@ the_answers
 the_rows
 the_requests
 the_stores
+the_workers
 the_little_memory
 the_full_device
 echo "$runs examples, $wrong wrong"
