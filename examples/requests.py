@@ -72,10 +72,10 @@ def is_silent(port):
         return link.recv(1) == b''
 
 
-def serve(program, sessions, store):
+def serve(program, sessions, store, workers=1):
     """The program at the first of the ports that nobody else has."""
     for port in PORTS:
-        serving = subprocess.Popen([program, 'serve', str(port), '1', str(sessions), store], stdout=subprocess.PIPE, text=True)
+        serving = subprocess.Popen([program, 'serve', str(port), str(workers), str(sessions), store], stdout=subprocess.PIPE, text=True)
         if serving.stdout.readline() == f'serving {port}\n':
             return serving, port
         serving.wait()

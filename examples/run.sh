@@ -301,6 +301,13 @@ the_lot() {
     fi
 }
 
+# One connection is read while another stays open.
+the_workers() {
+    cd "$work/bodies" || exit 1
+    runs=$((runs + 1))
+    "$top/examples/workers.py" "$program" . || wrong=$((wrong + 1))
+}
+
 # What can't be written ends with status 6.
 the_full_device() {
     [ -w /dev/full ] || return
@@ -350,6 +357,7 @@ the_sessions
 the_predicted
 the_stores
 the_lot
+the_workers
 the_little_memory
 the_full_device
 echo "$runs examples, $wrong wrong"

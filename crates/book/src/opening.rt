@@ -28,7 +28,7 @@ pub enum StartFault {
     NoMemory,
 }
 
-/// A book that wasn't opened, and its keeper. Only for want of memory the keeper may be gone.
+/// A book that wasn't opened, and its keeper, which comes back whatever the fault.
 #[derive(Drop)]
 pub struct NotStarted<K> {
     pub fault: StartFault,
@@ -110,8 +110,7 @@ impl<K: Keeper> Book<K> {
         ensures legal { (rows : List Deed) → K.rows keeper ≡ Some rows → IfOk result (λ book. spoiled_row max_deeds rows ≡ None) }
         ensures later { IfOk result (λ book. K.faults keeper ≤ book.faults) }
         ensures spoiled { (rows : List Deed) (row : ℕ) → K.rows keeper ≡ Some rows → IfErr result (λ refused. refused.fault ≡ StartFault.Spoiled row → spoiled_row max_deeds rows ≡ Some row) }
-        ensures home { (row : ℕ) → IfErr result (λ refused. refused.fault ≡ StartFault.Spoiled row → IsSome refused.keeper) }
-        ensures home_failed { IfErr result (λ refused. refused.fault ≡ StartFault.Failed → IsSome refused.keeper) }
+        ensures home { IfErr result (λ refused. IsSome refused.keeper) }
         ensures same { IfErr result (λ refused. IfSome refused.keeper (λ k. (K.rows k ≡ K.rows keeper) × (K.faults keeper ≤ K.faults k))) }
         ensures failed { IfErr result (λ refused. refused.fault ≡ StartFault.Failed → IfSome refused.keeper (λ k. Rose (K.faults keeper) (K.faults k))) }
     {

@@ -5,10 +5,8 @@ mod cabinet;
 mod form;
 mod keeper;
 mod reading;
-mod sending;
 mod tables;
 mod writing;
 
 pub use cabinet::SqliteCabinet;
 pub use keeper::SqliteKeeper;
-pub use sending::keeper_is_sent;

@@ -19,7 +19,7 @@ use Rattle.diagnosis.specs.Designs.{ViewFacts, ReadLogFacts, IsView, view_lines}
 use Rattle.book.specs.Deeds.{design_test, test_of_text, test_of_reading, die_logs}
 use Rattle.book.specs.Changes.{IsViewIn}
 use Rattle.report_cache.specs.declared.key.ReportKey.{ReportKey}
-use Rattle.report_cache.specs.Truth.{KeptReport, kept_report, report_for, IsKeyOf, IsReportIn, IsTrueFor}
+use Rattle.report_cache.specs.Truth.{KeptReport, kept_report, report_for, IsKeyOf, IsReportIn}
 
 abbrev pub Entry : Type 0
 Entry = ReportKey × Arc (List (List ℕ)) Global
@@ -53,25 +53,29 @@ unmap P f [] h = All-nil (λ y. P (f y))
 unmap P f (y ∷ ys) h = All-cons (λ y. P (f y)) y ys (All-head P (f y) (map f ys) h) (unmap P f ys (All-tail P (f y) (map f ys) h))
 
 module _ (deeds : List Deed) where
-  each_true : (entries : List Entry) → IsTrueFor (map kept_report entries) deeds → (entry : Entry) → Contains entries entry → IsReportIn deeds (kept_report entry)
+  -- each entry's report is one of the deeds
+  abbrev pub AreTrue : List Entry → Type 0
+  AreTrue entries = All (IsReportIn deeds) (map kept_report entries)
+
+  each_true : (entries : List Entry) → AreTrue entries → (entry : Entry) → Contains entries entry → IsReportIn deeds (kept_report entry)
   each_true entries is entry at = All-contains (λ e. IsReportIn deeds (kept_report e)) entries entry (unmap (IsReportIn deeds) kept_report entries is) at
 
-  all_true : (entries : List Entry) → ((entry : Entry) → Contains entries entry → IsReportIn deeds (kept_report entry)) → IsTrueFor (map kept_report entries) deeds
+  all_true : (entries : List Entry) → ((entry : Entry) → Contains entries entry → IsReportIn deeds (kept_report entry)) → AreTrue entries
   all_true entries each = All-map (IsReportIn deeds) kept_report entries (λ k d lt. each _ (All-contains_itself entries k d lt))
 
   -- an entry goes to the front
-  pub promoted_true : (test : ReportKey → Bool) (entries : List Entry) → IsTrueFor (map kept_report entries) deeds → IsTrueFor (map kept_report (promoted test entries)) deeds
+  pub promoted_true : (test : ReportKey → Bool) (entries : List Entry) → AreTrue entries → AreTrue (promoted test entries)
   promoted_true test entries is = all_true (promoted test entries) (λ entry at. each_true entries is entry (Contains-promoted test entries entry at))
 
   -- what is found under a key is true for it
-  pub found_true : (entries : List Entry) (key : ReportKey) (report : Arc (List (List ℕ)) Global) → IsTrueFor (map kept_report entries) deeds → lookup (same_key key) entries ≡ Some report
+  pub found_true : (entries : List Entry) (key : ReportKey) (report : Arc (List (List ℕ)) Global) → AreTrue entries → lookup (same_key key) entries ≡ Some report
       → IsReportIn deeds (report_for key (arc_value report))
   found_true entries key report is found =
       let at = Contains-lookup (same_key key) entries report found in
       subst (IsReportIn deeds) (for_same_key key at.0 (arc_value report) at.2) (each_true entries is (at.0, report) at.1)
 
-  put_true : (cache : LruCache ReportKey (Arc (List (List ℕ)) Global)) (key : ReportKey) (report : Arc (List (List ℕ)) Global) → IsTrueFor (map kept_report cache.entries) deeds → IsReportIn deeds (report_for key (arc_value report))
-      → IsTrueFor (map kept_report (put_entries same_key cache key report)) deeds
+  put_true : (cache : LruCache ReportKey (Arc (List (List ℕ)) Global)) (key : ReportKey) (report : Arc (List (List ℕ)) Global) → AreTrue cache.entries → IsReportIn deeds (report_for key (arc_value report))
+      → AreTrue (put_entries same_key cache key report)
   put_true cache key report is one = all_true (put_entries same_key cache key report) (λ entry at. elim (Contains-put_entries same_key cache key report entry at) [
     | inl there ↦ each_true cache.entries is entry there
     | inr put ↦
@@ -86,9 +90,14 @@ module _ (deeds : List Deed) where
   -- a report is put, or there is no memory for it
   pub after_put : {X E : Type 0} (result : Result X E) (old new : LruCache ReportKey (Arc (List (List ℕ)) Global)) (key : ReportKey) (report : Arc (List (List ℕ)) Global)
       → OnOk result (new ≡ lru_cache (put_entries same_key old key report) old.cap) → OnErr result (new ≡ old)
-      → IsTrueFor (map kept_report old.entries) deeds → IsReportIn deeds (report_for key (arc_value report)) → IsTrueFor (map kept_report new.entries) deeds
-  after_put (Ok x) old new key report ok err is one = subst (λ (c : LruCache ReportKey (Arc (List (List ℕ)) Global)). IsTrueFor (map kept_report c.entries) deeds) (sym ok) (put_true old key report is one)
-  after_put (Err e) old new key report ok err is one = subst (λ (c : LruCache ReportKey (Arc (List (List ℕ)) Global)). IsTrueFor (map kept_report c.entries) deeds) (sym err) is
+      → AreTrue old.entries → IsReportIn deeds (report_for key (arc_value report)) → AreTrue new.entries
+  after_put (Ok x) old new key report ok err is one = subst (λ (c : LruCache ReportKey (Arc (List (List ℕ)) Global)). AreTrue c.entries) (sym ok) (put_true old key report is one)
+  after_put (Err e) old new key report ok err is one = subst (λ (c : LruCache ReportKey (Arc (List (List ℕ)) Global)). AreTrue c.entries) (sym err) is
+
+-- a put leaves how many there may be
+pub same_cap : {X E : Type 0} (result : Result X E) (old new : LruCache ReportKey (Arc (List (List ℕ)) Global)) (entries : List Entry) → OnOk result (new ≡ lru_cache entries old.cap) → OnErr result (new ≡ old) → new.cap ≡ old.cap
+same_cap (Ok x) old new entries ok err = ap (λ (c : LruCache ReportKey (Arc (List (List ℕ)) Global)). c.cap) ok
+same_cap (Err e) old new entries ok err = ap (λ (c : LruCache ReportKey (Arc (List (List ℕ)) Global)). c.cap) err
 
 -- ---- the report of a view
 

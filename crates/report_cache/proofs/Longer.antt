@@ -7,7 +7,7 @@ use Rattle.scan_model.specs.ReportText.{report_lines}
 use Rattle.desk_outside.specs.declared.deed.Deed.{Deed}
 use Rattle.book.specs.Deeds.{design_text, design_test, test_of_text, die_logs}
 use Rattle.book.proofs.Longer.{text_stays, logs-append}
-use Rattle.report_cache.specs.Truth.{KeptReport, IsReportIn, IsTrueFor}
+use Rattle.report_cache.specs.Truth.{CacheFacts, KeptReport, IsReportIn, IsTrueFor}
 
 text_there : (known : Option (List ℕ)) (test : ScanTest) → test_of_text known ≡ Some test → (text : List ℕ) × (known ≡ Some text)
 text_there (Some text) test is = (text, refl)
@@ -32,5 +32,5 @@ report_stays deeds more kept is =
       lines = is.lines ∙ ap (λ (texts : List (List ℕ)). report_lines is.test kept.design kept.die (logs_of_texts is.test kept.design kept.die texts)) (sym first);
     }
 
-pub true_longer : (cache : List KeptReport) (deeds more : List Deed) → IsTrueFor cache deeds → IsTrueFor cache (deeds ++ more)
+pub true_longer : (cache : CacheFacts) (deeds more : List Deed) → IsTrueFor cache deeds → IsTrueFor cache (deeds ++ more)
 true_longer cache deeds more is k d lt = report_stays deeds more _ (is k d lt)

@@ -1,5 +1,5 @@
 -- When the kept reports are those of a list of deeds.
-use Rattle.std.specs.Prelude.{◌≡◌, ◌≤◌, ℕ, List, All, length, take, Some}
+use Rattle.std.specs.Prelude.{◌≡◌, ◌≤◌, ℕ, List, [], All, length, take, Some}
 use Rattle.std.specs.Arc.{arc_value}
 use Rattle.std.specs.declared.sync.Arc.{Arc}
 use Rattle.std.specs.declared.alloc.Global.{Global}
@@ -37,6 +37,15 @@ pub record IsReportIn (deeds : List Deed) (kept : KeptReport) : Type 0 where
   pub revision : kept.revision ≤ length (die_logs deeds kept.design kept.die)
   pub lines : kept.lines ≡ report_lines test kept.design kept.die (logs_of_texts test kept.design kept.die (take kept.revision (die_logs deeds kept.design kept.die)))
 
--- each kept report is
-abbrev pub IsTrueFor : List KeptReport → List Deed → Type 0
-IsTrueFor cache deeds = All (IsReportIn deeds) cache
+-- how many reports a cache keeps at most, and those that it keeps
+pub record CacheFacts : Type 0 where
+  pub entries : ℕ
+  pub kept : List KeptReport
+
+-- a cache that keeps none yet
+abbrev pub fresh_cache : ℕ → CacheFacts
+fresh_cache entries = record { entries = entries; kept = [] }
+
+-- each report that it keeps is
+abbrev pub IsTrueFor : CacheFacts → List Deed → Type 0
+IsTrueFor cache deeds = All (IsReportIn deeds) cache.kept

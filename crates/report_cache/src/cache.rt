@@ -1,10 +1,10 @@
 //! Kept reports.
-ghost use Rattle.std.specs.Prelude.{◌≡◌, ◌≤◌, ◌++◌, [], List, IfOk, IfSome};
+ghost use Rattle.std.specs.Prelude.{◌≡◌, ◌≤◌, List, IfOk, IfSome};
 ghost use Rattle.std.specs.Arc.{arc_value};
 ghost use Rattle.desk_outside.specs.declared.deed.Deed.{Deed};
 ghost use Rattle.diagnosis.specs.Designs.{view_lines};
 ghost use Rattle.book.specs.Changes.{IsViewIn};
-ghost use Rattle.report_cache.specs.Truth.{IsTrueFor, IsReportIn, report_for};
+ghost use Rattle.report_cache.specs.Truth.{IsTrueFor, IsReportIn, fresh_cache, report_for};
 
 use crate::key::ReportKey;
 use crate::whole::WholeReport;
@@ -18,7 +18,7 @@ use std::sync::Arc;
 use std::thread::Threads;
 
 /// Whole reports, each kept for its design, die and revision; the one that was used longest ago goes first. Contracts see
-/// what is kept.
+/// what is kept, and how many there may be.
 #[derive(Drop)]
 pub struct ReportCache {
     kept: LruCache<ReportKey, Arc<WholeReport>>,
@@ -26,12 +26,12 @@ pub struct ReportCache {
 }
 
 impl Model for ReportCache {
-    ghost use Rattle.std.specs.Prelude.{List, map};
-    ghost use Rattle.report_cache.specs.Truth.{KeptReport, kept_report};
+    ghost use Rattle.std.specs.Prelude.{map};
+    ghost use Rattle.report_cache.specs.Truth.{CacheFacts, kept_report};
 
-    ghost Value = { List KeptReport };
+    ghost Value = { CacheFacts };
 
-    ghost view = { λ c. map kept_report c.kept.entries };
+    ghost view = { λ c. record { entries = c.kept.cap; kept = map kept_report c.kept.entries } };
 }
 
 // The report of a die, made anew.
@@ -53,7 +53,7 @@ impl ReportCache {
     /// A cache for so many reports, one at least. It keeps none, and so is true for each list of deeds.
     pub fn make(alloc: Global, entries: usize) -> Result<ReportCache, NoMemory>
         requires { 1 ≤ entries }
-        ensures empty { IfOk result (λ cache. cache ≡ []) }
+        ensures empty { IfOk result (λ cache. cache ≡ fresh_cache entries) }
         ensures fresh { IfOk result (λ cache. (deeds : List Deed) → IsTrueFor cache deeds) }
     {
         let Some(entries) = NonZeroUsize::new(entries) else {
@@ -70,6 +70,7 @@ impl ReportCache {
 
     // The report that is kept for a key, which then was used last. One that can't be shared for want of memory isn't found.
     fn find(&mut self, key: &ReportKey) -> Option<Arc<WholeReport>>
+        ensures entries { self.new.entries ≡ self.old.entries }
         ensures stays { (deeds : List Deed) → IsTrueFor self.old deeds → IsTrueFor self.new deeds }
         ensures found { (deeds : List Deed) → IsTrueFor self.old deeds → IfSome result (λ report. IsReportIn deeds (report_for key.now (arc_value report))) }
     {
@@ -83,7 +84,8 @@ impl ReportCache {
 
     // Keeps a report, if there is memory for it.
     fn keep(&mut self, key: ReportKey, report: &Arc<WholeReport>)
-        ensures { (deeds : List Deed) → IsTrueFor self.old deeds → IsReportIn deeds (report_for key (arc_value report.now)) → IsTrueFor self.new deeds }
+        ensures entries { self.new.entries ≡ self.old.entries }
+        ensures stays { (deeds : List Deed) → IsTrueFor self.old deeds → IsReportIn deeds (report_for key (arc_value report.now)) → IsTrueFor self.new deeds }
     {
         let Ok(report) = Arc::try_clone(report) else {
             return;
@@ -99,6 +101,7 @@ impl ReportCache {
         alloc: Global,
         view: &DieView,
     ) -> Result<Arc<WholeReport>, NoMemory>
+        ensures entries { self.new.entries ≡ self.old.entries }
         ensures stays { (deeds : List Deed) → IsViewIn deeds view.now → IsTrueFor self.old deeds → IsTrueFor self.new deeds }
         ensures made { (deeds : List Deed) → IsViewIn deeds view.now → IsTrueFor self.old deeds → IfOk result (λ report. arc_value report ≡ view_lines view.now) }
     {

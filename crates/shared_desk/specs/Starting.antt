@@ -2,8 +2,7 @@
 use Rattle.std.specs.Prelude.{◌≡◌, ◌<◌, ◌≤◌, ℕ, true, List, [], length, sum_by, drop, All, slice_get, Option, Some, is_some}
 use mathlib.Core.List.{IsPrefix}
 use Rattle.desk_outside.specs.declared.deed.Deed.{Deed}
-use Rattle.book.specs.Legal.{is_legal}
-use Rattle.book.specs.Changes.{BookFacts}
+use Rattle.book.specs.Changes.{BookFacts, IsBook}
 use Rattle.shared_desk.specs.Entries.{mine_of}
 use Rattle.shared_desk.specs.OpenBooks.{AreCounted}
 use Rattle.shared_desk.specs.Seats.{DeskFacts, SeatFacts, mine, failed}
@@ -20,18 +19,21 @@ pub record AreAllSeats (desk : DeskFacts) (list : List SeatFacts) : Type 0 where
   pub of_desk : (i : ℕ) (seat : SeatFacts) → slice_get list i ≡ Some seat → seat.desk ≡ desk
   pub numbered : (i : ℕ) (seat : SeatFacts) → slice_get list i ≡ Some seat → seat.number ≡ i
 
--- A desk over the deeds of an opening, which are the rows where these are told, with all its seats as they are then.
+-- A desk over the book of an opening, with all its seats as they are then. The book's deeds are the rows where these are told. `base` is
+-- their number, and `opened` the count of the book's keeper, at the end of the opening.
 pub record IsStarted (told : Option (List Deed)) (limit count faults : ℕ) (desk : DeskFacts) (list : List SeatFacts) : Type 0 where
+  pub book : BookFacts
+  pub is_book : IsBook book
+  pub within : book.limit ≡ limit
+  pub rows : book.rows ≡ told
+  pub later : faults ≤ book.faults
   pub seats : desk.seats ≡ count
-  pub limit_is : desk.limit ≡ limit
-  pub deeds : List Deed
-  pub rows : (rows : List Deed) → told ≡ Some rows → deeds ≡ rows
-  pub legal : is_legal limit deeds ≡ true
-  pub base : desk.base ≡ length deeds
-  pub opened : faults ≤ desk.opened
-  pub tells : desk.tells ≡ is_some told
+  pub limit_is : desk.limit ≡ book.limit
+  pub base : desk.base ≡ length book.deeds
+  pub opened : desk.opened ≡ book.faults
+  pub tells : desk.tells ≡ is_some book.rows
   pub all : AreAllSeats desk list
-  pub each : (i : ℕ) (seat : SeatFacts) → slice_get list i ≡ Some seat → seat ≡ fresh_seat desk deeds i
+  pub each : (i : ℕ) (seat : SeatFacts) → slice_get list i ≡ Some seat → seat ≡ fresh_seat desk book.deeds i
 
 -- ---- the end
 

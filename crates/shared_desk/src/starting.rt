@@ -26,7 +26,7 @@ use std::thread::Threads;
 fn without_memory<K: Keeper>(slot: Option<OpenBook<K>>) -> NotStarted<K>
     ensures fault { result.fault ≡ StartFault.NoMemory }
     ensures keeper { IfSome result.keeper (λ k. IfSome slot (λ b. (K.rows k ≡ b.book.rows) × (K.faults k ≡ b.book.faults))) }
-    ensures none { slot ≡ None → result.keeper ≡ None }
+    ensures home { IsSome slot → IsSome result.keeper }
 {
     NotStarted {
         fault: StartFault::NoMemory,
@@ -149,8 +149,7 @@ pub fn start<R: Threads + Sync, K: Keeper>(
     ensures started { IfOk result (λ r. IsStarted (K.rows keeper) max_deeds seats (K.faults keeper) r.0 r.1) }
     ensures fit { (rows : List Deed) → K.rows keeper ≡ Some rows → IfOk result (λ r. spoiled_row max_deeds rows ≡ None) }
     ensures spoiled { (rows : List Deed) (row : ℕ) → K.rows keeper ≡ Some rows → IfErr result (λ refused. refused.fault ≡ StartFault.Spoiled row → spoiled_row max_deeds rows ≡ Some row) }
-    ensures home { (row : ℕ) → IfErr result (λ refused. refused.fault ≡ StartFault.Spoiled row → IsSome refused.keeper) }
-    ensures home_failed { IfErr result (λ refused. refused.fault ≡ StartFault.Failed → IsSome refused.keeper) }
+    ensures home { IfErr result (λ refused. IsSome refused.keeper) }
     ensures same { IfErr result (λ refused. IfSome refused.keeper (λ k. (K.rows k ≡ K.rows keeper) × (K.faults keeper ≤ K.faults k))) }
     ensures failed { IfErr result (λ refused. refused.fault ≡ StartFault.Failed → IfSome refused.keeper (λ k. Rose (K.faults keeper) (K.faults k))) }
 {

@@ -7,4 +7,4 @@ returns-in-Some-clause-made g c deeds in_deeds t = kept_is deeds c.args.view.now
 
 pub returns-clause-stays : goal.returns-clause-stays
 returns-clause-stays g c deeds in_deeds t =
-    c.keep.ensures deeds (c.find.ensures.stays deeds t) (may_be_kept deeds c.args.view.now c.revision-revision.ensures.view in_deeds c.in-Ok.key (arc_value c.in_ok-report.report) c.in-Ok.ensures c.in_ok-report.ensures)
+    c.keep.ensures.stays deeds (c.find.ensures.stays deeds t) (may_be_kept deeds c.args.view.now c.revision-revision.ensures.view in_deeds c.in-Ok.key (arc_value c.in_ok-report.report) c.in-Ok.ensures c.in_ok-report.ensures)
