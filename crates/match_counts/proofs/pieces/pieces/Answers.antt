@@ -21,7 +21,7 @@ collect-all-requires-clause-ready g c κs within =
     let chunks = chunks_of c.args.size c.args.items.now in
     let Items : ℕ → Type 0 = IsItem c.args.work.now.parts.now c.args.work.now.suspects.now c.args.kind in
     let each : All (All Items) chunks = each_piece Items chunks (subst (All Items) (sym (chunks_of-concat c.args.size c.args.items.now c.requires.size)) c.requires.items) in
-    rw (c.map.ensures.f, size, slice, some) (λ k d lt x is. ((c.requires.work.good, c.requires.work.suspects, c.requires.work.owners, (let Of : List ℕ → Type 0 = All Items in subst Of (sym is) (each k d lt))), λ y p. tt))
+    rw (c.map.ensures.f, size, slice, some) (λ k d lt x is. ((c.requires.work, (let Of : List ℕ → Type 0 = All Items in subst Of (sym is) (each k d lt))), λ y p. tt))
 
 pub returns-in-Ok-Ok : goal.returns-in-Ok-Ok
 returns-in-Ok-Ok g c =
