@@ -1,3 +1,4 @@
+//! What bridges explain and mispredict in a block: two flips serve the faults of a pair.
 ghost use Rattle.std.specs.Prelude.{◌≡◌, ℕ, ◌+◌, ◌^◌, ◌<◌, List, All, Contains, length, OnOk, IfOk};
 ghost use Rattle.scan_model.specs.declared.logs.LogFacts.{LogFacts};
 ghost use Rattle.scan_model.specs.declared.fault.Fault.TheVariants as fault;

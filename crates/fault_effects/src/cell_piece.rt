@@ -1,3 +1,4 @@
+//! What faults of chains explain and mispredict in a block: for each kind a walk goes down each chain once.
 ghost use Rattle.std.specs.Prelude.{◌≡◌, ◌+◌, ◌<◌, All, length, IfOk, OnOk};
 ghost use Rattle.packed_sim.specs.Belongs.{IsScratchOf, IsScratchIn};
 ghost use Rattle.fault_effects.specs.Owners.{IsOwned, Shares, IsAmong, suspect_at};

@@ -1,3 +1,4 @@
+//! Where a flip of a net shows, and the lanes in which a pin flips its gate.
 ghost use Rattle.std.specs.Prelude.{◌≡◌, ℕ, ◌<◌, List, true, length, OnOk};
 ghost use Rattle.scan_model.specs.declared.logs.LogFacts.{LogFacts};
 ghost use Rattle.lane_rows.specs.Lanes.{lane};

@@ -1,3 +1,4 @@
+//! The rows of lanes in which a flip shows at Failing and at Passing bits, and what a mask has of them.
 ghost use Rattle.std.specs.Prelude.{◌≡◌, ℕ, ◌+◌, ◌^◌, ◌<◌, ◌&&◌, Bool, All, length, sum_by, OnOk};
 ghost use Rattle.lane_rows.specs.Lanes.{lane, count_lanes};
 ghost use Rattle.packed_sim.specs.Belongs.{IsScratchIn};

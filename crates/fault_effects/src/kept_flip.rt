@@ -1,3 +1,4 @@
+//! A flip that is kept for the next look at the same net.
 ghost use Rattle.std.specs.Prelude.{◌≡◌, ℕ, ◌<◌, List, length, OnOk};
 ghost use Rattle.scan_model.specs.ScanTest.{ScanTest};
 ghost use Rattle.packed_sim.specs.Belongs.{IsScratchOf};

@@ -1,3 +1,4 @@
+//! Sums over the lanes of rows.
 ghost use Rattle.std.specs.Prelude.{◌≡◌, ◌<◌, ◌≤◌, ◌^◌, length, sum_by};
 ghost use Rattle.lane_rows.specs.Lanes.{lane, count_lanes};
 ghost use Rattle.fault_effects.specs.Flips.{tallied};

@@ -1,3 +1,4 @@
+//! A chain that is loaded as under a fault of its shift path, and the notes of what the points show then.
 ghost use Rattle.std.specs.Prelude.{◌≡◌, ◌≢◌, ℕ, ◌+◌, ◌<◌, ◌≤◌, All, MatchOption, length, true, false, OnOk};
 ghost use Rattle.scan_model.specs.declared.fault.Fault.TheVariants as fault;
 ghost use Rattle.scan_model.specs.declared.parts.Point.TheVariants as point;

@@ -1,3 +1,4 @@
+//! What the suspects that flip one net explain and mispredict in a block: one flip serves all of a net.
 ghost use Rattle.std.specs.Prelude.{◌≡◌, ℕ, ◌<◌, true, All, length, OnOk};
 ghost use Rattle.scan_model.specs.ScanTest.{HasSite};
 ghost use Rattle.scan_model.specs.Masks.{mask};

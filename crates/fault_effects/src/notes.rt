@@ -1,3 +1,4 @@
+//! For each point how many lanes of each side a fault of a chain predicts to fail, with their sums.
 ghost use Rattle.std.specs.Prelude.{◌≡◌, ◌<◌, ◌≤◌, [], length, replicate, sum_by, slice_set, OnOk};
 ghost use Rattle.fault_effects.specs.declared.side.Side.{Side};
 ghost use Rattle.fault_effects.specs.Shares.{no_count};

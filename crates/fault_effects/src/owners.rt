@@ -1,3 +1,4 @@
+//! The suspects by the net that each flips.
 ghost use Rattle.std.specs.Prelude.{◌≡◌, ◌+◌, ◌^◌, ◌<◌, ◌≤◌, [], ◌++◌, ◌∷◌, All, length, IfOk, OnOk};
 ghost use Rattle.scan_model.specs.ScanTest.{HasSite};
 ghost use Rattle.scan_model.specs.Universe.{universe};

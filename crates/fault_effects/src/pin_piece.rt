@@ -1,3 +1,4 @@
+//! What stuck pins that go straight to points explain and mispredict in a block.
 ghost use Rattle.std.specs.Prelude.{◌≡◌, ◌+◌, ◌*◌, ◌^◌, ◌<◌, ◌≤◌, ◌&&◌, List, All, length, sum_by, OnOk, if◌then◌else◌};
 ghost use Rattle.scan_model.specs.declared.logs.LogFacts.{LogFacts};
 ghost use Rattle.scan_model.specs.declared.fault.Fault.TheVariants as fault;

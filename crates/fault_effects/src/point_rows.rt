@@ -1,3 +1,4 @@
+//! The Failing and the Passing lanes of all points in a block, read off the joined logs.
 ghost use Rattle.std.specs.Prelude.{◌≡◌, ℕ, ◌+◌, ◌*◌, ◌^◌, ◌<◌, ◌==◌, List, length, IfOk};
 ghost use Rattle.std.specs.Int.{bit_at};
 ghost use Rattle.scan_model.specs.declared.logs.LogFacts.{LogFacts};

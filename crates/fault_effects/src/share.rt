@@ -1,3 +1,4 @@
+//! What a suspect adds in one block.
 /// What a fault explains and mispredicts in one block.
 #[derive(Clone, Copy, Debug)]
 pub struct BlockCount {

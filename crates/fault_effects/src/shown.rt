@@ -1,3 +1,4 @@
+//! Where a flip shows, as rows of lanes.
 use lane_rows::Row;
 
 /// Where a flip of a net shows, a row for each point: the lanes whose bits are Failing, and those whose bits are Passing.

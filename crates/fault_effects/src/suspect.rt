@@ -1,3 +1,4 @@
+//! A suspect with its place.
 use scan_model::Fault;
 
 /// A suspect's place and fault.

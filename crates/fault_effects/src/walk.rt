@@ -1,3 +1,4 @@
+//! A walk down a chain: at each step one cell's load changes, and what that touches is noted again.
 ghost use Rattle.std.specs.Prelude.{◌≡◌, ◌+◌, ◌<◌, ◌≤◌, Some, None, true, length, IfSome, OnOk};
 ghost use Rattle.scan_model.specs.ScanTest.{points_of, chain_at};
 ghost use Rattle.lane_rows.specs.Places.{has_place, room};

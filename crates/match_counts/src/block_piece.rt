@@ -1,3 +1,4 @@
+//! The shares of all suspects in a block.
 ghost use Rattle.std.specs.Prelude.{◌≡◌, ℕ, ◌+◌, ◌<◌, [], All, Contains, length, IfOk};
 ghost use Rattle.fault_effects.specs.Owners.{Shares, suspect_at};
 ghost use Rattle.fault_effects.specs.Owners as owning;

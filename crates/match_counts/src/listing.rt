@@ -1,3 +1,4 @@
+//! The candidates among the suspects, with their counts.
 ghost use Rattle.std.specs.Prelude.{◌≡◌, List, All, length, IfOk};
 ghost use Rattle.scan_model.specs.declared.logs.LogFacts.{LogFacts};
 ghost use Rattle.scan_model.specs.ScanTest.{ScanTest};

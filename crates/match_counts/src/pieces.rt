@@ -1,3 +1,4 @@
+//! A list of work, cut into pieces that are done at the same time.
 ghost use Rattle.std.specs.Prelude.{◌≡◌, ◌+◌, ◌<◌, ◌≤◌, ◌++◌, [], All, IfOk, OnOk};
 ghost use Rattle.std.specs.List.{flat_map};
 ghost use Rattle.fault_effects.specs.declared.share.Share.{Share};

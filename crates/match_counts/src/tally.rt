@@ -1,3 +1,4 @@
+//! What a fault explains and mispredicts in a pattern, bit by bit.
 ghost use Rattle.std.specs.Prelude.{◌≡◌, ℕ, ◌+◌, ◌^◌, ◌<◌, ◌≤◌, ◌++◌, List, [], length, slice_index_or};
 ghost use Rattle.scan_model.specs.declared.values.Tri.{Tri};
 ghost use Rattle.scan_model.specs.declared.logs.Bit.{Bit};

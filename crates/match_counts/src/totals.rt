@@ -1,3 +1,4 @@
+//! Sums of shares by suspect over the blocks.
 ghost use Rattle.std.specs.Prelude.{◌≡◌, ℕ, ◌+◌, ◌^◌, ◌⊎◌, ◌<◌, length, All, slice_index_or, IfOk};
 ghost use Rattle.fault_effects.specs.declared.share.BlockCount.{BlockCount};
 ghost use Rattle.fault_effects.specs.Shares.{AreRight, HasShare, no_share};
