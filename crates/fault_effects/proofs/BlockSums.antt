@@ -12,16 +12,12 @@ use Rattle.scan_model.specs.declared.parts.Point.{Point}
 use Rattle.scan_model.specs.declared.parts.PatternKind.{PatternKind}
 use Rattle.scan_model.specs.declared.parts.PatternKind.TheVariants.{Capture, Shift}
 use Rattle.scan_model.specs.declared.fault.Stuck.{Stuck}
-use Rattle.scan_model.specs.declared.fault.BridgeKind.{BridgeKind}
 use Rattle.scan_model.specs.declared.fault.Fault.{Fault}
 use Rattle.scan_model.specs.declared.fault.Fault.TheVariants as fault
 use Rattle.scan_model.specs.declared.logs.Bit.{Bit}
-use Rattle.scan_model.specs.Values.{are_opposite}
 use Rattle.scan_model.specs.Netlist.{is_gate_driver, driver_of, pin_at}
 use Rattle.scan_model.specs.Walks.{IsEvaluationOrder}
 use Rattle.scan_model.specs.ScanTest.{ScanTest, IsScanTest, pattern_at, points_of, point_at}
-use Rattle.scan_model.specs.Faults.{bridged}
-use Rattle.scan_model.specs.NetValue.{good_value}
 use Rattle.scan_model.specs.Universe.{universe}
 use Rattle.scan_model.specs.Coverage.{bit_of, bits_of}
 use Rattle.scan_model.specs.Classes.{class, is_failing, is_passing}
@@ -34,21 +30,11 @@ use Rattle.fault_effects.specs.Hits.{hits}
 use Rattle.lane_rows.specs.GoodRows.{same_kind}
 use Rattle.packed_sim.specs.Belongs.{captures}
 use Rattle.fault_effects.specs.BlockSums.{flips_in, pins_in}
-use Rattle.scan_model.proofs.counting.OneSite.{one_site}
-use Rattle.scan_model.proofs.counting.Shown.{not_opposite_itself}
 use Rattle.fault_effects.proofs.Sums.{sum_agree, sum_agree_in, sum_zero, sum_plus, sum_exchange}
-use Rattle.scan_model.proofs.counting.Masks.{masks-capture, masks-shift}
+use Rattle.scan_model.proofs.counting.Masks.{masks-capture, masks-shift, masks_apart}
 
 abbrev pub tick : Bool → ℕ
 tick b = cond b 1 0
-
--- the two masks of a bridge are never true together
-pub masks_apart : (t : ScanTest) (w a b : ℕ) (kind : BridgeKind) → (mask t (fault.Bridge a b kind) w a && mask t (fault.Bridge a b kind) w b) ≡ false
-masks_apart t w a b kind = go (one_site kind (good_value t w a) (good_value t w b))
-  where
-    go : (bridged kind (good_value t w a) (good_value t w b) ≡ good_value t w a) ⊎ (bridged kind (good_value t w a) (good_value t w b) ≡ good_value t w b) → (mask t (fault.Bridge a b kind) w a && mask t (fault.Bridge a b kind) w b) ≡ false
-    go (inl is) = and_left (mask t (fault.Bridge a b kind) w a) (mask t (fault.Bridge a b kind) w b) (and_right (eqb a a || eqb a b) (are_opposite (good_value t w a) (bridged kind (good_value t w a) (good_value t w b))) (ap (are_opposite (good_value t w a)) is ∙ not_opposite_itself (good_value t w a)))
-    go (inr is) = and_right (mask t (fault.Bridge a b kind) w a) (mask t (fault.Bridge a b kind) w b) (and_right (eqb b a || eqb b b) (are_opposite (good_value t w b) (bridged kind (good_value t w a) (good_value t w b))) (ap (are_opposite (good_value t w b)) is ∙ not_opposite_itself (good_value t w b)))
 
 -- ---- alternatives of which one at most holds, as a sum
 

@@ -1,10 +1,6 @@
 -- What a fault explains and mispredicts in a block, from what flips show in the lanes of its masks.
-use Rattle.std.proofs.Common.{◌≡◌, ℕ, ◌+◌, ◌<◌, Bool, true, false, eqb, ◌&&◌, ◌||◌, List, [], ◌∷◌, length, refl, sym, ap, subst, ◌∙◌}
-use Rattle.std.proofs.lemmas.Bool.{eq-eqb, or_right}
+use Rattle.std.proofs.Common.{◌≡◌, ℕ, ◌+◌, ◌<◌, Bool, true, false, ◌&&◌, List, [], ◌∷◌, length, refl, sym, ap, subst, ◌∙◌}
 use Rattle.scan_model.specs.declared.fault.Stuck.{Stuck}
-use Rattle.scan_model.specs.Values.{are_opposite}
-use Rattle.scan_model.specs.Faults.{bridged}
-use Rattle.scan_model.specs.NetValue.{good_value}
 use Rattle.std.specs.Prelude.{Contains}
 use Rattle.scan_model.specs.declared.fault.Fault.{Fault}
 use Rattle.scan_model.specs.declared.fault.Fault.TheVariants as fault
@@ -54,8 +50,8 @@ module _ (t : ScanTest) (sound : IsScanTest t) (order : List ℕ) (ordered : IsE
       same_count _ _ _ _ (on Failing) (on Passing)
 
   pub bridge_count_is : (a c : ℕ) (kind : BridgeKind) (first second : Shown) (m p : List ℕ) → f ≡ fault.Bridge a c kind
-      → ((j : ℕ) → j < 512 → captures t (pattern_of b j) ≡ true → lane m j ≡ are_opposite (good_value t (pattern_of b j) a) (bridged kind (good_value t (pattern_of b j) a) (good_value t (pattern_of b j) c)))
-      → ((j : ℕ) → j < 512 → captures t (pattern_of b j) ≡ true → lane p j ≡ are_opposite (good_value t (pattern_of b j) c) (bridged kind (good_value t (pattern_of b j) a) (good_value t (pattern_of b j) c)))
+      → ((j : ℕ) → j < 512 → captures t (pattern_of b j) ≡ true → lane m j ≡ mask t (fault.Bridge a c kind) (pattern_of b j) a)
+      → ((j : ℕ) → j < 512 → captures t (pattern_of b j) ≡ true → lane p j ≡ mask t (fault.Bridge a c kind) (pattern_of b j) c)
       → IsFlipOf t logs b a first → IsFlipOf t logs b c second
       → block_count (tallied (list_on Failing first) (lane m) + tallied (list_on Failing second) (lane p)) (tallied (list_on Passing first) (lane m) + tallied (list_on Passing second) (lane p)) ≡ count_in t logs b f
   bridge_count_is a c kind first second m p is at_first at_second flip other =
@@ -63,9 +59,9 @@ module _ (t : ScanTest) (sound : IsScanTest t) (order : List ℕ) (ordered : IsE
       let touches : touched_nets t f ≡ a ∷ c ∷ [] = ap (touched_nets t) is in
       let silent : (w k : ℕ) → straight t f w k ≡ false = λ w k. ap (λ (x : Fault). straight t x w k) is in
       let masked : (j : ℕ) → j < 512 → captures t (pattern_of b j) ≡ true → lane m j ≡ mask t f (pattern_of b j) a = λ j lt captured.
-      at_first j lt captured ∙ ap (λ (x : Bool). (x || eqb a c) && are_opposite (good_value t (pattern_of b j) a) (bridged kind (good_value t (pattern_of b j) a) (good_value t (pattern_of b j) c))) (sym (eq-eqb a a refl)) ∙ ap (λ (x : Fault). mask t x (pattern_of b j) a) (sym is) in
+      at_first j lt captured ∙ ap (λ (x : Fault). mask t x (pattern_of b j) a) (sym is) in
       let masked_too : (j : ℕ) → j < 512 → captures t (pattern_of b j) ≡ true → lane p j ≡ mask t f (pattern_of b j) c = λ j lt captured.
-      at_second j lt captured ∙ ap (λ (x : Bool). x && are_opposite (good_value t (pattern_of b j) c) (bridged kind (good_value t (pattern_of b j) a) (good_value t (pattern_of b j) c))) (sym (or_right (eqb c a) (eqb c c) (eq-eqb c c refl))) ∙ ap (λ (x : Fault). mask t x (pattern_of b j) c) (sym is) in
+      at_second j lt captured ∙ ap (λ (x : Fault). mask t x (pattern_of b j) c) (sym is) in
       let on : (side : Side) → tallied (list_on side first) (lane m) + tallied (list_on side second) (lane p) ≡ predicted_in t logs side f b = λ side.
       ap (λ (n : ℕ). n + tallied (list_on side second) (lane p)) (flip side (lane m)) ∙ ap (λ (n : ℕ). flip_sum t (counts_on t logs side) b a (lane m) + n) (other side (lane p))
       ∙ sym (two_nets t sound order ordered f there logic logs side b a c (lane m) (lane p) touches silent masked masked_too) in
