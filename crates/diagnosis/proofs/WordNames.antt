@@ -14,6 +14,7 @@ use Rattle.scan_model.specs.declared.parts.Pattern.{Pattern}
 use Rattle.scan_model.specs.declared.parts.Pairs.{Pairs}
 use Rattle.scan_model.specs.Netlist.{Netlist, no_net, net_at}
 use Rattle.scan_model.specs.ScanTest.{ScanTest, scan_test}
+use Rattle.scan_model.specs.declared.fault.Profile.TheVariants.{One}
 use Rattle.scan_model.specs.Lines.{text_lines, is_blank, without_comment}
 use Rattle.scan_model.specs.Words.{words, word_lines, has_word, is_filled, is_name_byte, is_short, is_short_name}
 use Rattle.scan_model.specs.TextFaults.{first_fault, refused_or}
@@ -115,7 +116,7 @@ scan_word_names nets bytes cs e =
 
 -- ---- the scan test
 
-parts_named : (c : Netlist) (cs : List Chain) (patterns : List Pattern) (pairs : Pairs) (t : ScanTest) → scan_test c cs patterns pairs ≡ t
+parts_named : (c : Netlist) (cs : List Chain) (patterns : List Pattern) (pairs : Pairs) (t : ScanTest) → scan_test One c cs patterns pairs ≡ t
     → All (λ n. IsTrue (is_word_name n.name)) c.nets → All (λ n. IsTrue (is_word_name (net_at c n).name)) c.outputs → All HasWordName cs → HasWordNames t
 parts_named c cs patterns pairs t whole nets outputs named = subst HasWordNames whole (record { nets = nets; outputs = outputs; chains = named })
 

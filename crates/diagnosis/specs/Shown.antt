@@ -3,6 +3,7 @@ use Rattle.std.specs.Prelude.{◌≡◌, ℕ, List, Result, Ok, Err}
 use Rattle.text_parts.specs.declared.fault.ReadFault.{ReadFault}
 use Rattle.scan_model.specs.Netlist.{Netlist}
 use Rattle.scan_model.specs.ScanTest.{scan_test}
+use Rattle.scan_model.specs.declared.fault.Profile.TheVariants.{One}
 use Rattle.diagnosis.specs.declared.texts.Judged.{Judged}
 use Rattle.diagnosis.specs.declared.texts.OverCircuit.{OverCircuit}
 use Rattle.diagnosis.specs.declared.texts.ReadDesign.{ReadDesign}
@@ -17,7 +18,7 @@ shown_text shows j = (shows j.text, j.value)
 abbrev pub shown_over : {T : Type 0} → (T → List ℕ) → List ℕ × Netlist → OverCircuit T → ReadTexts
 shown_over shows c over = record {
   texts = four c.0 (shows over.chains.text) (shows over.patterns.text) (shows over.pairs.text);
-  test = scan_test c.1 over.chains.value over.patterns.value over.pairs.value;
+  test = scan_test One c.1 over.chains.value over.patterns.value over.pairs.value;
 }
 
 abbrev pub shown_design : {T : Type 0} → (T → List ℕ) → ReadDesign T → ReadTexts

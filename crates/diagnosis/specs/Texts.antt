@@ -5,6 +5,7 @@ use Rattle.scan_model.specs.declared.parts.Pattern.{Pattern}
 use Rattle.scan_model.specs.declared.parts.Pairs.{Pairs}
 use Rattle.scan_model.specs.Netlist.{Netlist}
 use Rattle.scan_model.specs.ScanTest.{ScanTest, scan_test}
+use Rattle.scan_model.specs.declared.fault.Profile.TheVariants.{One}
 use Rattle.scan_model.specs.NetlistText.{netlist_reading}
 use Rattle.scan_model.specs.ScanText.{scan_reading}
 use Rattle.scan_model.specs.PatternText.{pattern_frame, pattern_reading}
@@ -106,7 +107,7 @@ module _ {N R : Type 0} (source : Source N R) where
   abbrev pub with_patterns : List ℕ × Netlist → List ℕ × List Chain → List ℕ × List Pattern → Reading N R ReadTexts
   with_patterns c chains patterns = and_then (neighbour_text c.1) (λ pairs. value (record {
     texts = record { netlist = c.0; scan = chains.0; patterns = patterns.0; neighbours = pairs.0 };
-    test = scan_test c.1 chains.1 patterns.1 pairs.1;
+    test = scan_test One c.1 chains.1 patterns.1 pairs.1;
   }))
 
   abbrev pub with_chains : List ℕ × Netlist → List ℕ × List Chain → Reading N R ReadTexts

@@ -3,6 +3,7 @@ ghost use Rattle.std.specs.Prelude.{◌≡◌, ◌≤◌, Ok, IfOk, IfErr, true,
 ghost use Rattle.desk_outside.specs.Faults.{Rose};
 ghost use Rattle.scan_model.specs.Circuits.{IsCircuit};
 ghost use Rattle.scan_model.specs.ScanTest.{AreChains, ArePatterns, ArePairs, scan_test};
+ghost use Rattle.scan_model.specs.declared.fault.Profile.TheVariants as profile;
 ghost use Rattle.scan_model.specs.NetlistText.{netlist_reading};
 ghost use Rattle.scan_model.specs.ScanText.{net_names, scan_reading};
 ghost use Rattle.scan_model.specs.PatternText.{pattern_frame, pattern_reading};
@@ -19,7 +20,7 @@ use crate::bundle::Sections;
 use crate::section::{BundleFault, DesignText};
 use crate::source::TextSource;
 use bench_reader::{NamedCircuit, read_netlist_named};
-use scan_model::{Chain, Circuit, NoMemory, Pairs, Parts, Pattern, Rows};
+use scan_model::{Chain, Circuit, NoMemory, Pairs, Parts, Pattern, Profile, Rows};
 use std::alloc::Global;
 use text_parts::{Names, ReadFault};
 
@@ -240,7 +241,7 @@ fn whole<T: Drop>(alloc: Global, netlist: T, behind: Behind<T>) -> Result<ReadDe
     requires patterns { ArePatterns behind.circuit behind.over.chains.value behind.over.patterns.value }
     requires pairs { ArePairs behind.circuit behind.over.pairs.value }
     ensures texts { IfOk result (λ d. (d.netlist ≡ netlist) × (d.scan ≡ behind.over.chains.text) × (d.patterns ≡ behind.over.patterns.text) × (d.neighbours ≡ behind.over.pairs.text)) }
-    ensures parts { IfOk result (λ d. d.parts ≡ scan_test behind.circuit behind.over.chains.value behind.over.patterns.value behind.over.pairs.value) }
+    ensures parts { IfOk result (λ d. d.parts ≡ scan_test profile.One behind.circuit behind.over.chains.value behind.over.patterns.value behind.over.pairs.value) }
 {
     let Behind { circuit, over } = behind;
     let OverCircuit {
@@ -248,7 +249,14 @@ fn whole<T: Drop>(alloc: Global, netlist: T, behind: Behind<T>) -> Result<ReadDe
         patterns,
         pairs,
     } = over;
-    let parts = Parts::make(alloc, circuit, chains.value, patterns.value, pairs.value)?;
+    let parts = Parts::make(
+        alloc,
+        Profile::One,
+        circuit,
+        chains.value,
+        patterns.value,
+        pairs.value,
+    )?;
     Ok(ReadDesign {
         netlist,
         scan: chains.text,
