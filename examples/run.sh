@@ -12,13 +12,13 @@ trap 'rm -rf "$work"' EXIT
 runs=0
 wrong=0
 
-# expect STATUS FILE WORD..: the program ends with the status and prints the file.
+# expect STATUS FILE WORD..: the program ends with the status within a minute, and prints the file.
 expect() {
     status=$1
     expected=$2
     shift 2
     runs=$((runs + 1))
-    "$program" "$@" >"$work/printed"
+    timeout 60 "$program" "$@" >"$work/printed"
     ended=$?
     if [ "$ended" -ne "$status" ] || ! cmp -s "$work/printed" "$expected"; then
         wrong=$((wrong + 1))
@@ -43,7 +43,7 @@ the_day() {
     expect 0 report.expected diagnose block wafer3.17 block.bench block.scan block.pat block.csv second.log first.log second.log
     expect 0 demo.expected demo 7 2
     expect 0 demo.expected demo 7 2
-    # 23,000 nets and 512 patterns, for which plain simulation would take hours.
+    # 23,000 nets and 512 patterns, for which plain simulation would take hours: it is cut off.
     expect 0 demo-large.expected demo 7 200
     expect 0 demo-large.expected demo 7 200
 }

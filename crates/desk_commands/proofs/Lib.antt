@@ -1,14 +1,6 @@
 pub mod FilePlaces
-pub mod DemoLines
-pub mod DemoLog
 pub mod DemoOutput
-pub mod DemoPlaces
-pub mod DemoView
-pub mod FirstPlace
 pub mod Pages
-pub mod MorePieces
-pub mod MoreDraws
-pub mod GateLines
 pub mod WordFacts
 pub mod PlainWords
 pub mod Assigned

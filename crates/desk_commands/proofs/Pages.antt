@@ -2,15 +2,13 @@
 use Rattle.std.proofs.Common.{◌≡◌, ◌≢◌, ◌∙◌, inl, inr, List, ℕ, true, refl, sym, arith, Result, Ok, Err}
 use Rattle.std.specs.Prelude.{IfOk}
 use Rattle.scan_model.specs.declared.rows.NoMemory.{NoMemory}
-use Rattle.scan_model.specs.ScanTest.{ScanTest}
 use Rattle.diagnosis.specs.declared.section.Section.{Section}
-use Rattle.diagnosis.specs.Bundle.{texts_reading}
 use Rattle.desk_commands.specs.declared.files.Stop.{Stop}
 use Rattle.desk_commands.specs.declared.files.Stop.TheVariants.{Refused, Fault, NoMemory as LacksMemory}
 use Rattle.desk_commands.specs.declared.page.Page.{Page}
 use Rattle.desk_commands.specs.Reading.{Reading}
 use Rattle.desk_commands.specs.Work.{Output, output_of}
-use Rattle.desk_commands.specs.Made.{made_texts}
+use Rattle.made_designs.specs.Demo.{demo_reading}
 use Rattle.desk_commands.specs.Demo.{demo_of, demo_output}
 use Rattle.desk_commands.specs.Stops.{Follows, IsPageOf, IsPageOfAnswer, is_fault, ends_by_fault}
 use Rattle.desk_commands.specs.Ending.{IsDueOf, IsOfPage}
@@ -44,14 +42,14 @@ output_is_due output rose (Err e) status text = tt
 
 -- ---- the page of a made design, whose status is 0 or 3
 
-other_status : (seed blocks other : ℕ) → 0 ≢ other → 3 ≢ other → (reading : Result ScanTest (Section × (ℕ × ℕ))) → (demo_of seed blocks reading).status ≢ other
-other_status seed blocks other zero three (Ok t) = zero
-other_status seed blocks other zero three (Err refused) = three
+other_status : (other : ℕ) → 0 ≢ other → 3 ≢ other → (reading : Result (List ℕ) (Section × (ℕ × ℕ))) → (demo_of reading).status ≢ other
+other_status other zero three (Ok text) = zero
+other_status other zero three (Err refused) = three
 
 module _ (seed blocks : ℕ) where
   never : (other : ℕ) → 0 ≢ other → 3 ≢ other → (made : Result Page NoMemory) → IfOk made (λ page. page.status ≡ (demo_output seed blocks).status)
       → IfOk made (λ page. page.status ≢ other)
-  never other zero three (Ok page) is = λ e. other_status seed blocks other zero three (texts_reading (made_texts seed blocks)) (sym is ∙ e)
+  never other zero three (Ok page) is = λ e. other_status other zero three (demo_reading seed blocks) (sym is ∙ e)
   never other zero three (Err e) is = tt
 
   pub demo_not_wrong : (made : Result Page NoMemory) → IfOk made (λ page. page.status ≡ (demo_output seed blocks).status) → IfOk made (λ page. page.status ≢ 2)

@@ -1,14 +1,7 @@
 pub mod Words
 pub mod Reading
 pub mod Work
-pub mod Draws
-pub mod MadeNetlist
-pub mod MadeScan
-pub mod MadePatterns
-pub mod MadePairs
-pub mod Made
 pub mod Demo
-pub mod Injected
 pub mod Commands
 pub mod Requests
 pub mod Stops

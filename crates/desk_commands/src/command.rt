@@ -1,4 +1,5 @@
 //! The commands that right words name.
+use made_designs::Demo;
 
 /// The names of the four files of a design.
 #[derive(Clone, Copy)]
@@ -16,14 +17,6 @@ pub struct Diagnose<'a> {
     pub die: &'a str,
     pub files: DesignFiles<'a>,
     pub logs: Vec<&'a str>,
-}
-
-/// A design that is made.
-#[derive(Clone, Copy)]
-pub struct Demo {
-    pub seed: u32,
-    /// From 1 to 200.
-    pub blocks: u32,
 }
 
 /// What the program is asked for.

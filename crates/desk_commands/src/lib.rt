@@ -5,13 +5,10 @@ mod command;
 mod commands;
 mod design;
 mod files;
-mod generator;
 mod page;
 mod words;
 
-pub use command::{Command, Demo, DesignFiles, Diagnose};
+pub use command::{Command, DesignFiles, Diagnose};
 pub use commands::page_of_command;
-pub use generator::draws::Draws;
-pub use generator::{Made, made_design};
 pub use page::Page;
 pub use words::{argument, begins, command_of, matches_of, number_in, text_of, word};

@@ -2,8 +2,8 @@
 
 use super::counts::is_equal;
 use super::designs::design_of_bytes;
-use desk_commands::made_design;
 use diagnosis::{BundleFault, Design};
+use made_designs::made_design;
 use std::alloc::Global;
 
 /// Fails of outputs of both blocks and of cells, in two words of patterns.

@@ -1,29 +1,11 @@
 //! `demo`: a design that is made, a fault that is put into it, and its diagnosis.
-mod diagnosed;
-mod injected;
-mod lines;
+ghost use Rattle.std.specs.Prelude.{◌≡◌, ◌≤◌, IfOk};
+ghost use Rattle.desk_commands.specs.Demo.{IsRefusal, demo_output, section_word};
 
-ghost use Rattle.std.specs.Prelude.{◌≡◌, ◌≤◌, ◌<◌, ◌++◌, ◌∷◌, [], Some, Ok, IfOk, IfErr, OnOk, IfSome, length, codes, decimal};
-ghost use Rattle.hex.specs.Hex.{encode_lower};
-ghost use Rattle.sha2.specs.Sha256.{sha256};
-ghost use Rattle.scan_model.specs.Universe.{universe};
-ghost use Rattle.scan_model.specs.ReportText as text_of;
-ghost use Rattle.diag_report.specs.PredictedLog.{HasWordNames, fault_of};
-ghost use Rattle.diag_report.specs.Summary.{count_line};
-ghost use Rattle.diagnosis.specs.Bundle.{texts_reading};
-ghost use Rattle.diagnosis.specs.Reading.{RefusedBy};
-ghost use Rattle.desk_commands.specs.Demo.{demo_output, injected_lines, rank_lines, section_word};
-ghost use Rattle.desk_commands.specs.Injected.{IsDemoCase, IsFound, IsAfterTexts, IsText, IsRefusal, place_of, texts_of};
-
-use crate::command::Demo;
-use crate::commands::demo::diagnosed::diagnosis_of;
-use crate::commands::demo::injected::{Injected, inject};
-use crate::commands::demo::lines::{add_count, add_digest, add_head, add_injected, add_rank};
-use crate::generator::draws::Draws;
-use crate::generator::{Made, made_design};
 use crate::page::{Page, line_page, rule_line};
-use diagnosis::{BundleFault, Case, Diagnosis, Section, parts_of};
-use scan_model::{Name, NoMemory, Parts, Rows};
+use diagnosis::{BundleFault, Section};
+use made_designs::{Demo, demo_text};
+use scan_model::NoMemory;
 use std::alloc::Global;
 use std::thread::Threads;
 
@@ -53,156 +35,14 @@ fn refused_page(alloc: Global, fault: BundleFault) -> Result<Page, NoMemory>
     }
 }
 
-// Adds the lines of the fault that is put in.
-fn add_fault(
-    alloc: Global,
-    text: &mut Name,
-    parts: &Parts,
-    injected: &Injected,
-) -> Result<(), NoMemory>
-    requires { injected.now.place < length (universe parts.now) }
-    ensures { OnOk result (text.new ≡ (text.old ++ text_of.line (codes "injected" ∷ decimal injected.now.place ∷ text_of.fault_words parts.now (fault_of parts.now injected.now.place)))
-        ++ count_line (codes "fails") (length injected.now.log.facts.fails)) }
-{
-    add_injected(alloc, text, parts, injected.place)?;
-    add_count(
-        alloc,
-        text,
-        "fails",
-        injected.log.facts().fails.len() as u64,
-    )
-}
-
-// Adds the lines of a diagnosis: where the fault at the place stands among the candidates, and the digest of the report.
-fn add_ranking(
-    alloc: Global,
-    text: &mut Name,
-    diagnosis: &Diagnosis,
-    place: u32,
-) -> Result<(), NoMemory>
-    ensures { OnOk result (text.new ≡ ((text.old ++ count_line (codes "candidates") (length diagnosis.now.candidates))
-        ++ text_of.joined (rank_lines diagnosis.now.candidates place))
-        ++ text_of.line (codes "digest" ∷ encode_lower (sha256 (text_of.joined diagnosis.now.report)) ∷ [])) }
-{
-    let candidates = &diagnosis.candidates;
-    add_count(alloc, text, "candidates", candidates.len() as u64)?;
-    add_rank(alloc, text, candidates.as_slice(), place)?;
-    add_digest(text, diagnosis.report.bytes())
-}
-
-// Adds the lines of the fault that is put in and of its diagnosis, for which its log is added to the die.
-fn add_diagnosis<R: Threads + Sync>(
-    rt: &R,
-    alloc: Global,
-    text: &mut Name,
-    case: &mut Case,
-    injected: Injected,
-) -> Result<(), NoMemory>
-    requires case { IsDemoCase case.old }
-    requires found { IsFound case.old.test injected }
-    ensures { OnOk result (text.new ≡ text.old ++ text_of.joined (injected_lines case.old.test (Some injected.place))) }
-{
-    let place = injected.place;
-    add_fault(alloc, text, case.parts(), &injected)?;
-    let diagnosis = diagnosis_of(rt, alloc, case, injected)?;
-    add_ranking(alloc, text, &diagnosis, place)
-}
-
-// Adds the lines of what was found.
-fn add_found<R: Threads + Sync>(
-    rt: &R,
-    alloc: Global,
-    text: &mut Name,
-    case: &mut Case,
-    injected: Option<Injected>,
-) -> Result<(), NoMemory>
-    requires case { IsDemoCase case.old }
-    requires found { IfSome injected (IsFound case.old.test) }
-    ensures { OnOk result (text.new ≡ text.old ++ text_of.joined (injected_lines case.old.test (place_of injected))) }
-{
-    match injected {
-        None => text.append(b"injected none\n"),
-        Some(injected) => add_diagnosis(rt, alloc, text, case, injected),
-    }
-}
-
-// The text over the die of the design that was made, with the draws that come after its texts.
-fn text_over<R: Threads + Sync>(
-    rt: &R,
-    alloc: Global,
-    demo: Demo,
-    case: &mut Case,
-    draws: &mut Draws,
-) -> Result<Name, NoMemory>
-    requires case { IsDemoCase case.old }
-    requires names { HasWordNames case.old.test }
-    requires draws { IsAfterTexts demo.seed demo.blocks draws.old.state }
-    ensures { IfOk result (IsText demo.seed demo.blocks case.old.test) }
-{
-    let mut text = Rows::new(alloc);
-    add_head(alloc, &mut text, demo, case.parts())?;
-    let injected = inject(alloc, case, draws)?;
-    add_found(rt, alloc, &mut text, case, injected)?;
-    Ok(text)
-}
-
-// The text of the design that was made.
-fn text_of_design<R: Threads + Sync>(
-    rt: &R,
-    alloc: Global,
-    demo: Demo,
-    parts: Parts,
-    draws: &mut Draws,
-) -> Result<Name, NoMemory>
-    requires names { HasWordNames parts }
-    requires draws { IsAfterTexts demo.seed demo.blocks draws.old.state }
-    ensures { IfOk result (IsText demo.seed demo.blocks parts) }
-{
-    let mut case = Case::make(alloc, b"demo", b"demo", parts)?;
-    text_over(rt, alloc, demo, &mut case, draws)
-}
-
-// The page of the design that was made.
-fn page_of_design<R: Threads + Sync>(
-    rt: &R,
-    alloc: Global,
-    demo: Demo,
-    parts: Parts,
-    draws: &mut Draws,
-) -> Result<Page, NoMemory>
-    requires names { HasWordNames parts }
-    requires draws { IsAfterTexts demo.seed demo.blocks draws.old.state }
-    ensures status { IfOk result (λ page. page.status ≡ 0) }
-    ensures text { IfOk result (λ page. IsText demo.seed demo.blocks parts page.text) }
-{
-    let text = text_of_design(rt, alloc, demo, parts, draws)?;
-    Ok(Page { status: 0, text })
-}
-
-// The scan test of the texts that were made.
-fn read_made(alloc: Global, made: &Made) -> Result<Parts, BundleFault>
-    ensures stands { IfOk result (λ parts. texts_reading (texts_of made.now) ≡ Ok parts) }
-    ensures names { IfOk result HasWordNames }
-    ensures fault { IfErr result (RefusedBy (texts_reading (texts_of made.now))) }
-{
-    parts_of(
-        alloc,
-        made.netlist.as_slice(),
-        made.scan.as_slice(),
-        made.patterns.as_slice(),
-        made.neighbours.as_slice(),
-    )
-}
-
 /// The page of a made design.
 pub fn demo_page<R: Threads + Sync>(rt: &R, alloc: Global, demo: Demo) -> Result<Page, NoMemory>
     requires { demo.blocks ≤ 200 }
     ensures status { IfOk result (λ page. page.status ≡ (demo_output demo.seed demo.blocks).status) }
     ensures text { IfOk result (λ page. page.text ≡ (demo_output demo.seed demo.blocks).text) }
 {
-    let mut made = made_design(alloc, demo.seed, demo.blocks)?;
-    match read_made(alloc, &made) {
-        Ok(parts) => page_of_design(rt, alloc, demo, parts, &mut made.draws),
+    match demo_text(rt, alloc, demo) {
+        Ok(text) => Ok(Page { status: 0, text }),
         Err(fault) => refused_page(alloc, fault),
     }
 }

@@ -7,8 +7,9 @@ ghost use Rattle.desk_commands.specs.Words.{is_plain_word, names_from, number_at
 ghost use Rattle.desk_commands.specs.Requests.{named_files, said};
 ghost use Rattle.desk_commands.specs.Assigned.{argument, arguments, diagnose, demo, text_of, texts_of, names_in, request_in, with_files};
 
-use crate::command::{Demo, DesignFiles, Diagnose};
+use crate::command::{DesignFiles, Diagnose};
 use clap::{Arg, ArgMatches};
+use made_designs::Demo;
 use scan_model::NoMemory;
 use std::alloc::{AllocError, Global};
 use text_parts::number_of;

@@ -1,22 +1,14 @@
-use Rattle.desk_commands.specs.Injected.{texts_of}
-use Rattle.desk_commands.proofs.DemoOutput.{status_read, text_read, status_refused, text_refused}
+use Rattle.desk_commands.proofs.DemoOutput.{status_made, text_made, status_refused, text_refused}
 use Rattle.desk_commands.proofs.commands.demo.demo_page.Goals as goal
 
-pub page_of_design-requires-clause-draws : goal.page_of_design-requires-clause-draws
-page_of_design-requires-clause-draws g c κs within = record { is = c.in_ok-made.ensures.draws }
-
 pub returns-in-Ok-clause-status : goal.returns-in-Ok-clause-status
-returns-in-Ok-clause-status g c =
-    status_read c.args.demo.seed c.args.demo.blocks (texts_of c.in_ok-made.made) c.in_ok-made.ensures.texts c.page_of_design.result c.in-Ok.parts c.in-Ok.ensures.stands c.page_of_design.ensures.status
+returns-in-Ok-clause-status g c = status_made c.args.demo.seed c.args.demo.blocks c.in-Ok.text c.in-Ok.ensures.text
 
 pub returns-in-Ok-clause-text : goal.returns-in-Ok-clause-text
-returns-in-Ok-clause-text g c =
-    text_read c.args.demo.seed c.args.demo.blocks (texts_of c.in_ok-made.made) c.in_ok-made.ensures.texts c.page_of_design.result c.in-Ok.parts c.in-Ok.ensures.stands c.page_of_design.ensures.text
+returns-in-Ok-clause-text g c = text_made c.args.demo.seed c.args.demo.blocks c.in-Ok.text c.in-Ok.ensures.text
 
-pub returns-clause-status : goal.returns-clause-status
-returns-clause-status g c =
-    status_refused c.args.demo.seed c.args.demo.blocks (texts_of c.in_ok-made.made) c.in_ok-made.ensures.texts c.refused_page.result c.in-Err.fault c.in-Err.ensures.fault c.refused_page.ensures
+pub returns-in-Err-clause-status : goal.returns-in-Err-clause-status
+returns-in-Err-clause-status g c = status_refused c.args.demo.seed c.args.demo.blocks c.refused_page.result c.in-Err.fault c.in-Err.ensures.fault c.refused_page.ensures
 
-pub returns-clause-text : goal.returns-clause-text
-returns-clause-text g c =
-    text_refused c.args.demo.seed c.args.demo.blocks (texts_of c.in_ok-made.made) c.in_ok-made.ensures.texts c.refused_page.result c.in-Err.fault c.in-Err.ensures.fault c.refused_page.ensures
+pub returns-in-Err-clause-text : goal.returns-in-Err-clause-text
+returns-in-Err-clause-text g c = text_refused c.args.demo.seed c.args.demo.blocks c.refused_page.result c.in-Err.fault c.in-Err.ensures.fault c.refused_page.ensures

@@ -1,7 +1,0 @@
-use Rattle.std.proofs.Common.{refl, arith}
-use Rattle.desk_commands.specs.MadeNetlist.{block_inputs}
-use Rattle.desk_commands.proofs.MorePieces.{line_added}
-use Rattle.desk_commands.proofs.generator.netlist.push_all_inputs.Goals as goal
-
-pub loop-block-preserved : goal.loop-block-preserved
-loop-block-preserved c = line_added block_inputs c.args.text.now _ _ _ 0 c.loop-block.block c.loop-block.block (omega arith) c.loop-block.invariant c.in_ok-push_inputs.ensures refl

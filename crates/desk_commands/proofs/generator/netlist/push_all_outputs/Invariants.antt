@@ -1,8 +1,0 @@
-use Rattle.std.proofs.Common.{◌≡◌, ◌++◌}
-use Rattle.std.specs.Prelude.{flat_map}
-use Rattle.std.specs.List.{range_with_len}
-use Rattle.desk_commands.specs.MadeNetlist.{block_outputs}
-use Rattle.desk_commands.proofs.generator.netlist.push_all_outputs.Given as goal
-
-abbrev pub invariant-loop-block : goal.invariant-loop-block
-invariant-loop-block l = l.text ≡ l.initial.text ++ flat_map block_outputs (range_with_len 0 l.block)

@@ -1,8 +1,0 @@
-use Rattle.std.proofs.Common.{arith}
-use Rattle.std.specs.Prelude.{codes}
-use Rattle.desk_commands.specs.MadePairs.{pair_line}
-use Rattle.desk_commands.proofs.MorePieces.{one_more}
-use Rattle.desk_commands.proofs.generator.pairs.made_pairs.Goals as goal
-
-pub loop-block-preserved : goal.loop-block-preserved
-loop-block-preserved c = one_more pair_line 0 c.loop-block.block c.loop-block.block (codes "net_a,net_b\n") _ _ (omega arith) c.loop-block.invariant c.in_ok-push_pair.ensures

@@ -1,8 +1,0 @@
-use Rattle.std.proofs.Common.{◌≡◌, ◌++◌}
-use Rattle.std.specs.Prelude.{flat_map, codes}
-use Rattle.std.specs.List.{range_with_len}
-use Rattle.desk_commands.specs.MadePairs.{pair_line}
-use Rattle.desk_commands.proofs.generator.pairs.made_pairs.Given as goal
-
-abbrev pub invariant-loop-block : goal.invariant-loop-block
-invariant-loop-block l = l.text ≡ codes "net_a,net_b\n" ++ flat_map pair_line (range_with_len 0 l.block)

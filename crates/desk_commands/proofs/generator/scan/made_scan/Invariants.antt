@@ -1,8 +1,0 @@
-use Rattle.std.proofs.Common.{◌≡◌}
-use Rattle.std.specs.Prelude.{flat_map}
-use Rattle.std.specs.List.{range_with_len}
-use Rattle.desk_commands.specs.MadeScan.{chain_line}
-use Rattle.desk_commands.proofs.generator.scan.made_scan.Given as goal
-
-abbrev pub invariant-loop-chain : goal.invariant-loop-chain
-invariant-loop-chain l = l.text ≡ flat_map (chain_line l.blocks) (range_with_len 0 l.chain)

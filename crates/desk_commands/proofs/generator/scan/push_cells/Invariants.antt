@@ -1,8 +1,0 @@
-use Rattle.std.proofs.Common.{◌≡◌, ◌++◌}
-use Rattle.std.specs.Prelude.{flat_map}
-use Rattle.std.specs.List.{range_with_len}
-use Rattle.desk_commands.specs.MadeScan.{cell_word}
-use Rattle.desk_commands.proofs.generator.scan.push_cells.Given as goal
-
-abbrev pub invariant-loop-cell : goal.invariant-loop-cell
-invariant-loop-cell l = l.text ≡ l.fn.text ++ flat_map (cell_word l.block) (range_with_len 0 l.cell)

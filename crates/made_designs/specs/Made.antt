@@ -1,0 +1,19 @@
+-- The texts of the design that the generator makes, and the draw that comes after them.
+use Rattle.std.specs.Prelude.{ℕ}
+use Rattle.diagnosis.specs.Texts.{FourTexts}
+use Rattle.made_designs.specs.MadeNetlist.{made_netlist}
+use Rattle.made_designs.specs.MadeScan.{made_scan}
+use Rattle.made_designs.specs.MadePatterns.{made_patterns, first_draw}
+use Rattle.made_designs.specs.MadePairs.{made_pairs}
+
+abbrev pub made_texts : ℕ → ℕ → FourTexts
+made_texts seed blocks = record {
+  netlist = made_netlist seed blocks;
+  scan = made_scan blocks;
+  patterns = made_patterns seed blocks;
+  neighbours = made_pairs blocks;
+}
+
+-- how many draws the texts take
+abbrev pub text_draws : ℕ → ℕ
+text_draws blocks = first_draw blocks 512
