@@ -1,22 +1,24 @@
 -- A seat of a shared desk as a seat that sessions ask.
-use Rattle.std.proofs.Common.{◌≡◌, ℕ, ◌+◌, ◌≤◌, ◌==◌, List, [], ◌++◌, length, filter, Result, Ok, Err, refl, sym, ap, subst, ◌∙◌, arith, append-nil}
+use Rattle.std.proofs.Common.{◌≡◌, ℕ, ◌+◌, ◌≤◌, ◌==◌, List, [], ◌++◌, length, filter, Some, Result, Ok, Err, refl, sym, ap, subst, ◌∙◌, arith, append-nil}
 use Rattle.std.specs.Prelude.{drop}
 use Rattle.std.proofs.lemmas.List.{drop-append-le, append_cancel_left}
 use Rattle.std.proofs.Math.Seq.{drop-append_seam}
 use Rattle.std.proofs.lemmas.List.Sums.{length-filter}
 use Rattle.std.proofs.lemmas.List.Elements.{filter-append}
 use mathlib.Core.List.{IsPrefix as Begins}
+use Rattle.scan_model.specs.ScanTest.{ScanTest}
 use Rattle.desk_outside.specs.declared.deed.Deed.{Deed}
 use Rattle.diagnosis.specs.declared.put.Put.{Put}
 use Rattle.diagnosis.specs.declared.put.Put.TheVariants.{Created, Same}
+use Rattle.diagnosis.specs.Designs.{ReadLogFacts, StandsOver}
 use Rattle.book.specs.declared.answers.PutFault.{PutFault}
 use Rattle.book.specs.declared.answers.PutFault.TheVariants.{NameTaken, UnknownDesign, DigestDiffers, Full, Failed, NoMemory}
-use Rattle.book.specs.Changes.{after}
+use Rattle.book.specs.Changes.{after, StandsIn}
 use Rattle.shared_desk.specs.Entries.{mine_of, failed_of}
 use Rattle.shared_desk.specs.OpenBooks.{faults_after}
 use Rattle.shared_desk.specs.Seats.{DeskFacts, SeatFacts as DeskSeatFacts, mine, failed}
 use Rattle.shared_desk.specs.Calls.{SawMore, Changes, Looks}
-use Rattle.desk_http.specs.Seats.{IsPrefix, GrewBy, listed, of_number, gained, added, failed_in, Did, SeatChanged}
+use Rattle.desk_http.specs.Seats.{IsPrefix, GrewBy, of_number, gained, added, failed_in, Did, SeatChanged, IsLogIn}
 use Rattle.desk_http.specs.DeskSeats.{of_desk, IsSeatOf}
 
 -- ---- two ways to say it
@@ -60,8 +62,8 @@ mine_of_seat old new more le =
 counts : (number : ℕ) (faults : List ℕ) → failed_of number faults ≡ of_number number faults
 counts number faults = length-filter (λ k. k == number) faults
 
-grew_so : (number count : ℕ) (old new : List ℕ) → Begins old new → failed_of number new ≡ failed_of number old + count → GrewBy number count (listed old) (listed new)
-grew_so number count old new p is = (front_of old new p, omega (arith, is, counts number old, counts number new))
+grew_so : (number count : ℕ) (old new : List ℕ) → Begins old new → failed_of number new ≡ failed_of number old + count → GrewBy number count old new
+grew_so number count old new p is = record { prefix = front_of old new p; told = omega (arith, is, counts number old, counts number new) }
 
 -- ---- calls
 
@@ -74,7 +76,7 @@ did_so own count old new le more owns fails =
       limit = ap (λ (d : DeskFacts). d.limit) more.desk;
       seen = front_of old.seen new.seen more.seen;
       gained = gained_so old.desk.base old.number old.seen new.seen own le more.seen (sym same_mine ∙ owns);
-      failures = grew_so old.number count old.faults new.faults more.faults (sym same_failed ∙ fails);
+      faults = grew_so old.number count old.faults new.faults more.faults (sym same_failed ∙ fails);
       legal = λ is. more.legal;
     }
 
@@ -94,3 +96,12 @@ changes_so answer deed desk old new mark result same base changes =
 -- a look does nothing
 pub looks_so : (old new : DeskSeatFacts) (mark : ℕ) → old.desk.base ≤ length old.seen → Looks old new mark → Did [] 0 (of_desk old) (of_desk new)
 looks_so old new mark base looks = did_so [] 0 old new base looks.more (looks.own ∙ sym (append-nil (mine old))) (looks.own_faults ∙ omega arith)
+
+-- ---- logs
+
+some_same : (a b : ScanTest) → Some a ≡ Some b → a ≡ b
+some_same a b e = cc
+
+-- a log that stands for its facts at its design stands in the book
+pub log_stands : (deeds : List Deed) (log : ReadLogFacts) → IsLogIn deeds log → StandsIn deeds log
+log_stands deeds log (t, found, stands) u is = subst (λ test. StandsOver test log) (some_same t u (sym found ∙ is)) stands

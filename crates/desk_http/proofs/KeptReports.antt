@@ -4,11 +4,11 @@ use Rattle.desk_outside.specs.declared.deed.Deed.{Deed}
 use Rattle.diagnosis.specs.Designs.{ViewFacts}
 use Rattle.book.specs.Changes.{IsViewIn}
 use Rattle.shared_desk.proofs.StandsLonger.{view_longer}
-use Rattle.report_cache.specs.Truth.{KeptReport, IsTrueFor}
+use Rattle.report_cache.specs.Truth.{CacheFacts, IsTrueFor}
 use Rattle.report_cache.proofs.Longer.{true_longer}
 use Rattle.desk_http.specs.Seats.{IsPrefix}
 
-pub true_after : (cache : List KeptReport) (deeds later : List Deed) → IsPrefix deeds later → IsTrueFor cache deeds → IsTrueFor cache later
+pub true_after : (cache : CacheFacts) (deeds later : List Deed) → IsPrefix deeds later → IsTrueFor cache deeds → IsTrueFor cache later
 true_after cache deeds later p is = subst (IsTrueFor cache) (sym p.1) (true_longer cache deeds p.0 is)
 
 pub view_after : (deeds later : List Deed) (v : ViewFacts) → IsPrefix deeds later → IsViewIn deeds v → IsViewIn later v

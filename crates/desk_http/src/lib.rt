@@ -21,5 +21,5 @@ pub use routes::Routes;
 pub use routes::resource::Resource;
 pub use sessions::desk_session::{serve_door, session};
 pub use sessions::requests::{SessionEnd, SessionNote, session_at};
-pub use sessions::seat::{Alone, SeatAt};
+pub use sessions::seat::SeatAt;
 pub use sessions::serve::{Served, serve_door_at};

@@ -103,11 +103,6 @@ module _ {K : Type 0} (rows_of : K → Option (List Deed)) (faults_of : K → �
       → new ≡ Some (was_kept told store deeds deeds (faults_of k))
   came_back k before home same = home (keeper_handed told store deeds) deeds handed (same.0 ∙ are)
 
-  pub unused_home : (keeper : Option K) (before : ℕ) → ((t : CabinetTold) (ds : List Deed) → mid ≡ Some t → IfSome keeper (λ k. rows_of k ≡ Some ds → new ≡ Some (keeper_home t ds (faults_of k)))) → (keeper ≡ None → new ≡ mid)
-      → IfSome keeper (λ k. (rows_of k ≡ rows) × (before ≤ faults_of k)) → IsUnused store told new
-  unused_home None before home none same = inr (inl (deeds, none refl ∙ handed))
-  unused_home (Some k) before home none same = inr (inr (deeds, faults_of k, came_back k before home same))
-
   pub surely_home : (keeper : Option K) (before : ℕ) → IsSome keeper → ((t : CabinetTold) (ds : List Deed) → mid ≡ Some t → IfSome keeper (λ k. rows_of k ≡ Some ds → new ≡ Some (keeper_home t ds (faults_of k))))
       → IfSome keeper (λ k. (rows_of k ≡ rows) × (before ≤ faults_of k)) → (faults : ℕ) × (new ≡ Some (was_kept told store deeds deeds faults))
   surely_home None before some home same = absurd (cc)
@@ -139,7 +134,7 @@ module _ (asked : Asked) (old new : Outside) (untouched : Type 0) (deeds : List 
       (record { before = deeds; after = book.deeds; served = were_served asked.workers 0 (HasAll asked) over; sessions_are = refl; deeds_are = refl }, refl) writes last
   opened_ended result mid mid_rose last_rose (Some NoMemory) on last (inl nothing) writes =
       ends_alone asked old new untouched result NoMemory
-      (inl (record { street = nothing.street; cabinet = λ told is. inr (inr (deeds, book.faults, subst (λ ds. new.cabinet ≡ Some (was_kept told asked.store deeds ds book.faults)) nothing.same (kept told is))) }, refl))
+      (inl (record { street = nothing.street; cabinet = λ told is. inr (deeds, book.faults, subst (λ ds. new.cabinet ≡ Some (was_kept told asked.store deeds ds book.faults)) nothing.same (kept told is)) }, refl))
       (only_rose (subst (λ w. Writes NoMemory (line_of NoMemory) result w new.written last_rose) nothing.unwritten writes) last)
   opened_ended result mid mid_rose last_rose (Some NoMemory) on last (inr (unserved, some, over, wrote)) writes =
       ends_after asked old new untouched result NoMemory mid last_rose wrote

@@ -74,7 +74,7 @@ door_served desk sessions i before after w limited base is fresh tells worked ow
         faults_are = refl;
       },
       subst (λ n. faults ≤ failed (record { desk = w.seat.desk; number = n; seen = w.seat.seen; faults = w.seat.faults })) (sym did.number)
-          (let grew = did.failures.1 in omega (arith, grew, length-filter (λ k. k == w.seat_before.number) w.seat.faults)),
+          (let grew = did.faults.told in omega (arith, grew, length-filter (λ k. k == w.seat_before.number) w.seat.faults)),
     )
 
 -- ---- all doors

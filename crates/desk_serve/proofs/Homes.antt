@@ -11,7 +11,6 @@ use Rattle.desk_outside.specs.Doors.{fresh_door}
 use Rattle.desk_outside.specs.Streets.{StreetTold}
 use Rattle.shared_desk.specs.Seats.{DeskFacts, SeatFacts as DeskSeatFacts, failed}
 use Rattle.shared_desk.specs.Starting.{fresh_seat, HasOwn}
-use Rattle.desk_http.specs.Seats.{listed}
 use Rattle.desk_http.proofs.SeatSteps.{prefix_same}
 use Rattle.desk_serve.specs.HomeDoors.{IsServedBy, AreServedBy}
 use Rattle.desk_serve.specs.Doors.{DoorFacts, IsFreshDoor, Tells, has_failed, told_or_fresh, home_of, with_doors_out, with_doors_home}
@@ -46,8 +45,8 @@ served_nothing : (i : ℕ) (deeds : List Deed) (given : List (List ℕ)) (done :
 served_nothing i deeds given done failed no_given no_done =
     subst (λ g. IsServedBy max_deeds i deeds deeds (record { given = g; done = done; failed = failed }) 0 0) (sym no_given)
     (subst (λ d. IsServedBy max_deeds i deeds deeds (record { given = []; done = d; failed = failed }) 0 0) (sym no_done) record {
-      old = record { seen = deeds; limit = max_deeds; number = i; failures = listed [] };
-      new = record { seen = deeds; limit = max_deeds; number = i; failures = listed [] };
+      old = record { seen = deeds; limit = max_deeds; number = i; faults = [] };
+      new = record { seen = deeds; limit = max_deeds; number = i; faults = [] };
       limited = refl;
       numbered = refl;
       first = refl;

@@ -1,7 +1,7 @@
 -- The seats when the sessions are over.
 use Rattle.std.proofs.Common.{◌≡◌, ◌<◌, ℕ, zero, suc, true, List, [], ◌∷◌, length, map, drop, Option, Some, refl, sym, ap, subst, ◌∙◌, arith}
 use Rattle.std.proofs.lemmas.List.{length-map}
-use Rattle.std.specs.Prelude.{All, slice_get}
+use Rattle.std.specs.Prelude.{All, None, option_map, slice_get}
 use Rattle.std.proofs.lemmas.List.Elements.{All-head, All-tail, All-cons, All-nil}
 use Rattle.desk_outside.specs.declared.deed.Deed.{Deed}
 use Rattle.book.specs.Legal.{is_legal}
@@ -113,18 +113,24 @@ prefix_after workers desk sessions seats after ws book some opened worked were a
     (λ s at. ap (λ (x : SeatFacts). x.seen) (opened.each 0 s (subst (λ l. slice_get l 0 ≡ Some s) were at)))
     (λ s at. finished.each 0 s (subst (λ l. slice_get l 0 ≡ Some s) are at))
 
+-- the deeds of a book whose keeper tells its rows are these
+told_deeds : (known : Option (List Deed)) (deeds rows : List Deed) → known ≡ option_map (λ (ds : List Deed). deeds) known → known ≡ Some rows → deeds ≡ rows
+told_deeds None deeds rows are is = absurd (cc)
+told_deeds (Some ds) deeds rows are is = cc
+
 -- a desk that was started was opened
 pub opened_of : (told : Option (List Deed)) (workers faults : ℕ) (desk : DeskFacts) (seats : List SeatFacts) → 0 < workers → IsStarted told max_deeds workers faults desk seats → (IsOpened workers desk seats) × ((rows : List Deed) → told ≡ Some rows → opened_deeds seats ≡ rows)
 opened_of told workers faults desk [] some started = absurd (omega (arith, some, started.seats, started.all.count))
 opened_of told workers faults desk (seat ∷ seats) some started =
-    let seen : seat.seen ≡ started.deeds = ap (λ (x : SeatFacts). x.seen) (started.each 0 seat refl) in (
+    let legal : is_legal max_deeds started.book.deeds ≡ true = subst (λ n. is_legal n started.book.deeds ≡ true) started.within started.is_book.legal in
+    let seen : seat.seen ≡ started.book.deeds = ap (λ (x : SeatFacts). x.seen) (started.each 0 seat refl) in (
       record {
         count = started.seats;
-        limited = started.limit_is;
+        limited = started.limit_is ∙ started.within;
         base = started.base ∙ ap length (sym seen);
-        legal = subst (λ ds. is_legal max_deeds ds ≡ true) (sym seen) started.legal;
+        legal = subst (λ ds. is_legal max_deeds ds ≡ true) (sym seen) legal;
         all = started.all;
         each = λ i s at. started.each i s at ∙ ap (λ ds. fresh_seat desk ds i) (sym seen);
       },
-      λ rows e. seen ∙ started.rows rows e,
+      λ rows e. seen ∙ told_deeds started.book.rows started.book.deeds rows started.is_book.rows (started.rows ∙ e),
     )

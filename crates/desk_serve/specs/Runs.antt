@@ -44,10 +44,9 @@ pub record Outside : Type 0 where
 abbrev pub was_kept : CabinetTold → List ℕ → List Deed → List Deed → ℕ → CabinetTold
 was_kept told store before after faults = keeper_home (keeper_handed told store before) after faults
 
--- No keeper was handed out, or one was and is gone for want of memory, or it came home with the deeds that it had.
+-- no keeper was handed out, or it came home with the deeds that it had
 abbrev pub IsUnused : List ℕ → CabinetTold → Option CabinetTold → Type 0
-IsUnused store told now =
-    (now ≡ Some told) ⊎ ((deeds : List Deed) × (now ≡ Some (keeper_handed told store deeds))) ⊎ ((deeds : List Deed) × (faults : ℕ) × (now ≡ Some (was_kept told store deeds deeds faults)))
+IsUnused store told now = (now ≡ Some told) ⊎ ((deeds : List Deed) × (faults : ℕ) × (now ≡ Some (was_kept told store deeds deeds faults)))
 
 -- nothing was asked of the street, and the store is as it was
 pub record IsUnserved (asked : Asked) (old new : Outside) (untouched : Type 0) : Type 0 where

@@ -7,13 +7,17 @@ use Rattle.shared_desk.specs.Seats.{DeskFacts, SeatFacts}
 use Rattle.desk_http.specs.declared.sessions.serve.Served.{Served}
 use Rattle.desk_http.specs.DeskSeats.{of_desk, IsSeatOf}
 use Rattle.desk_http.specs.Serving.{Serves, DidSome}
-use Rattle.report_cache.specs.Truth.{IsTrueFor, KeptReport}
+use Rattle.report_cache.specs.Truth.{CacheFacts, IsTrueFor}
 use Rattle.desk_serve.specs.declared.ending.Ending.{Ending}
 use Rattle.desk_serve.specs.declared.ending.Ending.TheVariants.{NoMemory, StreetFault}
 use Rattle.desk_serve.specs.Doors.{DoorFacts}
 
+-- how many reports each worker keeps at most
+abbrev pub cache_entries : ℕ
+cache_entries = 16
+
 -- a worker with a seat of the desk, and with a cache that is true
-pub record CanWork (desk : DeskFacts) (seat : SeatFacts) (cache : List KeptReport) : Type 0 where
+pub record CanWork (desk : DeskFacts) (seat : SeatFacts) (cache : CacheFacts) : Type 0 where
   pub belongs : IsSeatOf seat desk
   pub truth : IsTrueFor cache seat.seen
 

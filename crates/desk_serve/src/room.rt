@@ -1,5 +1,7 @@
 //! The memory that a run takes of its own.
 ghost use Rattle.std.specs.Prelude.{◌≡◌, ◌≤◌, [], length, All, IfOk, vec_capacity};
+ghost use Rattle.report_cache.specs.Truth.{fresh_cache};
+ghost use Rattle.desk_serve.specs.Work.{cache_entries};
 
 use crate::workers::Worker;
 use desk_http::ReportCache;
@@ -21,7 +23,7 @@ pub struct Room<D: Door> {
     pub seats: Vec<DeskSeat>,
     pub doors: Vec<D>,
     ghost many: { length caches.items ≡ count },
-    ghost fresh: { All (λ cache. cache ≡ []) caches.items },
+    ghost fresh: { All (λ cache. cache ≡ fresh_cache cache_entries) caches.items },
     ghost no_workers: { workers.items ≡ [] },
     ghost for_workers: { count ≤ vec_capacity workers },
     ghost no_seats: { seats.items ≡ [] },
@@ -32,7 +34,7 @@ pub struct Room<D: Door> {
 
 fn caches_of(alloc: Global, count: usize) -> Result<Vec<ReportCache>, NoMemory>
     ensures count { IfOk result (λ caches. length caches.items ≡ count) }
-    ensures fresh { IfOk result (λ caches. All (λ cache. cache ≡ []) caches.items) }
+    ensures fresh { IfOk result (λ caches. All (λ cache. cache ≡ fresh_cache cache_entries) caches.items) }
 {
     let mut caches = Vec::with_capacity(alloc, count)?;
     while caches.len() < count {

@@ -57,7 +57,6 @@ fn start_refusal(fault: StartFault) -> Ending
 fn keeper_back<C: Cabinet>(cabinet: &mut C, keeper: Option<C::K>)
     requires out { (told : CabinetTold) → C.told cabinet.old ≡ Some told → 0 < told.out }
     ensures home { (told : CabinetTold) (rows : List Deed) → C.told cabinet.old ≡ Some told → IfSome keeper (λ k. C.K.rows k ≡ Some rows → C.told cabinet.new ≡ Some (keeper_home told rows (C.K.faults k))) }
-    ensures none { keeper ≡ None → C.told cabinet.new ≡ C.told cabinet.old }
     ensures failed { IfSome keeper (λ k. 0 < C.K.faults k → Rose (C.faults cabinet.old) (C.faults cabinet.new)) }
     ensures later { C.faults cabinet.old ≤ C.faults cabinet.new }
 {
@@ -75,7 +74,6 @@ fn turned_away<O: Sink, C: Cabinet>(
     requires out { (told : CabinetTold) → C.told cabinet.old ≡ Some told → 0 < told.out }
     ensures wrote { Writes (ending_of refused.fault) (line_of (ending_of refused.fault)) result (O.written out.old) (O.written out.new) (Rose (O.faults out.old) (O.faults out.new)) }
     ensures home { (told : CabinetTold) (rows : List Deed) → C.told cabinet.old ≡ Some told → IfSome refused.keeper (λ k. C.K.rows k ≡ Some rows → C.told cabinet.new ≡ Some (keeper_home told rows (C.K.faults k))) }
-    ensures none { refused.keeper ≡ None → C.told cabinet.new ≡ C.told cabinet.old }
     ensures failed { IfSome refused.keeper (λ k. 0 < C.K.faults k → Rose (C.faults cabinet.old) (C.faults cabinet.new)) }
     ensures cabinet_later { C.faults cabinet.old ≤ C.faults cabinet.new }
     ensures sink_later { O.faults out.old ≤ O.faults out.new }

@@ -1,7 +1,8 @@
 //! Workers: each serves the connections of its door over its seat, in a thread of its own.
 ghost use Rattle.std.specs.Prelude.{◌≡◌, ◌≤◌, ◌<◌, ℕ, [], length, map, nat_lt, All, slice_index_or, vec_capacity};
 ghost use Rattle.std.specs.List.{list_any};
-ghost use Rattle.desk_serve.specs.Work.{CanWork, HasWorked};
+ghost use Rattle.report_cache.specs.Truth.{fresh_cache};
+ghost use Rattle.desk_serve.specs.Work.{CanWork, HasWorked, cache_entries};
 
 use desk_http::{ReportCache, Served, serve_door};
 use desk_outside::{Door, Keeper, OpenGate};
@@ -29,11 +30,11 @@ pub fn workers_of<D: Door>(
 ) -> Vec<Worker<D>>
     requires doors { length doors.items ≡ length seats.items }
     requires caches { length seats.items ≤ length caches.items }
-    requires fresh { All (λ cache. cache ≡ []) caches.items }
+    requires fresh { All (λ cache. cache ≡ fresh_cache cache_entries) caches.items }
     requires none { room.items ≡ [] }
     requires room { length seats.items ≤ vec_capacity room }
     ensures seats { map (λ w. w.seat) result.items ≡ seats.items }
-    ensures fresh { All (λ w. w.cache ≡ []) result.items }
+    ensures fresh { All (λ w. w.cache ≡ fresh_cache cache_entries) result.items }
     ensures doors { map (λ w. w.door) result.items ≡ doors.items }
 {
     let (mut workers, mut doors, mut caches) = (room, doors.into_iter(), caches);

@@ -8,17 +8,16 @@ ghost use Rattle.book.specs.Answers.{design_answer, log_answer, sign_answer, des
 ghost use Rattle.book.specs.Changes.{IsViewIn, Looked};
 ghost use Rattle.book.specs.Kinds.{design_deed, log_deed, sign_deed, text_behind};
 ghost use Rattle.book.specs.Legal.{is_legal};
-ghost use Rattle.desk_http.specs.Seats.{SeatFacts, SeatChanged, Did, IsLogIn, alone};
+ghost use Rattle.desk_http.specs.Seats.{SeatFacts, SeatChanged, Did, IsLogIn};
 
-use book::{Book, Checked, Design, DieView, LookFault, Put, PutFault, ReadLog, Sign};
-use desk_outside::Keeper;
+use book::{Checked, Design, DieView, LookFault, Put, PutFault, ReadLog, Sign};
 use scan_model::{Digest, Name};
 use std::sync::Arc;
 
 /// A seat at a desk. It sees the desk's deeds up to its last call, others' among them. A change that it made is the last
 /// deed that it then has seen.
 pub trait SeatAt<R, D> {
-    /// The deeds that it has seen, how many there may be, its number, and its part in the keeper's failures.
+    /// The deeds that it has seen, how many there may be, its number, and who was told that the keeper failed.
     ghost facts: { Self → D → SeatFacts };
 
     /// It is a seat of the desk.
@@ -103,77 +102,4 @@ pub trait SeatAt<R, D> {
         ensures stays { belongs self.new desk.now }
         ensures did { Did [] 0 (facts self.old desk.now) (facts self.new desk.now) }
         ensures looked { Looked (λ sign. sign) (sign_look (facts self.new desk.now).seen design.now die.now number) result };
-}
-
-/// A book alone as a desk with one seat, of this number.
-#[derive(Clone, Copy, Debug, PartialEq, Eq)]
-pub struct Alone {
-    pub by: u32,
-}
-
-impl<R, K: Keeper> SeatAt<R, Alone> for Book<K> {
-    ghost facts = { λ book desk. alone desk.by book };
-
-    ghost belongs = { λ book desk. Unit {0} };
-
-    fn mark(&self, desk: &Alone) -> u64 {
-        self.deeds()
-    }
-
-    fn put_design(&mut self, rt: &R, desk: &Alone, design: &Arc<Design>) -> Result<Put, PutFault> {
-        // The book says before and after that its deeds are legal.
-        let _deeds = self.deeds();
-        let put = Book::put_design(self, desk.by, design);
-        let _after = self.deeds();
-        put
-    }
-
-    fn put_log(&mut self, rt: &R, desk: &Alone, log: &Arc<ReadLog>) -> Result<Put, PutFault> {
-        // The book says before and after that its deeds are legal.
-        let _deeds = self.deeds();
-        let put = Book::put_log(self, desk.by, log);
-        let _after = self.deeds();
-        put
-    }
-
-    fn sign(
-        &mut self,
-        rt: &R,
-        desk: &Alone,
-        checked: &Checked,
-        signer: &Name,
-        digest: &Digest,
-    ) -> Result<Put, PutFault> {
-        // The book says before and after that its deeds are legal.
-        let _deeds = self.deeds();
-        let put = Book::sign(self, desk.by, checked, signer, digest);
-        let _after = self.deeds();
-        put
-    }
-
-    fn look_design(&mut self, rt: &R, desk: &Alone, name: &[u8]) -> Result<Arc<Design>, LookFault> {
-        Book::look_design(self, name)
-    }
-
-    fn look_die(
-        &mut self,
-        rt: &R,
-        desk: &Alone,
-        design: &[u8],
-        die: &[u8],
-        revision: Option<u64>,
-    ) -> Result<DieView, LookFault> {
-        Book::look_die(self, design, die, revision)
-    }
-
-    fn look_sign(
-        &mut self,
-        rt: &R,
-        desk: &Alone,
-        design: &[u8],
-        die: &[u8],
-        number: u64,
-    ) -> Result<Sign, LookFault> {
-        Book::look_sign(self, design, die, number)
-    }
 }

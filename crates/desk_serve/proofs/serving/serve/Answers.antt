@@ -1,11 +1,11 @@
-use Rattle.std.proofs.Common.{rules, ◌≡◌, ◌*◌, length, ap, sym, subst, ◌∙◌, refl, inl, true, Some, Err}
+use Rattle.std.proofs.Common.{rules, ◌≡◌, ◌*◌, length, ap, sym, subst, ◌∙◌, refl, inl, inr, true, Some, Err}
 use Rattle.std.specs.Prelude.{unwrap_or, is_some}
 use Rattle.desk_outside.specs.Faults.{Rose}
 use Rattle.desk_outside.specs.Cabinets.{keeper_handed, keeper_home}
 use Rattle.desk_serve.specs.declared.ending.Ending.{Ending}
 use Rattle.desk_serve.specs.declared.ending.Ending.TheVariants.{Done}
 use Rattle.desk_serve.specs.Runs.{asked_of}
-use Rattle.desk_serve.proofs.Closing.{no_keeper, not_opened, unused_home, surely_home, keeper_rose, opened_ended}
+use Rattle.desk_serve.proofs.Closing.{no_keeper, not_opened, surely_home, keeper_rose, opened_ended}
 use Rattle.desk_serve.proofs.ComingHome.{rose_still, rose_later}
 use Rattle.desk_serve.specs.Lines.{Writes, line_of}
 use Rattle.desk_serve.specs.Over.{opened_deeds}
@@ -34,12 +34,13 @@ returns-in-Err-start-clause-ended g c =
     (c.args.street.now ≡ c.args.street.now) refused.fault c.turned_away.result refl
     (λ told is.
     let handed = c.in-Ok.ensures.handed told is in
-    unused_home (λ k. g.C.K.Keeper.rows k) (λ k. g.C.K.Keeper.faults k) c.args.asked.now.store.now told mid new rows handed.0 handed.2 handed.1 refused.keeper (g.C.K.Keeper.faults keeper) c.turned_away.ensures.home c.turned_away.ensures.none c.in-Err-start.ensures.same)
+    let home = surely_home (λ k. g.C.K.Keeper.rows k) (λ k. g.C.K.Keeper.faults k) c.args.asked.now.store.now told mid new rows handed.0 handed.2 handed.1 refused.keeper (g.C.K.Keeper.faults keeper) c.in-Err-start.ensures.home c.turned_away.ensures.home c.in-Err-start.ensures.same in
+    inr (handed.0, home.0, home.1))
     (λ row e told is.
     let handed = c.in-Ok.ensures.handed told is in
-    let home = surely_home (λ k. g.C.K.Keeper.rows k) (λ k. g.C.K.Keeper.faults k) c.args.asked.now.store.now told mid new rows handed.0 handed.2 handed.1 refused.keeper (g.C.K.Keeper.faults keeper) (c.in-Err-start.ensures.home row e) c.turned_away.ensures.home c.in-Err-start.ensures.same in
+    let home = surely_home (λ k. g.C.K.Keeper.rows k) (λ k. g.C.K.Keeper.faults k) c.args.asked.now.store.now told mid new rows handed.0 handed.2 handed.1 refused.keeper (g.C.K.Keeper.faults keeper) c.in-Err-start.ensures.home c.turned_away.ensures.home c.in-Err-start.ensures.same in
     (handed.0, home.0, home.1, c.in-Err-start.ensures.spoiled handed.0 row handed.1 e))
-    (λ e. keeper_rose (λ k. g.C.K.Keeper.faults k) refused.keeper (g.C.K.Keeper.faults keeper) (g.C.Cabinet.faults c.args.cabinet.now) (g.C.Cabinet.faults c.keeper.new.self) (g.C.Cabinet.faults c.turned_away.new.cabinet) (c.in-Err-start.ensures.home_failed e) c.in-Ok.ensures.unfailed (c.in-Err-start.ensures.failed e) c.turned_away.ensures.failed c.in-Ok.ensures.later)
+    (λ e. keeper_rose (λ k. g.C.K.Keeper.faults k) refused.keeper (g.C.K.Keeper.faults keeper) (g.C.Cabinet.faults c.args.cabinet.now) (g.C.Cabinet.faults c.keeper.new.self) (g.C.Cabinet.faults c.turned_away.new.cabinet) c.in-Err-start.ensures.home c.in-Ok.ensures.unfailed (c.in-Err-start.ensures.failed e) c.turned_away.ensures.failed c.in-Ok.ensures.later)
     c.turned_away.ensures.wrote
 
 pub serve_desk-book-requires-clause-opened : goal.serve_desk-book-requires-clause-opened
@@ -69,7 +70,7 @@ returns-clause-ended g c =
     (λ told is.
     let handed = c.in-Ok.ensures.handed told is in
     let same : deeds ≡ handed.0 = opened.1 handed.0 handed.1 in
-    let tells : made.0.tells ≡ true = started.tells ∙ ap is_some handed.1 in
+    let tells : made.0.tells ≡ true = started.tells ∙ ap is_some (started.rows ∙ handed.1) in
     let kept = c.back.ensures.home (keeper_handed told store handed.0) book.deeds handed.2 (c.close.ensures.rows ∙ c.serve_desk-book.ensures.rows tells) in
     kept ∙ ap (λ n. Some (keeper_home (keeper_handed told store handed.0) book.deeds n)) c.close.ensures.faults ∙ ap (λ ds. Some (keeper_home (keeper_handed told store ds) book.deeds book.faults)) (sym same))
     c.ended-2.result (g.O.Sink.written c.serve_desk-book.new.out) (Rose (g.O.Sink.faults c.args.out.now) (g.O.Sink.faults c.serve_desk-book.new.out)) (Rose (g.O.Sink.faults c.serve_desk-book.new.out) (g.O.Sink.faults c.ended-2.new.out)) instead

@@ -5,13 +5,14 @@ use Rattle.desk_serve.specs.declared.workers.Worker.{Worker}
 use Rattle.desk_serve.specs.Doors.{DoorFacts}
 use Rattle.desk_serve.specs.Work.{CanWork, Work, instead_of, any_failed}
 use Rattle.desk_serve.proofs.Lists.{beside, map_before, map_after, any_after, all_worked, map_twice, front_of_all}
+use Rattle.desk_serve.specs.Work.{cache_entries}
 use Rattle.desk_serve.proofs.FreshCaches.{can_work}
 use Rattle.desk_serve.proofs.sessions.serve_doors.Goals as goal
 
 pub serve_all-requires-after_bounds : goal.serve_all-requires-after_bounds
 serve_all-requires-after_bounds g c κs within =
     subst (All (λ w. CanWork c.args.desk.now w.seat w.cache)) (sym c.as_mut_slice.ensures.value)
-    (can_work c.args.desk.now (λ w. w.seat) (λ w. w.cache) c.workers_of-workers.result.items c.args.seats.items c.workers_of-workers.ensures.seats c.requires.seats c.workers_of-workers.ensures.fresh)
+    (can_work c.args.desk.now (λ w. w.seat) (λ w. w.cache) cache_entries c.workers_of-workers.result.items c.args.seats.items c.workers_of-workers.ensures.seats c.requires.seats c.workers_of-workers.ensures.fresh)
 
 pub returns : goal.returns
 returns g c =

@@ -2,6 +2,8 @@ use Rattle.std.proofs.Common.{rules, ◌≡◌, ◌<◌, [], ◌∷◌, ◌++◌
 use Rattle.std.specs.Prelude.{All}
 use Rattle.std.specs.Vec.Iter.{into_iter_items}
 use Rattle.std.proofs.lemmas.List.{length-map, map-append}
+use Rattle.report_cache.specs.Truth.{fresh_cache}
+use Rattle.desk_serve.specs.Work.{cache_entries}
 use Rattle.desk_serve.proofs.Lists.{all_push, all_front, all_last}
 use Rattle.desk_serve.proofs.workers.workers_of.Goals as goal
 
@@ -15,13 +17,13 @@ loop-seat-preserved g c =
     let seats = ap (map (λ w. w.seat)) pushed ∙ map-append (λ w. w.seat) ws _ ∙ ap (λ l. l ++ c.in-Some.seat ∷ []) inv.seats in
     let doors : map (λ w. w.door) c.push.new.self.items ≡ map (λ w. w.door) ws ++ door ∷ [] = ap (map (λ w. w.door)) pushed ∙ map-append (λ w. w.door) ws _ in
     let caches : c.loop-seat.caches.items ≡ c.pop.new.self.items ++ c.in-Some-pop.cache ∷ [] = c.in-Some-pop.ensures.items in
-    let left = subst (All (λ cache. cache ≡ [])) caches inv.left in
+    let left = subst (All (λ cache. cache ≡ fresh_cache cache_entries)) caches inv.left in
     record {
       seats = seats;
       doors = inv.doors ∙ ap (λ l. map (λ w. w.door) ws ++ l) c.in-Some-next.ensures.items ∙ sym (append_assoc (map (λ w. w.door) ws) (door ∷ []) rest) ∙ ap (λ l. l ++ rest) (sym doors);
-      fresh = subst (All (λ w. w.cache ≡ [])) (sym pushed) (all_push (λ w. w.cache ≡ []) ws _ inv.fresh (all_last (λ cache. cache ≡ []) c.pop.new.self.items c.in-Some-pop.cache left));
+      fresh = subst (All (λ w. w.cache ≡ fresh_cache cache_entries)) (sym pushed) (all_push (λ w. w.cache ≡ fresh_cache cache_entries) ws _ inv.fresh (all_last (λ cache. cache ≡ fresh_cache cache_entries) c.pop.new.self.items c.in-Some-pop.cache left));
       caches = search rules;
-      left = all_front (λ cache. cache ≡ []) c.pop.new.self.items (c.in-Some-pop.cache ∷ []) left;
+      left = all_front (λ cache. cache ≡ fresh_cache cache_entries) c.pop.new.self.items (c.in-Some-pop.cache ∷ []) left;
       room = search rules;
     }
 

@@ -1,8 +1,7 @@
 use Rattle.std.specs.Arc.{arc_value}
 use Rattle.book.specs.Answers.{log_answer}
 use Rattle.book.specs.Kinds.{log_deed}
-use Rattle.desk_http.proofs.AloneSeat.{log_stands}
-use Rattle.desk_http.proofs.DeskSeat.{changes_so}
+use Rattle.desk_http.proofs.DeskSeat.{changes_so, log_stands}
 use Rattle.desk_http.proofs.sessions.desk_seat.DeskSeatSeatAtDesk.put_log.Goals as goal
 
 pub put_log-requires-clause-stands : goal.put_log-requires-clause-stands
