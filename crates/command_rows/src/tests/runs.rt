@@ -46,12 +46,7 @@ pub fn street(rt: &impl Abort, alloc: Global, doors: Rows<MemDoor>, fails: u64) 
 }
 
 /// A cabinet with these keepers. The call of `keeper` with this number fails, none where it is 0.
-pub fn cabinet(
-    rt: &impl Abort,
-    alloc: Global,
-    keepers: Rows<MemKeeper>,
-    fails: u64,
-) -> MemCabinet
+pub fn cabinet(rt: &impl Abort, alloc: Global, keepers: Rows<MemKeeper>, fails: u64) -> MemCabinet
     requires { All HasNotFailed keepers }
 {
     MemCabinet::make_failing(alloc, keepers, only(rt, alloc, fails)).expect(rt, "memory")

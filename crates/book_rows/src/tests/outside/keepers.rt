@@ -125,10 +125,7 @@ fn keeps_first(keeper: &mut SureKeeper, deed: &Deed) -> bool {
         && keeper.count() == 0
 }
 
-fn keeps_surely(
-    keeper: &mut Result<SureKeeper, NoMemory>,
-    deed: &Result<Deed, NoMemory>,
-) -> bool {
+fn keeps_surely(keeper: &mut Result<SureKeeper, NoMemory>, deed: &Result<Deed, NoMemory>) -> bool {
     match (keeper, deed) {
         (Ok(keeper), Ok(deed)) => keeps_first(keeper, deed),
         _ => false,
