@@ -1,5 +1,7 @@
 mod byte_sink;
 mod failing;
 mod files;
+mod lacking;
+mod pages;
 mod runs;
 mod serving;

@@ -54,12 +54,12 @@ fn outside(rt: &impl Abort, alloc: Global, read: u64) -> Outside {
     Outside {
         shelf: shelf(rt, alloc, read),
         street: street(rt, alloc, Rows::new(alloc), 0),
-        cabinet: cabinet(rt, alloc, Rows::new(alloc)),
+        cabinet: cabinet(rt, alloc, Rows::new(alloc), 0),
     }
 }
 
-// Whether a run ends so where the read and the write with these numbers fail.
-fn ends<R: Abort + Threads + Wait + Sync>(
+/// Whether a run ends so where the read and the write with these numbers fail, none where a number is 0.
+pub fn ends<R: Abort + Threads + Wait + Sync>(
     rt: &R,
     alloc: Global,
     words: &[&str],

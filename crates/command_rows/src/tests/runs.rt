@@ -27,6 +27,9 @@ pub fn only<T: Drop>(rt: &impl Abort, alloc: Global, item: T) -> Rows<T>
 pub fn shelf(rt: &impl Abort, alloc: Global, fails: u64) -> MemShelf {
     let files = files_in_memory(rt, alloc);
     assert!(rt; are_distinct(files.as_slice()));
+    if fails == 0 {
+        return MemShelf::make(alloc, files).expect(rt, "memory");
+    }
     MemShelf::make_failing(alloc, files, only(rt, alloc, fails)).expect(rt, "memory")
 }
 
@@ -42,14 +45,15 @@ pub fn street(rt: &impl Abort, alloc: Global, doors: Rows<MemDoor>, fails: u64) 
     MemStreet::make_failing(alloc, doors, only(rt, alloc, fails)).expect(rt, "memory")
 }
 
-/// A cabinet with these keepers.
-pub fn cabinet(rt: &impl Abort, alloc: Global, keepers: Rows<MemKeeper>) -> MemCabinet
+/// A cabinet with these keepers. The call of `keeper` with this number fails, none where it is 0.
+pub fn cabinet(rt: &impl Abort, alloc: Global, keepers: Rows<MemKeeper>, fails: u64) -> MemCabinet
     requires { All HasNotFailed keepers }
 {
-    MemCabinet::make(alloc, keepers).expect(rt, "memory")
+    MemCabinet::make_failing(alloc, keepers, only(rt, alloc, fails)).expect(rt, "memory")
 }
 
-fn strings(rt: &impl Abort, alloc: Global, words: &[&str]) -> Vec<String> {
+/// Words, as a program is given them.
+pub fn strings(rt: &impl Abort, alloc: Global, words: &[&str]) -> Vec<String> {
     let mut all = Vec::new(alloc);
     for word in words {
         let word = String::from_str(alloc, word).expect(rt, "memory");

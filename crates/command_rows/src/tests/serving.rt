@@ -1,11 +1,11 @@
-//! `serve` over a street, a cabinet and a sink that fail once.
+//! `serve` over kept rows, and over a street, a cabinet and a sink that fail once.
 ghost use Rattle.std.specs.Prelude.{◌≡◌, ◌∷◌, [], All};
 ghost use Rattle.desk_outside.specs.DoorMemory.{IsUnusedDoor};
 ghost use Rattle.desk_outside.specs.KeeperMemory.{HasNotFailed};
 
 use super::runs::{Outside, cabinet, only, shelf, sink, status, street};
-use desk_outside::{DoorHome, KeeperHome, MemDoor, MemKeeper, MemLink};
-use scan_model::{Name, Rows};
+use desk_outside::{Deed, DeedKind, DoorHome, KeeperHome, MemDoor, MemKeeper, MemLink};
+use scan_model::{Name, NoMemory, Rows};
 use std::alloc::Global;
 use std::process::Abort;
 use std::sync::Wait;
@@ -17,6 +17,10 @@ const TWO_WORKERS: &[&str] = &["serve", "8080", "2", "1", "desk"];
 
 // Each door has one connection with bytes, and two with none.
 const SIX_SESSIONS: &[&str] = &["serve", "8080", "2", "3", "desk"];
+
+// The text of a design.
+const C17: &[u8] =
+    b"%netlist\nINPUT(1)\nINPUT(2)\nINPUT(3)\nINPUT(6)\nINPUT(7)\nOUTPUT(22)\nOUTPUT(23)\n10 = NAND(1, 3)\n11 = NAND(3, 6)\n16 = NAND(2, 11)\n19 = NAND(11, 7)\n22 = NAND(10, 16)\n23 = NAND(16, 19)\n%scan\n%patterns\nCAPTURE 11111\n%neighbours\n";
 
 // What each door's first connection asks, and the reply to it.
 #[derive(Clone, Copy)]
@@ -35,11 +39,13 @@ const PUT: Asked = Asked {
     reply: b"HTTP/1.1 201 Created\r\nContent-Type: text/plain\r\nContent-Length: 76\r\n\r\ndesign c17 0db8ca6599e21775b9088f81c44184e655f03e1daec6da940562db27be24948c\nHTTP/1.1 200 OK\r\nContent-Type: text/plain\r\nContent-Length: 175\r\n\r\ndesign c17\ndigest 0db8ca6599e21775b9088f81c44184e655f03e1daec6da940562db27be24948c\ninputs 5\noutputs 2\nnets 11\npins 14\nchains 0\ncells 0\npatterns 1\npairs 0\nleft-out 0\nfaults 34\n",
 };
 
-// The numbers of the calls that fail, none where a number is 0: of the street, its first door, the keeper and the sink.
+// The numbers of the calls that fail, none where a number is 0: of the street, its first door, the cabinet, the keeper and the
+// sink.
 #[derive(Clone, Copy)]
 struct Failing {
     street: u64,
     door: u64,
+    cabinet: u64,
     keeper: u64,
     sink: u64,
 }
@@ -47,6 +53,7 @@ struct Failing {
 const NOTHING: Failing = Failing {
     street: 0,
     door: 0,
+    cabinet: 0,
     keeper: 0,
     sink: 0,
 };
@@ -68,38 +75,43 @@ const IDLE: Door = Door {
     served: 0,
 };
 
-// A run, its status and what it writes, the doors that come home, and the deeds of the keeper that does.
+// A run over a keeper that has the design of these texts, its status and what it writes, the doors that come home, and the
+// deeds of each keeper that does.
 struct Row {
     words: &'static [&'static str],
+    kept: &'static [&'static [u8]],
     asked: Asked,
     failing: Failing,
     status: u8,
     text: &'static [u8],
     doors: &'static [Door],
-    deeds: usize,
+    deeds: &'static [usize],
 }
 
-const ROWS: [Row; 9] = [
+const ROWS: [Row; 13] = [
     Row {
         words: ONE_WORKER,
+        kept: &[],
         asked: LOOK,
         failing: NOTHING,
         status: 0,
         text: b"serving 8080\nsessions 1 deeds 0\n",
         doors: &[SERVED],
-        deeds: 0,
+        deeds: &[0],
     },
     Row {
         words: TWO_WORKERS,
+        kept: &[],
         asked: LOOK,
         failing: NOTHING,
         status: 0,
         text: b"serving 8080\nsessions 2 deeds 0\n",
         doors: &[SERVED, SERVED],
-        deeds: 0,
+        deeds: &[0],
     },
     Row {
         words: SIX_SESSIONS,
+        kept: &[],
         asked: LOOK,
         failing: NOTHING,
         status: 0,
@@ -114,10 +126,11 @@ const ROWS: [Row; 9] = [
                 served: 3,
             },
         ],
-        deeds: 0,
+        deeds: &[0],
     },
     Row {
         words: ONE_WORKER,
+        kept: &[],
         asked: LOOK,
         failing: Failing {
             keeper: 1,
@@ -126,10 +139,56 @@ const ROWS: [Row; 9] = [
         status: 7,
         text: b"store fault\n",
         doors: &[],
-        deeds: 0,
+        deeds: &[0],
+    },
+    // No keeper is handed out.
+    Row {
+        words: ONE_WORKER,
+        kept: &[],
+        asked: LOOK,
+        failing: Failing {
+            cabinet: 1,
+            ..NOTHING
+        },
+        status: 7,
+        text: b"store fault\n",
+        doors: &[],
+        deeds: &[],
     },
     Row {
         words: ONE_WORKER,
+        kept: &[C17],
+        asked: LOOK,
+        failing: NOTHING,
+        status: 0,
+        text: b"serving 8080\nsessions 1 deeds 1\n",
+        doors: &[SERVED],
+        deeds: &[1],
+    },
+    // A text that is no bundle, and a design that was put before.
+    Row {
+        words: ONE_WORKER,
+        kept: &[b"%netlist\n"],
+        asked: LOOK,
+        failing: NOTHING,
+        status: 9,
+        text: b"store row 0\n",
+        doors: &[],
+        deeds: &[1],
+    },
+    Row {
+        words: ONE_WORKER,
+        kept: &[C17, C17],
+        asked: LOOK,
+        failing: NOTHING,
+        status: 9,
+        text: b"store row 1\n",
+        doors: &[],
+        deeds: &[2],
+    },
+    Row {
+        words: ONE_WORKER,
+        kept: &[],
         asked: LOOK,
         failing: Failing {
             street: 1,
@@ -138,11 +197,12 @@ const ROWS: [Row; 9] = [
         status: 10,
         text: b"street fault\n",
         doors: &[],
-        deeds: 0,
+        deeds: &[0],
     },
     // The other worker goes on.
     Row {
         words: TWO_WORKERS,
+        kept: &[],
         asked: LOOK,
         failing: Failing { door: 1, ..NOTHING },
         status: 10,
@@ -154,35 +214,38 @@ const ROWS: [Row; 9] = [
             },
             SERVED,
         ],
-        deeds: 0,
+        deeds: &[0],
     },
     // Each write fails in turn.
     Row {
         words: ONE_WORKER,
+        kept: &[],
         asked: PUT,
         failing: Failing { sink: 1, ..NOTHING },
         status: 6,
         text: b"",
         doors: &[IDLE],
-        deeds: 0,
+        deeds: &[0],
     },
     Row {
         words: ONE_WORKER,
+        kept: &[],
         asked: PUT,
         failing: Failing { sink: 2, ..NOTHING },
         status: 6,
         text: b"serving 8080\n",
         doors: &[SERVED],
-        deeds: 1,
+        deeds: &[1],
     },
     Row {
         words: ONE_WORKER,
+        kept: &[],
         asked: PUT,
         failing: Failing { sink: 3, ..NOTHING },
         status: 0,
         text: b"serving 8080\nsessions 1 deeds 1\n",
         doors: &[SERVED],
-        deeds: 1,
+        deeds: &[1],
     },
 ];
 
@@ -206,20 +269,33 @@ fn two_doors(rt: &impl Abort, alloc: Global, left: &[u8], fails: u64) -> Rows<Me
     doors
 }
 
-// A keeper with no deeds. The call with this number fails.
-fn keeper(rt: &impl Abort, alloc: Global, fails: u64) -> MemKeeper
+// Deeds that put a design, by these texts.
+fn deeds(alloc: Global, texts: &[&[u8]]) -> Result<Rows<Deed>, NoMemory> {
+    let mut deeds = Rows::new(alloc);
+    for text in texts {
+        let name = Name::copy_of(alloc, b"c17")?;
+        let text = Name::copy_of(alloc, text)?;
+        let what = DeedKind::Design { name, text };
+        deeds.push(Deed { by: 0, what })?;
+    }
+    Ok(deeds)
+}
+
+// A keeper with these deeds. The call with this number fails.
+fn keeper(rt: &impl Abort, alloc: Global, texts: &[&[u8]], fails: u64) -> MemKeeper
     ensures { HasNotFailed result }
 {
-    MemKeeper::make_failing(alloc, Rows::new(alloc), only(rt, alloc, fails)).expect(rt, "memory")
+    let deeds = deeds(alloc, texts).expect(rt, "memory");
+    MemKeeper::make_failing(alloc, deeds, only(rt, alloc, fails)).expect(rt, "memory")
 }
 
 fn outside(rt: &impl Abort, alloc: Global, row: &Row) -> Outside {
     let doors = two_doors(rt, alloc, row.asked.bytes, row.failing.door);
-    let keepers = only(rt, alloc, keeper(rt, alloc, row.failing.keeper));
+    let keepers = only(rt, alloc, keeper(rt, alloc, row.kept, row.failing.keeper));
     Outside {
         shelf: shelf(rt, alloc, 0),
         street: street(rt, alloc, doors, row.failing.street),
-        cabinet: cabinet(rt, alloc, keepers),
+        cabinet: cabinet(rt, alloc, keepers, row.failing.cabinet),
     }
 }
 
@@ -242,8 +318,13 @@ fn are_home(doors: &[DoorHome], due: &[Door], reply: &[u8]) -> bool {
     doors.len() == due.len()
 }
 
-fn has_deeds(keepers: &[KeeperHome], deeds: usize) -> bool {
-    matches!(keepers, [keeper] if keeper.rows.len() == deeds)
+fn have_deeds(keepers: &[KeeperHome], deeds: &[usize]) -> bool {
+    for (keeper, deeds) in keepers.iter().zip(deeds) {
+        if keeper.rows.len() != *deeds {
+            return false;
+        }
+    }
+    keepers.len() == deeds.len()
 }
 
 // All that was handed out is home again, and each door was one of the port.
@@ -251,7 +332,7 @@ fn is_over(outside: &Outside, row: &Row) -> bool {
     let ports = &[8080, 8080][..];
     ports.get(..row.doors.len()) == Some(outside.street.ports())
         && are_home(outside.street.home(), row.doors, row.asked.reply)
-        && has_deeds(outside.cabinet.home(), row.deeds)
+        && have_deeds(outside.cabinet.home(), row.deeds)
 }
 
 fn is_due<R: Abort + Threads + Wait + Sync>(rt: &R, alloc: Global, row: &Row) -> bool {

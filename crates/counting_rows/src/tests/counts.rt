@@ -98,9 +98,9 @@ struct Row {
     log: &'static [u8],
 }
 
-// c17 with bridges, s27 that captures and shifts, a flop in no chain with a gate that reads a net
-// twice, and rows of gates that one gate alone reads.
-const ROWS: [Row; 4] = [
+// c17 with bridges, s27 that captures and shifts, captures alone and shifts alone, a flop in no
+// chain with a gate that reads a net twice, and rows of gates that one gate alone reads.
+const ROWS: [Row; 6] = [
     Row {
         netlist: C17,
         scan: "",
@@ -114,6 +114,20 @@ const ROWS: [Row; 4] = [
         patterns: "CAPTURE 0000 000\nSHIFT 101\nCAPTURE 1X01 011\n",
         pairs: "net_a,net_b\nG14,G12\n",
         log: b"FAILLOG 1\ndie D1\ndesign d\ntested 0 2\nfail 0 out G17\nfail 1 cell c0 0\nfail 2 cell c0 1\nend\n",
+    },
+    Row {
+        netlist: S27,
+        scan: "CHAIN c0 G5 G6 G7\n",
+        patterns: "CAPTURE 0000 000\n",
+        pairs: "",
+        log: b"FAILLOG 1\ndie D1\ndesign d\ntested 0 0\nfail 0 out G17\nend\n",
+    },
+    Row {
+        netlist: S27,
+        scan: "CHAIN c0 G5 G6 G7\n",
+        patterns: "SHIFT 101\n",
+        pairs: "",
+        log: b"FAILLOG 1\ndie D1\ndesign d\ntested 0 0\nfail 0 cell c0 0\nend\n",
     },
     Row {
         netlist: ODD,

@@ -150,7 +150,7 @@ fn do_not_wait<R: Threads + Wait + Sync>(
     Ok(is_met(&sides, meeting))
 }
 
-const MEETINGS: [(&str, Meeting<'static>); 2] = [
+const MEETINGS: [(&str, Meeting<'static>); 3] = [
     (
         "an upload that is held holds no other",
         Meeting {
@@ -159,6 +159,16 @@ const MEETINGS: [(&str, Meeting<'static>); 2] = [
             free: &[b"GET /designs/none HTTP/1.1\r\n\r\n"],
             held_sent: &[CREATED_C17],
             free_sent: &[NO_DESIGN],
+        },
+    ),
+    (
+        "a log that is held holds no other",
+        Meeting {
+            before: &[PUT_C17],
+            held: &[POST_FAILS],
+            free: &[POST_PASSES],
+            held_sent: &[CREATED_LOG_2],
+            free_sent: &[CREATED_LOG_1],
         },
     ),
     (

@@ -5,8 +5,14 @@ use fault_universe::{fault_at, fault_text, place_of, universe, universe_len};
 use scan_model::{Fault, Name, NoMemory, Parts, Rows};
 use std::alloc::Global;
 
-fn has_len(rows: &Result<Rows<Fault>, NoMemory>, len: usize) -> bool {
-    matches!(rows, Ok(found) if found.len() == len)
+// Whether the list has so many faults, each at its place.
+fn are_placed(parts: &Parts, rows: &Rows<Fault>, faults: u32) -> bool {
+    for (place, fault) in (0..faults).zip(rows.as_slice()) {
+        if place_of(parts, fault) != Some(place) {
+            return false;
+        }
+    }
+    rows.len() == faults as usize
 }
 
 fn is_text(text: &Result<Name, NoMemory>, expected: &[u8]) -> bool {
@@ -26,7 +32,8 @@ fn has_text(alloc: Global, parts: &Parts, place: u32, expected: &[u8]) -> bool {
 
 // Whether the list has so many faults.
 fn lists(alloc: Global, parts: &Parts, faults: u32) -> bool {
-    has_len(&universe(alloc, parts), faults as usize) && universe_len(parts) == faults
+    matches!(&universe(alloc, parts), Ok(rows) if are_placed(parts, rows, faults))
+        && universe_len(parts) == faults
 }
 
 // Whether a design has 64 faults, of which the one at place 45 is a branch.

@@ -1,7 +1,8 @@
 //! Deeds that are kept in a cabinet.
 use super::exchanges::{keep, only};
 use desk_outside::{
-    Cabinet, Deed, DeedKind, KeepFault, KeeperGiven, KeeperHome, MemCabinet, MemKeeper,
+    Cabinet, Deed, DeedKind, KeepFault, Keeper, KeeperGiven, KeeperHome, MemCabinet, MemKeeper,
+    SureKeeper,
 };
 use scan_model::{Name, NoMemory, Rows};
 use std::alloc::Global;
@@ -114,4 +115,30 @@ fn both_come_home(
 fn a_failed_keeper_comes_home(rt: HostRuntime) {
     let alloc = rt.alloc();
     assert!(rt; both_come_home(&mut one_failing(alloc), &one_deed(alloc)));
+}
+
+// The deed is appended as the first, stands there and is the last.
+fn keeps_first(keeper: &mut SureKeeper, deed: &Deed) -> bool {
+    keeper.append(deed).is_ok()
+        && matches!(keeper.row(0), Ok(Some(kept)) if kept.by == deed.by)
+        && matches!(keeper.row(1), Ok(None))
+        && keeper.count() == 0
+}
+
+fn keeps_surely(keeper: &mut Result<SureKeeper, NoMemory>, deed: &Result<Deed, NoMemory>) -> bool {
+    match (keeper, deed) {
+        (Ok(keeper), Ok(deed)) => keeps_first(keeper, deed),
+        _ => false,
+    }
+}
+
+#[test]
+fn a_sure_keeper(rt: HostRuntime) {
+    let alloc = rt.alloc();
+    assert!(rt;
+        keeps_surely(
+            &mut SureKeeper::make(alloc, Rows::new(alloc)),
+            &one_deed(alloc),
+        )
+    );
 }
