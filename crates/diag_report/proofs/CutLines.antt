@@ -14,7 +14,7 @@ use Rattle.scan_model.specs.declared.parts.Point.TheVariants.{Output, Cell}
 use Rattle.scan_model.specs.declared.fault.Stuck.{Stuck}
 use Rattle.scan_model.specs.declared.fault.Stuck.TheVariants as stuck
 use Rattle.scan_model.specs.declared.fault.BridgeKind.{BridgeKind}
-use Rattle.scan_model.specs.declared.fault.BridgeKind.TheVariants.{Dominant, WiredAnd, WiredOr}
+use Rattle.scan_model.specs.declared.fault.BridgeKind.TheVariants.{Dominant, WiredAnd, WiredOr, DominantAnd, DominantOr}
 use Rattle.scan_model.specs.declared.fault.CellKind.{CellKind}
 use Rattle.scan_model.specs.declared.fault.CellKind.TheVariants.{Stuck0, Stuck1, SlowRise, SlowFall}
 use Rattle.scan_model.specs.declared.fault.Fault.{Fault}
@@ -115,6 +115,8 @@ bridge_unbroken : (kind : BridgeKind) → Unbroken (bridge_word kind)
 bridge_unbroken Dominant = name_unbroken (codes "dom") refl
 bridge_unbroken WiredAnd = name_unbroken (codes "and") refl
 bridge_unbroken WiredOr = name_unbroken (codes "or") refl
+bridge_unbroken DominantAnd = name_unbroken (codes "dom-and") refl
+bridge_unbroken DominantOr = name_unbroken (codes "dom-or") refl
 
 -- ---- the lines of a report
 

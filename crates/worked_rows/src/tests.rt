@@ -4,6 +4,7 @@ mod faults;
 mod fronts;
 mod netlists;
 mod predicted;
+mod profiles;
 mod ranking;
 mod readers;
 mod refusals;

@@ -2,6 +2,7 @@
 use super::circuits::c17;
 use bench_reader::read_netlist;
 use diagnosis::{BundleFault, Design, design_of, log_of};
+use scan_model::Profile;
 use std::alloc::Global;
 use text_parts::ReadFault;
 
@@ -112,7 +113,15 @@ fn each_front_of_a_netlist(rt: HostRuntime) {
 // The design c17 with one pattern of ones.
 fn ones_of_c17(alloc: Global) -> Result<Design, BundleFault> {
     let netlist = c17().as_bytes();
-    design_of(alloc, b"c17", netlist, b"", b"CAPTURE 11111\n", b"")
+    design_of(
+        alloc,
+        b"c17",
+        Profile::One,
+        netlist,
+        b"",
+        b"CAPTURE 11111\n",
+        b"",
+    )
 }
 
 fn log_front(alloc: Global, design: &Design, text: &[u8]) -> Front {
