@@ -1,5 +1,5 @@
 -- Four texts stand for a scan test where each stands for its part of it.
-use Rattle.std.proofs.Common.{◌≡◌, ◌∙◌, ℕ, List, [], ◌∷◌, refl, ap, Result, Ok, Err}
+use Rattle.std.proofs.Common.{◌≡◌, ◌∙◌, ℕ, List, [], ◌∷◌, refl, sym, ap, Result, Ok, Err}
 use Rattle.scan_model.specs.declared.parts.Chain.{Chain}
 use Rattle.scan_model.specs.declared.parts.Pattern.{Pattern}
 use Rattle.scan_model.specs.declared.parts.Pairs.{Pairs}
@@ -88,3 +88,7 @@ read_whole texts t r =
       test = scan_test texts.profile r.c r.chains r.patterns pairs.1;
     })) r.neighbours_stand in
     ap (test_alone (source_reading source).read) outcome ∙ ap Ok r.whole
+
+-- the profile is that of the texts
+pub profile_read : (texts : FourTexts) (t : ScanTest) → texts_reading texts ≡ Ok t → t.profile ≡ texts.profile
+profile_read texts t e = sym (ap (λ (t : ScanTest). t.profile) (are_read texts t e).whole)

@@ -175,7 +175,7 @@ fn split_profile(bytes: &[u8]) -> (Profile, &[u8])
         return (Profile::One, bytes);
     }
     let (line, text) = split_line(bytes);
-    if line_in(line) == b"%profile 2" {
+    if line_in(line) == b"%profile 2".as_slice() {
         (Profile::Two, text)
     } else {
         (Profile::One, bytes)
