@@ -1,4 +1,4 @@
-use Rattle.std.proofs.Common.{◌≡◌, List, ℕ, [], ◌∷◌, drop, ap, ◌∙◌}
+use Rattle.std.proofs.Common.{◌≡◌, [], ◌∷◌, drop, ap, ◌∙◌}
 use Rattle.diagnosis.specs.Bundle.{sections}
 use Rattle.diagnosis.proofs.BundleFaults.{marks_fault_by_lines, texts_in_four}
 use Rattle.diagnosis.proofs.bundle.split_marked.Goals as goal

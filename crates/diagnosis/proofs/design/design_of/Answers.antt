@@ -1,4 +1,4 @@
-use Rattle.std.proofs.Common.{◌≡◌, ap, ◌∙◌}
+use Rattle.std.proofs.Common.{ap, ◌∙◌}
 use Rattle.diagnosis.specs.Bundle.{bundle_text, texts_reading}
 use Rattle.diagnosis.specs.Reading.{four}
 use Rattle.diagnosis.proofs.AreRead.{profile_read}
