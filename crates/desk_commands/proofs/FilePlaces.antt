@@ -18,6 +18,7 @@ use Rattle.desk_commands.specs.Reading.{file_limit, served, file_place, files_so
 use Rattle.desk_commands.specs.Requests.{named_files}
 use Rattle.desk_commands.specs.Stops.{StopsAt, halt_of}
 use Rattle.desk_commands.specs.Designs.{AreFilesOf}
+use Rattle.scan_model.specs.declared.fault.Profile.{Profile}
 
 -- ---- a file
 
@@ -65,6 +66,6 @@ module _ (files : DesignFiles) (part : DesignText) (seen : Option (List File)) (
       (is_had tells.0 name result (held tells.0 tells.1) within (stops tells.0 tells.1))
 
 -- texts that are the same one by one
-pub same_four : (netlist netlist' scan scan' patterns patterns' neighbours neighbours' : List ℕ) → netlist ≡ netlist' → scan ≡ scan' → patterns ≡ patterns'
-    → neighbours ≡ neighbours' → four netlist scan patterns neighbours ≡ four netlist' scan' patterns' neighbours'
-same_four netlist netlist' scan scan' patterns patterns' neighbours neighbours' p q r s = rw (p, q, r, s) refl
+pub same_four : (profile profile' : Profile) (netlist netlist' scan scan' patterns patterns' neighbours neighbours' : List ℕ) → profile ≡ profile' → netlist ≡ netlist' → scan ≡ scan' → patterns ≡ patterns'
+    → neighbours ≡ neighbours' → four profile netlist scan patterns neighbours ≡ four profile' netlist' scan' patterns' neighbours'
+same_four profile profile' netlist netlist' scan scan' patterns patterns' neighbours neighbours' o p q r s = rw (o, p, q, r, s) refl

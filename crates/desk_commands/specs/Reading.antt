@@ -8,6 +8,7 @@ use Rattle.diagnosis.specs.Texts as texts
 use Rattle.desk_commands.specs.declared.files.Refusal.{Refusal}
 use Rattle.desk_commands.specs.declared.files.Refusal.TheVariants.{Absent, TooLong, Rule}
 use Rattle.desk_commands.specs.Words.{DesignNames}
+use Rattle.scan_model.specs.declared.fault.Profile.TheVariants.{One}
 
 -- the longest file that is read, in bytes
 abbrev pub file_limit : ℕ
@@ -29,9 +30,10 @@ file_place files name = record { name = name; text = served (text_of files name)
 abbrev pub for_fault : ℕ × ℕ → Refusal
 for_fault fault = Rule (record { line = fault.0; rule = fault.1 })
 
--- the files of a design
+-- the files of a design, which the commands read in profile 1
 abbrev pub files_source : List File → DesignNames → texts.Source (List ℕ) Refusal
 files_source files names = record {
+  profile = One;
   netlist = file_place files names.netlist;
   scan = file_place files names.scan;
   patterns = file_place files names.patterns;

@@ -15,7 +15,7 @@ use crate::command::DesignFiles;
 use crate::files::{Refusal, Stop, read_text};
 use desk_outside::{File, Shelf};
 use diagnosis::{DesignText, ReadDesign, TextSource, read_from};
-use scan_model::{Name, Rows};
+use scan_model::{Name, Profile, Rows};
 use std::alloc::Global;
 use text_parts::TextFault;
 
@@ -55,6 +55,10 @@ impl<'a, F: Shelf> TextSource<F> for DesignFiles<'a> {
 
     ghost tells = { AreFilesOf };
 
+    fn profile(&self) -> Profile {
+        Profile::One
+    }
+
     fn text(&self, alloc: Global, shelf: &mut F, part: DesignText) -> Result<Name, Stop<'a>> {
         read_text(alloc, shelf, name_of(self, part))
     }
@@ -82,7 +86,7 @@ pub fn read_design<'a, F: Shelf>(
     files: &DesignFiles<'a>,
 ) -> Result<ReadDesign<Name>, Stop<'a>>
     ensures told { (held : List File) → F.files shelf.old ≡ Some held → ComesTo halt_of shown_design result (design_reading held (named_files files.now)) }
-    ensures stands { IfOk result (λ d. texts_reading (four d.netlist d.scan d.patterns d.neighbours) ≡ Ok d.parts) }
+    ensures stands { IfOk result (λ d. texts_reading (four d.parts.profile d.netlist d.scan d.patterns d.neighbours) ≡ Ok d.parts) }
     ensures fault { ends_by_fault result ≡ true → Rose (F.faults shelf.old) (F.faults shelf.new) }
     ensures same { F.files shelf.new ≡ F.files shelf.old }
     ensures later { F.faults shelf.old ≤ F.faults shelf.new }

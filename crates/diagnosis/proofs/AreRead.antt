@@ -1,11 +1,10 @@
 -- Four texts stand for a scan test where each stands for its part of it.
-use Rattle.std.proofs.Common.{◌≡◌, ◌∙◌, ℕ, List, [], ◌∷◌, refl, ap, Result, Ok, Err}
+use Rattle.std.proofs.Common.{◌≡◌, ◌∙◌, ℕ, List, [], ◌∷◌, refl, sym, ap, Result, Ok, Err}
 use Rattle.scan_model.specs.declared.parts.Chain.{Chain}
 use Rattle.scan_model.specs.declared.parts.Pattern.{Pattern}
 use Rattle.scan_model.specs.declared.parts.Pairs.{Pairs}
 use Rattle.scan_model.specs.Netlist.{Netlist}
 use Rattle.scan_model.specs.ScanTest.{ScanTest, scan_test}
-use Rattle.scan_model.specs.declared.fault.Profile.TheVariants.{One}
 use Rattle.scan_model.specs.NetlistText.{netlist_reading}
 use Rattle.scan_model.specs.ScanText.{scan_reading}
 use Rattle.scan_model.specs.PatternText.{pattern_frame, pattern_reading}
@@ -24,7 +23,7 @@ pub record AreRead (texts : FourTexts) (t : ScanTest) : Type 0 where
   pub scan_stands : scan_reading c.nets texts.scan ≡ Ok chains
   pub patterns_stand : pattern_reading (pattern_frame c chains) texts.patterns ≡ Ok patterns
   pub neighbours_stand : pairs_reading c texts.neighbours ≡ Ok pairs
-  pub whole : scan_test One c chains patterns pairs ≡ t
+  pub whole : scan_test texts.profile c chains patterns pairs ≡ t
 
 -- where the whole was read, the section was read
 section_read : {X Y : Type 0} (section : Section) (text : List ℕ) (r : Result X (ℕ × ℕ)) (next : List ℕ × X → Reading Section (ℕ × ℕ) Y) (y : Y)
@@ -52,8 +51,8 @@ are_read texts t e =
     let chains : List ℕ × List Chain = (texts.scan, second.0) in
     let third = section_read Patterns texts.patterns (pattern_reading (pattern_frame first.0 second.0) texts.patterns) (with_patterns source c chains) d second.2 in
     let fourth = section_read Neighbours texts.neighbours (pairs_reading first.0 texts.neighbours) (λ pairs. value (record {
-      texts = record { netlist = texts.netlist; scan = texts.scan; patterns = texts.patterns; neighbours = pairs.0 };
-      test = scan_test One first.0 second.0 third.0 pairs.1;
+      texts = record { profile = texts.profile; netlist = texts.netlist; scan = texts.scan; patterns = texts.patterns; neighbours = pairs.0 };
+      test = scan_test texts.profile first.0 second.0 third.0 pairs.1;
     })) d third.2 in
     record {
       c = first.0;
@@ -85,7 +84,11 @@ read_whole texts t r =
     ∙ goes_on Scan texts.scan (scan_reading r.c.nets texts.scan) r.chains (with_chains source c) r.scan_stands
     ∙ goes_on Patterns texts.patterns (pattern_reading (pattern_frame r.c r.chains) texts.patterns) r.patterns (with_patterns source c chains) r.patterns_stand
     ∙ goes_on Neighbours texts.neighbours (pairs_reading r.c texts.neighbours) r.pairs (λ pairs. value (record {
-      texts = record { netlist = texts.netlist; scan = texts.scan; patterns = texts.patterns; neighbours = pairs.0 };
-      test = scan_test One r.c r.chains r.patterns pairs.1;
+      texts = record { profile = texts.profile; netlist = texts.netlist; scan = texts.scan; patterns = texts.patterns; neighbours = pairs.0 };
+      test = scan_test texts.profile r.c r.chains r.patterns pairs.1;
     })) r.neighbours_stand in
     ap (test_alone (source_reading source).read) outcome ∙ ap Ok r.whole
+
+-- the profile is that of the texts
+pub profile_read : (texts : FourTexts) (t : ScanTest) → texts_reading texts ≡ Ok t → t.profile ≡ texts.profile
+profile_read texts t e = sym (ap (λ (t : ScanTest). t.profile) (are_read texts t e).whole)

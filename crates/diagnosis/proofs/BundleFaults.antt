@@ -4,9 +4,10 @@ use Rattle.std.specs.List.{filter}
 use Rattle.std.specs.Str.{bytes_eq}
 use Rattle.std.proofs.lemmas.List.{length_push}
 use Rattle.std.proofs.lemmas.List.Elements.{filter-append}
+use Rattle.scan_model.specs.declared.fault.Profile.{Profile}
 use Rattle.scan_model.specs.Lines.{text_lines, line_at}
 use Rattle.scan_model.specs.TextFaults.{fault_from, or_else}
-use Rattle.diagnosis.specs.Bundle.{is_mark, marker_after, bundle_rule, bundle_fault, has_wrong_mark, sections, section_at, texts_in}
+use Rattle.diagnosis.specs.Bundle.{is_mark, marker_after, bundle_rule, marks_fault, has_wrong_mark, sections, section_at, texts_in}
 use Rattle.diagnosis.specs.Reading.{four}
 use Rattle.diagnosis.specs.BundleRest.{marker, is_wrong, fault_after}
 
@@ -67,16 +68,16 @@ faults_behind lines front (text ∷ more) e =
     ap (λ r. or_else (option_map (λ r. (length front + 1, r)) r) (fault_from (bundle_rule lines) (length front + 1) (suc (length more)))) rule
     ∙ fault_or (length front + 1) (is_wrong (marks front) (length front + 1) text) _ _ next
 
-pub bundle_fault_by_lines : (bytes : List ℕ) → bundle_fault bytes ≡ fault_after 0 1 (text_lines bytes)
-bundle_fault_by_lines bytes = rw add-one (faults_behind (text_lines bytes) [] (text_lines bytes) refl)
+pub marks_fault_by_lines : (bytes : List ℕ) → marks_fault bytes ≡ fault_after 0 1 (text_lines bytes)
+marks_fault_by_lines bytes = rw add-one (faults_behind (text_lines bytes) [] (text_lines bytes) refl)
 
 at_front : (texts : List (List ℕ)) (i : ℕ) → get_or texts (suc i) [] ≡ get_or (drop 1 texts) i []
 at_front [] i = refl
 at_front (text ∷ texts) i = refl
 
 -- the four texts behind the markers
-pub texts_in_four : (bytes a b c d : List ℕ) → drop 1 (sections bytes) ≡ a ∷ b ∷ c ∷ d ∷ [] → four a b c d ≡ texts_in bytes
-texts_in_four bytes a b c d e =
+pub texts_in_four : (profile : Profile) (bytes a b c d : List ℕ) → drop 1 (sections bytes) ≡ a ∷ b ∷ c ∷ d ∷ [] → four profile a b c d ≡ texts_in profile bytes
+texts_in_four profile bytes a b c d e =
     let first : section_at bytes 1 ≡ a = at_front (sections bytes) 0 ∙ ap (λ xs. get_or xs 0 []) e in
     let second : section_at bytes 2 ≡ b = at_front (sections bytes) 1 ∙ ap (λ xs. get_or xs 1 []) e in
     let third : section_at bytes 3 ≡ c = at_front (sections bytes) 2 ∙ ap (λ xs. get_or xs 2 []) e in

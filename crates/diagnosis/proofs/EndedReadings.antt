@@ -20,7 +20,7 @@ use Rattle.diagnosis.proofs.Accepted.{netlist_accepted, scan_accepted, patterns_
 
 -- the texts, each ended
 abbrev pub ended_texts : FourTexts → FourTexts
-ended_texts texts = record { netlist = ended texts.netlist; scan = ended texts.scan; patterns = ended texts.patterns; neighbours = ended texts.neighbours }
+ended_texts texts = record { profile = texts.profile; netlist = ended texts.netlist; scan = ended texts.scan; patterns = ended texts.patterns; neighbours = ended texts.neighbours }
 
 netlist_ended : (text : List ℕ) (c : Netlist) → netlist_reading text ≡ Ok c → netlist_reading (ended text) ≡ Ok c
 netlist_ended text c e =

@@ -94,3 +94,13 @@ cut_at text i e =
 
 pub cut_at_end : (text : List ℕ) → 0 < length text → None ≡ position is_end text → IsCut text (take (length text) text) (drop (length text) text)
 cut_at_end text some e = cut_absent text some (ltb-false _ _ (absent_in (ltb (position_or_len is_end text) (length text)) (position_or_len is_end text) e))
+
+-- what comes after it
+
+pub behind_at : (text : List ℕ) (i : ℕ) → Some i ≡ position is_end text → drop (i + 1) text ≡ after_first is_end text
+behind_at text i e = ap (λ (j : ℕ). drop (j + 1) text) (found_in (ltb (position_or_len is_end text) (length text)) i (position_or_len is_end text) e).0
+
+pub behind_end : (text : List ℕ) → None ≡ position is_end text → drop (length text) text ≡ after_first is_end text
+behind_end text e =
+    let absent : length text ≤ position_or_len is_end text = ltb-false _ _ (absent_in (ltb (position_or_len is_end text) (length text)) (position_or_len is_end text) e) in
+    drop_all (length text) text (omega arith) ∙ sym (drop_all (position_or_len is_end text + 1) text (omega (arith, absent)))

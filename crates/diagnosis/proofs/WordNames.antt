@@ -8,13 +8,13 @@ use Rattle.std.proofs.lemmas.List.{get_or-map}
 use Rattle.std.proofs.lemmas.List.Elements.{All-nil, All-cons, All-map, All-weaker, All-get_or, All-from_recursion, filter_passes}
 use Rattle.std.proofs.lemmas.List.Folds.{list_all-map}
 use Rattle.std.proofs.lemmas.List.Sums.{AllPass-from_list_all}
+use Rattle.scan_model.specs.declared.fault.Profile.{Profile}
 use Rattle.scan_model.specs.declared.circuit.Net.{Net}
 use Rattle.scan_model.specs.declared.parts.Chain.{Chain}
 use Rattle.scan_model.specs.declared.parts.Pattern.{Pattern}
 use Rattle.scan_model.specs.declared.parts.Pairs.{Pairs}
 use Rattle.scan_model.specs.Netlist.{Netlist, no_net, net_at}
 use Rattle.scan_model.specs.ScanTest.{ScanTest, scan_test}
-use Rattle.scan_model.specs.declared.fault.Profile.TheVariants.{One}
 use Rattle.scan_model.specs.Lines.{text_lines, is_blank, without_comment}
 use Rattle.scan_model.specs.Words.{words, word_lines, has_word, is_filled, is_name_byte, is_short, is_short_name}
 use Rattle.scan_model.specs.TextFaults.{first_fault, refused_or}
@@ -29,7 +29,7 @@ use Rattle.bench_reader.proofs.NamesDiffer.{number_in_range, outputs_all, output
 use Rattle.bench_reader.proofs.SecondRound.{two_rounds, none_passes}
 use Rattle.diag_report.specs.PredictedLog.{is_word_name, HasWordNames}
 use Rattle.diagnosis.specs.Texts.{FourTexts}
-use Rattle.diagnosis.specs.Bundle.{texts_in, bundle_fault, texts_reading, refused_or_read, bundle_reading}
+use Rattle.diagnosis.specs.Bundle.{bundle_texts, bundle_fault, texts_reading, refused_or_read, bundle_reading}
 use Rattle.diagnosis.proofs.AreRead.{are_read}
 use Rattle.diagnosis.proofs.NoFaults.{no_fault, neither}
 use Rattle.diagnosis.proofs.NetNames.{are_words, words_defined}
@@ -116,19 +116,19 @@ scan_word_names nets bytes cs e =
 
 -- ---- the scan test
 
-parts_named : (c : Netlist) (cs : List Chain) (patterns : List Pattern) (pairs : Pairs) (t : ScanTest) → scan_test One c cs patterns pairs ≡ t
+parts_named : (profile : Profile) (c : Netlist) (cs : List Chain) (patterns : List Pattern) (pairs : Pairs) (t : ScanTest) → scan_test profile c cs patterns pairs ≡ t
     → All (λ n. IsTrue (is_word_name n.name)) c.nets → All (λ n. IsTrue (is_word_name (net_at c n).name)) c.outputs → All HasWordName cs → HasWordNames t
-parts_named c cs patterns pairs t whole nets outputs named = subst HasWordNames whole (record { nets = nets; outputs = outputs; chains = named })
+parts_named profile c cs patterns pairs t whole nets outputs named = subst HasWordNames whole (record { nets = nets; outputs = outputs; chains = named })
 
 pub word_names : (texts : FourTexts) (t : ScanTest) → texts_reading texts ≡ Ok t → HasWordNames t
 word_names texts t e =
     let r = are_read texts t e in
-    parts_named r.c r.chains r.patterns r.pairs t r.whole (netlist_net_names texts.netlist r.c r.netlist_stands) (netlist_word_names texts.netlist r.c r.netlist_stands)
+    parts_named texts.profile r.c r.chains r.patterns r.pairs t r.whole (netlist_net_names texts.netlist r.c r.netlist_stands) (netlist_word_names texts.netlist r.c r.netlist_stands)
     (scan_word_names r.c.nets texts.scan r.chains r.scan_stands)
 
 pub bundle_word_names : (bytes : List ℕ) (t : ScanTest) → bundle_reading bytes ≡ Ok t → HasWordNames t
 bundle_word_names bytes t e = go (bundle_fault bytes) e
   where
-    go : (fault : Option (ℕ × ℕ)) → refused_or_read fault (texts_in bytes) ≡ Ok t → HasWordNames t
-    go None read = word_names (texts_in bytes) t read
+    go : (fault : Option (ℕ × ℕ)) → refused_or_read fault (bundle_texts bytes) ≡ Ok t → HasWordNames t
+    go None read = word_names (bundle_texts bytes) t read
     go (Some fault) read = absurd cc

@@ -11,7 +11,7 @@ use Rattle.diagnosis.specs.Texts.{FourTexts}
 use Rattle.diagnosis.specs.Halts.{Halt, refused, no_memory}
 
 abbrev pub four_texts : Sections → FourTexts
-four_texts texts = record { netlist = texts.netlist.now; scan = texts.scan.now; patterns = texts.patterns.now; neighbours = texts.neighbours.now }
+four_texts texts = record { profile = texts.profile; netlist = texts.netlist.now; scan = texts.scan.now; patterns = texts.patterns.now; neighbours = texts.neighbours.now }
 
 -- the section of a text
 abbrev pub section_of : DesignText → Section

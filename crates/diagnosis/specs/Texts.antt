@@ -1,18 +1,19 @@
 -- The texts of a design, from wherever they come: each is read and judged before the next is read, up to the first that doesn't serve.
 use Rattle.std.specs.Prelude.{ℕ, List, [], ◌∷◌, ◌++◌, Result, Ok, Err}
+use Rattle.scan_model.specs.declared.fault.Profile.{Profile}
 use Rattle.scan_model.specs.declared.parts.Chain.{Chain}
 use Rattle.scan_model.specs.declared.parts.Pattern.{Pattern}
 use Rattle.scan_model.specs.declared.parts.Pairs.{Pairs}
 use Rattle.scan_model.specs.Netlist.{Netlist}
 use Rattle.scan_model.specs.ScanTest.{ScanTest, scan_test}
-use Rattle.scan_model.specs.declared.fault.Profile.TheVariants.{One}
 use Rattle.scan_model.specs.NetlistText.{netlist_reading}
 use Rattle.scan_model.specs.ScanText.{scan_reading}
 use Rattle.scan_model.specs.PatternText.{pattern_frame, pattern_reading}
 use Rattle.bridge_pairs.specs.PairText.{pairs_reading}
 
--- the four texts of a design
+-- the four texts of a design, and its profile
 pub record FourTexts : Type 0 where
+  pub profile : Profile
   pub netlist : List ℕ
   pub scan : List ℕ
   pub patterns : List ℕ
@@ -81,8 +82,9 @@ read_text place rule reads = one_text place (λ text. beside text (by_rules rule
 
 -- ---- the texts of a design
 
--- where the four texts are, and why one is refused for its first fault
+-- the profile, where the four texts are, and why one is refused for its first fault
 pub record Source (N R : Type 0) : Type 0 where
+  pub profile : Profile
   pub netlist : Place N R
   pub scan : Place N R
   pub patterns : Place N R
@@ -106,8 +108,8 @@ module _ {N R : Type 0} (source : Source N R) where
   -- the design, after the texts before the neighbours, before the patterns, and before the chains
   abbrev pub with_patterns : List ℕ × Netlist → List ℕ × List Chain → List ℕ × List Pattern → Reading N R ReadTexts
   with_patterns c chains patterns = and_then (neighbour_text c.1) (λ pairs. value (record {
-    texts = record { netlist = c.0; scan = chains.0; patterns = patterns.0; neighbours = pairs.0 };
-    test = scan_test One c.1 chains.1 patterns.1 pairs.1;
+    texts = record { profile = source.profile; netlist = c.0; scan = chains.0; patterns = patterns.0; neighbours = pairs.0 };
+    test = scan_test source.profile c.1 chains.1 patterns.1 pairs.1;
   }))
 
   abbrev pub with_chains : List ℕ × Netlist → List ℕ × List Chain → Reading N R ReadTexts

@@ -1,18 +1,20 @@
-//! The four texts in a bundle.
-ghost use Rattle.std.specs.Prelude.{◌≡◌, ◌<◌, ◌+◌, ℕ, true, [], ◌∷◌, ◌++◌, length, None, Some, IfOk, IfErr, IfSome, IfNone, OnOk};
+//! The profile and the four texts in a bundle.
+ghost use Rattle.std.specs.Prelude.{◌≡◌, ◌<◌, ◌≤◌, ◌^◌, ◌+◌, ℕ, List, true, [], ◌∷◌, ◌++◌, length, None, Some, IfOk, IfErr, IfSome, IfNone, OnOk};
 ghost use Rattle.scan_model.specs.Lines.{text_lines};
 ghost use Rattle.text_parts.specs.Ended.{is_ended, ended};
-ghost use Rattle.diagnosis.specs.Bundle.{is_mark, pieces, sections, bundle_fault, texts_in, bundle_text};
+ghost use Rattle.diagnosis.specs.Bundle.{is_mark, pieces, sections, marks_fault, texts_in, behind_line, profile_of, marked_part, lines_before, bundle_fault, bundle_texts, named_text, bundle_text};
 ghost use Rattle.diagnosis.specs.BundleRest.{marker, line_in, is_at_mark, is_due, rest_fault, rest_texts, HasRoom};
 ghost use Rattle.diagnosis.specs.Sections.{four_texts};
 
-use scan_model::{Name, NoMemory};
+use scan_model::{Name, NoMemory, Profile};
 use std::alloc::Global;
 use text_parts::{TextFault, is_ended};
 
-/// The four texts of a design, as they stand in its bundle or in files of their own.
+/// The profile of a design and its four texts, as they stand in its bundle or in files of their
+/// own.
 #[derive(Clone, Copy, Debug)]
 pub struct Sections<'a> {
+    pub profile: Profile,
     pub netlist: &'a [u8],
     pub scan: &'a [u8],
     pub patterns: &'a [u8],
@@ -51,6 +53,7 @@ fn split_line(text: &[u8]) -> (&[u8], &[u8])
     ensures pieces { pieces text.now ≡ result.0.now ∷ pieces result.1.now }
     ensures lines { text_lines text.now ≡ line_in result.0.now ∷ text_lines result.1.now }
     ensures whole { text.now ≡ result.0.now ++ result.1.now }
+    ensures behind { result.1.now ≡ behind_line text.now }
     ensures some { 0 < length result.0.now }
 {
     match text.iter().position(|b| *b == b'\n') {
@@ -138,6 +141,7 @@ impl<'a> Rest<'a> {
         ensures place { IfOk result (λ taken. is_at_mark taken.1.text.now ≡ true) }
         ensures room { IfOk result (λ taken. HasRoom taken.1) }
         ensures refused { IfErr result (λ f. rest_fault due self.now ≡ Some (f.line, f.rule)) }
+        ensures small { IfErr result (λ f. f.line ≤ 2 ^ 63) }
     {
         match self.behind_marker(due) {
             Some(behind) => Ok(behind.text_before_mark()),
@@ -147,10 +151,12 @@ impl<'a> Rest<'a> {
 
     // That nothing is left, where no marker is due.
     fn end(&self) -> Result<(), TextFault>
+        requires room { HasRoom self.now }
         requires place { is_at_mark self.now.text.now ≡ true }
         ensures texts { OnOk result (rest_texts self.now ≡ []) }
         ensures fault { OnOk result (rest_fault 4 self.now ≡ None) }
         ensures refused { IfErr result (λ f. rest_fault 4 self.now ≡ Some (f.line, f.rule)) }
+        ensures small { IfErr result (λ f. f.line ≤ 2 ^ 63) }
     {
         if self.text.is_empty() {
             Ok(())
@@ -160,11 +166,28 @@ impl<'a> Rest<'a> {
     }
 }
 
-/// The texts in a bundle, or the first line at which it breaks rule 81.
-#[tactic(auto, using(crate::proofs::BundleFaults::bundle_fault_by_lines, crate::proofs::BundleFaults::texts_in_four))]
-pub fn split(bytes: &[u8]) -> Result<Sections<'_>, TextFault>
-    ensures good { IfOk result (λ texts. (bundle_fault bytes.now ≡ None) × (four_texts texts ≡ texts_in bytes.now)) }
-    ensures fault { IfErr result (λ fault. bundle_fault bytes.now ≡ Some (fault.line, fault.rule)) }
+// The profile of a bundle, and what stands behind the line that names it.
+fn split_profile(bytes: &[u8]) -> (Profile, &[u8])
+    ensures profile { result.0 ≡ profile_of bytes.now }
+    ensures marked { result.1.now ≡ marked_part bytes.now }
+{
+    if bytes.is_empty() {
+        return (Profile::One, bytes);
+    }
+    let (line, text) = split_line(bytes);
+    if line_in(line) == b"%profile 2".as_slice() {
+        (Profile::Two, text)
+    } else {
+        (Profile::One, bytes)
+    }
+}
+
+// The texts behind the markers, or the first line at which they break rule 81.
+#[tactic(auto, using(crate::proofs::BundleFaults::marks_fault_by_lines, crate::proofs::BundleFaults::texts_in_four))]
+fn split_marked(profile: Profile, bytes: &[u8]) -> Result<Sections<'_>, TextFault>
+    ensures good { IfOk result (λ texts. (marks_fault bytes.now ≡ None) × (four_texts texts ≡ texts_in profile bytes.now)) }
+    ensures fault { IfErr result (λ fault. marks_fault bytes.now ≡ Some (fault.line, fault.rule)) }
+    ensures room { IfErr result (λ fault. fault.line ≤ 2 ^ 63) }
 {
     let whole = Rest {
         text: bytes,
@@ -176,11 +199,38 @@ pub fn split(bytes: &[u8]) -> Result<Sections<'_>, TextFault>
     let (neighbours, rest) = rest.section(3)?;
     rest.end()?;
     Ok(Sections {
+        profile,
         netlist,
         scan,
         patterns,
         neighbours,
     })
+}
+
+// How many lines stand before the first marker of a bundle.
+fn lines_before(profile: Profile) -> u64
+    ensures count { result ≡ lines_before profile }
+    ensures few { result ≤ 1 }
+{
+    match profile {
+        Profile::One => 0,
+        Profile::Two => 1,
+    }
+}
+
+/// The profile of a bundle and its texts, or the first line at which it breaks rule 81.
+pub fn split(bytes: &[u8]) -> Result<Sections<'_>, TextFault>
+    ensures good { IfOk result (λ texts. (bundle_fault bytes.now ≡ None) × (four_texts texts ≡ bundle_texts bytes.now)) }
+    ensures fault { IfErr result (λ fault. bundle_fault bytes.now ≡ Some (fault.line, fault.rule)) }
+{
+    let (profile, text) = split_profile(bytes);
+    match split_marked(profile, text) {
+        Ok(texts) => Ok(texts),
+        Err(TextFault { line, rule }) => Err(TextFault {
+            line: line + lines_before(profile),
+            rule,
+        }),
+    }
 }
 
 // Adds a section: its marker, and its text with LF at its end.
@@ -195,11 +245,23 @@ fn append_section(bundle: &mut Name, marker: &[u8], text: &[u8]) -> Result<(), N
     Ok(())
 }
 
-/// The bundle of four texts: each behind its marker line. One that isn't empty and doesn't end with LF is ended with it.
+// Adds the line that names a profile. Profile 1 has none.
+fn append_profile(bundle: &mut Name, profile: Profile) -> Result<(), NoMemory>
+    ensures { OnOk result ((rest : List ℕ) → bundle.new ++ rest ≡ bundle.old ++ named_text profile rest) }
+{
+    match profile {
+        Profile::One => Ok(()),
+        Profile::Two => bundle.append(b"%profile 2\n"),
+    }
+}
+
+/// The bundle of a profile and four texts: each text behind its marker line. One that isn't empty
+/// and doesn't end with LF is ended with it. Profile 2 is named by a line before the first marker.
 pub fn bundle_text(alloc: Global, texts: &Sections<'_>) -> Result<Name, NoMemory>
     ensures { IfOk result (λ text. text ≡ bundle_text (four_texts texts.now)) }
 {
     let mut bundle = Name::new(alloc);
+    append_profile(&mut bundle, texts.profile)?;
     append_section(&mut bundle, b"%netlist\n", texts.netlist)?;
     append_section(&mut bundle, b"%scan\n", texts.scan)?;
     append_section(&mut bundle, b"%patterns\n", texts.patterns)?;

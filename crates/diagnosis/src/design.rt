@@ -14,7 +14,7 @@ use crate::bundle::{Sections, bundle_text, split};
 use crate::fault_free::fault_free_responses;
 use crate::section::{BundleFault, Section};
 use crate::texts::read_texts;
-use scan_model::{Digest, Expected, Name, NoMemory, Parts};
+use scan_model::{Digest, Expected, Name, NoMemory, Parts, Profile};
 use sha2::Sha256;
 use std::alloc::Global;
 use std::marker::Model;
@@ -130,10 +130,11 @@ fn named_bundle(alloc: Global, name: &[u8], texts: &Sections<'_>) -> Result<Name
     Ok(NamedBundle { name, text })
 }
 
-/// The design of four texts. Its text is their bundle.
+/// The design of a profile and four texts. Its text is their bundle.
 pub fn design_of(
     alloc: Global,
     name: &[u8],
+    profile: Profile,
     netlist: &[u8],
     scan: &[u8],
     patterns: &[u8],
@@ -141,11 +142,12 @@ pub fn design_of(
 ) -> Result<Design, BundleFault>
     requires name { is_tag name.now ≡ true }
     ensures name { IfOk result (λ design. design.name ≡ name.now) }
-    ensures text { IfOk result (λ design. design.text ≡ bundle_text (four netlist.now scan.now patterns.now neighbours.now)) }
-    ensures stands { IfOk result (λ design. texts_reading (four netlist.now scan.now patterns.now neighbours.now) ≡ Ok design.test) }
-    ensures fault { IfErr result (RefusedBy (texts_reading (four netlist.now scan.now patterns.now neighbours.now))) }
+    ensures text { IfOk result (λ design. design.text ≡ bundle_text (four profile netlist.now scan.now patterns.now neighbours.now)) }
+    ensures stands { IfOk result (λ design. texts_reading (four profile netlist.now scan.now patterns.now neighbours.now) ≡ Ok design.test) }
+    ensures fault { IfErr result (RefusedBy (texts_reading (four profile netlist.now scan.now patterns.now neighbours.now))) }
 {
     let texts = Sections {
+        profile,
         netlist,
         scan,
         patterns,
@@ -156,7 +158,8 @@ pub fn design_of(
     Ok(design)
 }
 
-/// The same design, of four texts that were read and stand for the parts.
+/// The same design, of four texts that were read and stand for the parts. Its profile is that of
+/// the parts.
 pub fn design_with(
     alloc: Global,
     name: &[u8],
@@ -167,12 +170,13 @@ pub fn design_with(
     parts: Parts,
 ) -> Result<Design, NoMemory>
     requires name { is_tag name.now ≡ true }
-    requires stands { texts_reading (four netlist.now scan.now patterns.now neighbours.now) ≡ Ok parts }
+    requires stands { texts_reading (four parts.profile netlist.now scan.now patterns.now neighbours.now) ≡ Ok parts }
     ensures name { IfOk result (λ design. design.name ≡ name.now) }
-    ensures text { IfOk result (λ design. design.text ≡ bundle_text (four netlist.now scan.now patterns.now neighbours.now)) }
+    ensures text { IfOk result (λ design. design.text ≡ bundle_text (four parts.profile netlist.now scan.now patterns.now neighbours.now)) }
     ensures test { IfOk result (λ design. design.test ≡ parts) }
 {
     let texts = Sections {
+        profile: parts.profile(),
         netlist,
         scan,
         patterns,

@@ -1,4 +1,4 @@
-//! Where the four texts of a design come from.
+//! Where the profile and the four texts of a design come from.
 ghost use Rattle.std.specs.Prelude.{◌≡◌, ◌≤◌, ℕ, List, true, false};
 ghost use Rattle.desk_outside.specs.Faults.{Rose};
 ghost use Rattle.diagnosis.specs.Texts.{Source};
@@ -8,10 +8,12 @@ ghost use Rattle.diagnosis.specs.Sections.{four_texts, section_of, halt_of};
 
 use crate::bundle::Sections;
 use crate::section::{BundleFault, DesignText, Section};
+use scan_model::Profile;
 use std::alloc::Global;
 use text_parts::TextFault;
 
-/// What gives the four texts of a design, by means of something outside that it is lent.
+/// What gives the profile of a design and its four texts, by means of something outside that it is
+/// lent.
 pub trait TextSource<O> {
     type Text: Drop;
 
@@ -40,6 +42,10 @@ pub trait TextSource<O> {
 
     /// The texts, where they are known.
     ghost tells: { Self → Self.Known → Source Self.Name Self.Why → Type 0 };
+
+    /// The profile of the design.
+    fn profile(&self) -> Profile
+        ensures { (seen : Self.Known) (source : Source Self.Name Self.Why) → tells self.now seen source → result ≡ source.profile };
 
     /// One of the texts.
     fn text(
@@ -103,6 +109,10 @@ impl<'a> TextSource<()> for Sections<'a> {
     ghost faults = { λ _. 0 };
 
     ghost tells = { λ texts _ source. source ≡ texts_source (four_texts texts) };
+
+    fn profile(&self) -> Profile {
+        self.profile
+    }
 
     fn text(
         &self,

@@ -3,7 +3,6 @@ ghost use Rattle.std.specs.Prelude.{◌≡◌, ◌≤◌, Ok, IfOk, IfErr, true,
 ghost use Rattle.desk_outside.specs.Faults.{Rose};
 ghost use Rattle.scan_model.specs.Circuits.{IsCircuit};
 ghost use Rattle.scan_model.specs.ScanTest.{AreChains, ArePatterns, ArePairs, scan_test};
-ghost use Rattle.scan_model.specs.declared.fault.Profile.TheVariants as profile;
 ghost use Rattle.scan_model.specs.NetlistText.{netlist_reading};
 ghost use Rattle.scan_model.specs.ScanText.{net_names, scan_reading};
 ghost use Rattle.scan_model.specs.PatternText.{pattern_frame, pattern_reading};
@@ -156,7 +155,7 @@ fn read_behind<O, S: TextSource<O>>(
 ) -> Result<OverCircuit<S::Text>, S::Stop>
     requires { names.now ≡ net_names circuit.now.nets }
     ensures told { (t : Source S.Name S.Why) → S.tells source.now (S.known outside.old) t
-        → ComesTo S.halt (shown_over S.shows (S.shows netlist.now, circuit.now)) result (with_circuit t (S.shows netlist.now, circuit.now)) }
+        → ComesTo S.halt (shown_over t.profile S.shows (S.shows netlist.now, circuit.now)) result (with_circuit t (S.shows netlist.now, circuit.now)) }
     ensures chains { IfOk result (λ over. (scan_reading circuit.now.nets (S.shows over.chains.text) ≡ Ok over.chains.value) × AreChains circuit.now over.chains.value) }
     ensures patterns { IfOk result (λ over. (pattern_reading (pattern_frame circuit.now over.chains.value) (S.shows over.patterns.text) ≡ Ok over.patterns.value)
         × ArePatterns circuit.now over.chains.value over.patterns.value) }
@@ -192,7 +191,7 @@ fn read_with<O, S: TextSource<O>>(
 ) -> Result<Behind<S::Text>, S::Stop>
     requires { named.names ≡ net_names named.circuit.nets }
     ensures told { (t : Source S.Name S.Why) → S.tells source.now (S.known outside.old) t
-        → ComesTo S.halt (λ r. shown_over S.shows (S.shows netlist.now, r.circuit) r.over) result (with_circuit t (S.shows netlist.now, named.entry.circuit)) }
+        → ComesTo S.halt (λ r. shown_over t.profile S.shows (S.shows netlist.now, r.circuit) r.over) result (with_circuit t (S.shows netlist.now, named.entry.circuit)) }
     ensures circuit { IfOk result (λ r. r.circuit ≡ named.entry.circuit) }
     ensures chains { IfOk result (λ r. (scan_reading r.circuit.nets (S.shows r.over.chains.text) ≡ Ok r.over.chains.value) × AreChains r.circuit r.over.chains.value) }
     ensures patterns { IfOk result (λ r. (pattern_reading (pattern_frame r.circuit r.over.chains.value) (S.shows r.over.patterns.text) ≡ Ok r.over.patterns.value)
@@ -217,7 +216,7 @@ fn read_over<O, S: TextSource<O>>(
     netlist: &S::Text,
 ) -> Result<Behind<S::Text>, S::Stop>
     ensures told { (t : Source S.Name S.Why) → S.tells source.now (S.known outside.old) t → t.netlist.text ≡ Ok (S.shows netlist.now)
-        → ComesTo S.halt (λ r. shown_over S.shows (S.shows netlist.now, r.circuit) r.over) result (source_reading t) }
+        → ComesTo S.halt (λ r. shown_over t.profile S.shows (S.shows netlist.now, r.circuit) r.over) result (source_reading t) }
     ensures stands { IfOk result (λ r. netlist_reading (S.shows netlist.now) ≡ Ok r.circuit) }
     ensures fits { IfOk result (λ r. IsCircuit r.circuit) }
     ensures chains { IfOk result (λ r. (scan_reading r.circuit.nets (S.shows r.over.chains.text) ≡ Ok r.over.chains.value) × AreChains r.circuit r.over.chains.value) }
@@ -235,13 +234,18 @@ fn read_over<O, S: TextSource<O>>(
 }
 
 // The design of a netlist and of the texts that were read over its circuit.
-fn whole<T: Drop>(alloc: Global, netlist: T, behind: Behind<T>) -> Result<ReadDesign<T>, NoMemory>
+fn whole<T: Drop>(
+    alloc: Global,
+    profile: Profile,
+    netlist: T,
+    behind: Behind<T>,
+) -> Result<ReadDesign<T>, NoMemory>
     requires circuit { IsCircuit behind.circuit }
     requires chains { AreChains behind.circuit behind.over.chains.value }
     requires patterns { ArePatterns behind.circuit behind.over.chains.value behind.over.patterns.value }
     requires pairs { ArePairs behind.circuit behind.over.pairs.value }
     ensures texts { IfOk result (λ d. (d.netlist ≡ netlist) × (d.scan ≡ behind.over.chains.text) × (d.patterns ≡ behind.over.patterns.text) × (d.neighbours ≡ behind.over.pairs.text)) }
-    ensures parts { IfOk result (λ d. d.parts ≡ scan_test profile.One behind.circuit behind.over.chains.value behind.over.patterns.value behind.over.pairs.value) }
+    ensures parts { IfOk result (λ d. d.parts ≡ scan_test profile behind.circuit behind.over.chains.value behind.over.patterns.value behind.over.pairs.value) }
 {
     let Behind { circuit, over } = behind;
     let OverCircuit {
@@ -251,7 +255,7 @@ fn whole<T: Drop>(alloc: Global, netlist: T, behind: Behind<T>) -> Result<ReadDe
     } = over;
     let parts = Parts::make(
         alloc,
-        Profile::One,
+        profile,
         circuit,
         chains.value,
         patterns.value,
@@ -281,7 +285,7 @@ pub fn read_from<O, S: TextSource<O>>(
 {
     let netlist = source.text(alloc, outside, DesignText::Netlist)?;
     let behind = read_over(alloc, source, outside, &netlist)?;
-    match whole(alloc, netlist, behind) {
+    match whole(alloc, source.profile(), netlist, behind) {
         Ok(design) => Ok(design),
         Err(NoMemory) => Err(source.stop_for_memory()),
     }
@@ -296,19 +300,22 @@ pub fn read_texts(alloc: Global, texts: &Sections<'_>) -> Result<Parts, BundleFa
     Ok(design.into_parts())
 }
 
-/// The same, of four texts one by one. The nets and the chains of the parts have names that a log can name.
+/// The same, of a profile and four texts one by one. The nets and the chains of the parts have
+/// names that a log can name.
 pub fn parts_of(
     alloc: Global,
+    profile: Profile,
     netlist: &[u8],
     scan: &[u8],
     patterns: &[u8],
     neighbours: &[u8],
 ) -> Result<Parts, BundleFault>
-    ensures stands { IfOk result (λ parts. texts_reading (four netlist.now scan.now patterns.now neighbours.now) ≡ Ok parts) }
+    ensures stands { IfOk result (λ parts. texts_reading (four profile netlist.now scan.now patterns.now neighbours.now) ≡ Ok parts) }
     ensures names { IfOk result HasWordNames }
-    ensures fault { IfErr result (RefusedBy (texts_reading (four netlist.now scan.now patterns.now neighbours.now))) }
+    ensures fault { IfErr result (RefusedBy (texts_reading (four profile netlist.now scan.now patterns.now neighbours.now))) }
 {
     let texts = Sections {
+        profile,
         netlist,
         scan,
         patterns,

@@ -7,6 +7,7 @@ use Rattle.scan_model.specs.ReportText.{line, joined}
 use Rattle.diag_report.specs.PredictedLog.{fault_of, predicted_log, predicted_facts}
 use Rattle.diag_report.specs.Summary.{count_line}
 use Rattle.diagnosis.specs.Texts.{FourTexts}
+use Rattle.scan_model.specs.declared.fault.Profile.TheVariants.{One}
 use Rattle.diagnosis.specs.Reading.{four}
 use Rattle.diagnosis.specs.Designs.{ReadLogFacts, StandsOver}
 use Rattle.diagnosis.specs.Cases.{CaseFacts}
@@ -66,7 +67,7 @@ pub record IsText (seed blocks : ℕ) (t : ScanTest) (text : List ℕ) : Type 0 
 
 -- the texts that were made
 abbrev pub texts_of : Made → FourTexts
-texts_of made = four made.netlist made.scan made.patterns made.neighbours
+texts_of made = four One made.netlist made.scan made.patterns made.neighbours
 
 -- the lines before those of the fault
 abbrev pub head_lines : ℕ → ℕ → ScanTest → List (List ℕ)

@@ -1,6 +1,7 @@
 -- The texts of the design that the generator makes, and the draw that comes after them.
 use Rattle.std.specs.Prelude.{ℕ}
 use Rattle.diagnosis.specs.Texts.{FourTexts}
+use Rattle.scan_model.specs.declared.fault.Profile.TheVariants.{One}
 use Rattle.made_designs.specs.MadeNetlist.{made_netlist}
 use Rattle.made_designs.specs.MadeScan.{made_scan}
 use Rattle.made_designs.specs.MadePatterns.{made_patterns, first_draw}
@@ -8,6 +9,7 @@ use Rattle.made_designs.specs.MadePairs.{made_pairs}
 
 abbrev pub made_texts : ℕ → ℕ → FourTexts
 made_texts seed blocks = record {
+  profile = One;
   netlist = made_netlist seed blocks;
   scan = made_scan blocks;
   patterns = made_patterns seed blocks;

@@ -21,7 +21,7 @@ use crate::demo::lines::{add_count, add_digest, add_head, add_injected, add_rank
 use crate::design::{Made, made_design};
 use crate::draws::Draws;
 use diagnosis::{BundleFault, Case, Diagnosis, parts_of};
-use scan_model::{Name, NoMemory, Parts, Rows};
+use scan_model::{Name, NoMemory, Parts, Profile, Rows};
 use std::alloc::Global;
 use std::thread::Threads;
 
@@ -150,6 +150,7 @@ fn read_made(alloc: Global, made: &Made) -> Result<Parts, BundleFault>
 {
     parts_of(
         alloc,
+        Profile::One,
         made.netlist.as_slice(),
         made.scan.as_slice(),
         made.patterns.as_slice(),

@@ -3,6 +3,7 @@ ghost use Rattle.std.specs.Prelude.{◌≡◌, ◌≤◌, IfOk};
 ghost use Rattle.made_designs.specs.Draws.{state_after};
 ghost use Rattle.made_designs.specs.Made.{made_texts, text_draws};
 ghost use Rattle.diagnosis.specs.Reading.{four};
+ghost use Rattle.scan_model.specs.declared.fault.Profile.TheVariants as profile;
 
 use crate::draws::Draws;
 use crate::netlist::made_netlist;
@@ -25,7 +26,7 @@ pub struct Made {
 /// The design of a seed and so many blocks.
 pub fn made_design(alloc: Global, seed: u32, blocks: u32) -> Result<Made, NoMemory>
     requires { blocks ≤ 200 }
-    ensures texts { IfOk result (λ made. four made.netlist made.scan made.patterns made.neighbours ≡ made_texts seed blocks) }
+    ensures texts { IfOk result (λ made. four profile.One made.netlist made.scan made.patterns made.neighbours ≡ made_texts seed blocks) }
     ensures draws { IfOk result (λ made. made.draws.state ≡ state_after seed (text_draws blocks)) }
 {
     let mut draws = Draws::from_seed(seed);

@@ -3,6 +3,7 @@ mod dies;
 mod faults;
 mod netlists;
 mod predicted;
+mod profiles;
 mod readers;
 mod reports;
 mod responses;

@@ -2,7 +2,7 @@
 use super::texts::{NETLIST, joined};
 use diag_report::summary_text;
 use diagnosis::{Design, Sections, bundle_text, read_bundle};
-use scan_model::{Name, NoMemory};
+use scan_model::{Name, NoMemory, Profile};
 use std::alloc::Global;
 
 // Whether the design has its name, the bundle as its text, and one pattern.
@@ -40,6 +40,7 @@ fn is_packed(alloc: Global) -> Result<bool, NoMemory> {
         return Ok(false);
     };
     let texts = Sections {
+        profile: Profile::One,
         netlist,
         scan: b"",
         patterns: b"CAPTURE 11111\n",

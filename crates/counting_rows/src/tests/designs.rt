@@ -1,5 +1,5 @@
 use diagnosis::{BundleFault, Design, design_of};
-use scan_model::NoMemory;
+use scan_model::{NoMemory, Profile};
 use std::alloc::Global;
 
 pub(crate) const C17: &str =
@@ -29,7 +29,7 @@ pub(crate) fn repeated(alloc: Global, part: &str, times: u32) -> Result<String, 
     Ok(all)
 }
 
-/// The design d of four texts.
+/// The design d of four texts, in profile 1.
 pub(crate) fn design_of_bytes(
     alloc: Global,
     netlist: &[u8],
@@ -37,7 +37,7 @@ pub(crate) fn design_of_bytes(
     patterns: &[u8],
     pairs: &[u8],
 ) -> Result<Design, BundleFault> {
-    design_of(alloc, b"d", netlist, scan, patterns, pairs)
+    design_of(alloc, b"d", Profile::One, netlist, scan, patterns, pairs)
 }
 
 pub(crate) fn design(

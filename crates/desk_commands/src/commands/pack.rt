@@ -22,6 +22,7 @@ fn bundle_over<'a>(alloc: Global, design: &ReadDesign<Name>) -> Result<Name, Sto
     ensures fault { ends_by_fault result ≡ false }
 {
     let texts = Sections {
+        profile: design.parts.profile(),
         netlist: design.netlist.as_slice(),
         scan: design.scan.as_slice(),
         patterns: design.patterns.as_slice(),

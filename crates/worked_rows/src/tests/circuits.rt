@@ -1,4 +1,5 @@
 use diagnosis::{BundleFault, Design, design_of};
+use scan_model::Profile;
 use std::alloc::Global;
 
 pub(crate) fn c17() -> &'static str {
@@ -14,7 +15,7 @@ pub(crate) fn s27_chain() -> &'static str {
     "CHAIN c0 G5 G6 G7\n"
 }
 
-/// The design d of a netlist, a scan text, a pattern text and neighbours.
+/// The design d of a netlist, a scan text, a pattern text and neighbours, in profile 1.
 pub(crate) fn design(
     alloc: Global,
     netlist: &str,
@@ -25,6 +26,7 @@ pub(crate) fn design(
     design_of(
         alloc,
         b"d",
+        Profile::One,
         netlist.as_bytes(),
         scan.as_bytes(),
         patterns.as_bytes(),

@@ -1,3 +1,5 @@
+use Rattle.std.proofs.Common.{◌≡◌, Ok, sym, ap, ◌∙◌}
+use Rattle.diagnosis.specs.Bundle.{bundle_text, bundle_reading}
 use Rattle.diagnosis.specs.Reading.{four}
 use Rattle.diagnosis.proofs.PackedReads.{packed_reads}
 use Rattle.diagnosis.proofs.design.design_with.Goals as goal
@@ -5,4 +7,6 @@ use Rattle.diagnosis.proofs.design.design_with.Goals as goal
 -- The bundle stands for what the texts stand for.
 pub whole-requires-clause-stands : goal.whole-requires-clause-stands
 whole-requires-clause-stands c =
-    rw (c.in_ok-named.ensures.text, c.in_ok-made.ensures.parts) (packed_reads (four c.args.netlist.now c.args.scan.now c.args.patterns.now c.args.neighbours.now) c.args.parts c.requires.stands)
+    let texts = four c.args.parts.profile c.args.netlist.now c.args.scan.now c.args.patterns.now c.args.neighbours.now in
+    let text : c.in_ok-named.named.text ≡ bundle_text texts = c.in_ok-named.ensures.text ∙ ap (λ profile. bundle_text (four profile c.args.netlist.now c.args.scan.now c.args.patterns.now c.args.neighbours.now)) c.profile.ensures.value in
+    ap bundle_reading text ∙ packed_reads texts c.args.parts c.requires.stands ∙ ap Ok (sym c.in_ok-made.ensures.parts)

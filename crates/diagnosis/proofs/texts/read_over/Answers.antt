@@ -12,7 +12,7 @@ returns-in-Ok-clause-told g c = λ t tells held.
     let text = shows c.args.netlist.now in
     let stands : netlist_reading text ≡ Ok c.in-Ok.named.circuit = subst (λ bytes. netlist_reading bytes ≡ Ok c.in-Ok.named.circuit) c.bytes.ensures c.in-Ok.ensures.reading in
     let told = c.read_with.ensures.told t tells in
-    comes_after (netlist_text t) (with_circuit t) g.S.TextSource.halt (λ r. shown_over shows (text, r.circuit) r.over) (text, c.in-Ok.named.circuit) c.read_with.result
+    comes_after (netlist_text t) (with_circuit t) g.S.TextSource.halt (λ r. shown_over t.profile shows (text, r.circuit) r.over) (text, c.in-Ok.named.circuit) c.read_with.result
     (text_serves t.netlist t.rule netlist_reading text c.in-Ok.named.circuit held stands) told
 
 pub returns-in-Err-clause-told : goal.returns-in-Err-clause-told

@@ -1,5 +1,6 @@
 use Rattle.std.proofs.Common.{◌≡◌, ℕ, List}
 use Rattle.diagnosis.specs.Reading.{four}
+use Rattle.scan_model.specs.declared.fault.Profile.TheVariants.{One}
 use Rattle.made_designs.specs.MadeNetlist.{made_netlist}
 use Rattle.made_designs.specs.MadeScan.{made_scan}
 use Rattle.made_designs.specs.MadePatterns.{made_patterns}
@@ -7,7 +8,7 @@ use Rattle.made_designs.specs.MadePairs.{made_pairs}
 use Rattle.made_designs.proofs.design.made_design.Goals as goal
 
 -- four texts that are equal one by one
-alike : (n s p b n' s' p' b' : List ℕ) → n ≡ n' → s ≡ s' → p ≡ p' → b ≡ b' → four n s p b ≡ four n' s' p' b'
+alike : (n s p b n' s' p' b' : List ℕ) → n ≡ n' → s ≡ s' → p ≡ p' → b ≡ b' → four One n s p b ≡ four One n' s' p' b'
 alike n s p b n' s' p' b' netlists scans patterns neighbours = cc
 
 pub returns-clause-texts : goal.returns-clause-texts

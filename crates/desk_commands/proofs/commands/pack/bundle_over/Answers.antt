@@ -11,5 +11,5 @@ returns-in_err-bundle_text-clause-told c =
 
 pub returns-clause-told : goal.returns-clause-told
 returns-clause-told c =
-    let packed = c.in_ok-bundle_text.ensures ∙ ap bundle_text (same_four _ _ _ _ _ _ _ _ c.as_slice.ensures c.as_slice-2.ensures c.as_slice-3.ensures c.as_slice-4.ensures) in
+    let packed = c.in_ok-bundle_text.ensures ∙ ap bundle_text (same_four _ _ _ _ _ _ _ _ _ _ c.profile.ensures.value c.as_slice.ensures c.as_slice-2.ensures c.as_slice-3.ensures c.as_slice-4.ensures) in
     ap Ok (sym packed)
