@@ -1,5 +1,5 @@
 -- Pages that are due.
-use Rattle.std.proofs.Common.{◌≡◌, ◌≢◌, ◌≤◌, ◌∙◌, subst, inl, inr, List, ℕ, true, refl, sym, arith, Result, Ok, Err}
+use Rattle.std.proofs.Common.{◌≡◌, ◌≢◌, ◌∙◌, inl, inr, List, ℕ, true, refl, sym, arith, Result, Ok, Err}
 use Rattle.std.specs.Prelude.{IfOk}
 use Rattle.scan_model.specs.declared.rows.NoMemory.{NoMemory}
 use Rattle.diagnosis.specs.declared.section.Section.{Section}
@@ -46,10 +46,6 @@ other_status : (other : ℕ) → 0 ≢ other → 3 ≢ other → (reading : Resu
 other_status other zero three (Ok text) = zero
 other_status other zero three (Err refused) = three
 
-few_status : (seed blocks : ℕ) → (reading : Result ScanTest (Section × (ℕ × ℕ))) → (demo_of seed blocks reading).status ≤ 11
-few_status seed blocks (Ok t) = omega arith
-few_status seed blocks (Err refused) = omega arith
-
 module _ (seed blocks : ℕ) where
   never : (other : ℕ) → 0 ≢ other → 3 ≢ other → (made : Result Page NoMemory) → IfOk made (λ page. page.status ≡ (demo_output seed blocks).status)
       → IfOk made (λ page. page.status ≢ other)
@@ -69,5 +65,5 @@ module _ (seed blocks : ℕ) where
   demo_not_memory = never 8 (omega arith) (omega arith)
 
   pub demo_not_serving : (made : Result Page NoMemory) → IfOk made (λ page. page.status ≡ (demo_output seed blocks).status) → IfOk made (λ page. IsOfPage page.status)
-  demo_not_serving (Ok page) is = (never 7 (omega arith) (omega arith) (Ok page) is, never 9 (omega arith) (omega arith) (Ok page) is, never 10 (omega arith) (omega arith) (Ok page) is, never 1 (omega arith) (omega arith) (Ok page) is, subst (λ n. n ≤ 11) (sym is) (few_status seed blocks (texts_reading (made_texts seed blocks))))
+  demo_not_serving (Ok page) is = (never 7 (omega arith) (omega arith) (Ok page) is, never 9 (omega arith) (omega arith) (Ok page) is, never 10 (omega arith) (omega arith) (Ok page) is)
   demo_not_serving (Err e) is = tt

@@ -1,5 +1,5 @@
 -- What is due at the end of a command.
-use Rattle.std.specs.Prelude.{◌≡◌, ◌≢◌, ◌≤◌, ◌⊎◌, ℕ, List, ◌++◌, codes, Contains}
+use Rattle.std.specs.Prelude.{◌≡◌, ◌≢◌, ◌⊎◌, ℕ, List, ◌++◌, codes, Contains}
 use Rattle.desk_commands.specs.Work.{Output}
 
 -- the shelf failed at a file that is then read, and its count rose
@@ -14,6 +14,6 @@ pub record FaultIsDue (output : Output) (rose : Type 0) (status : ℕ) (text : L
 abbrev pub IsDueOf : Output → Type 0 → ℕ → List ℕ → Type 0
 IsDueOf output rose status text = ((status ≡ output.status) × (text ≡ output.text)) ⊎ FaultIsDue output rose status text
 
--- one of 0, 2 to 6, 8 and 11: none of those of `serve` alone
+-- a status that is none of those of `serve` alone
 abbrev pub IsOfPage : ℕ → Type 0
-IsOfPage status = (status ≢ 7) × (status ≢ 9) × (status ≢ 10) × (status ≢ 1) × (status ≤ 11)
+IsOfPage status = (status ≢ 7) × (status ≢ 9) × (status ≢ 10)

@@ -1,5 +1,5 @@
 -- What a run of `serve` says by its exit status.
-use Rattle.std.proofs.Common.{◌≡◌, ◌≢◌, ◌≤◌, ◌∙◌, ℕ, zero, suc, Bool, true, false, List, Option, Some, None, ◌==◌, codes, length, eqb-true, refl, sym, ap, subst, inl, inr, arith, true≢false}
+use Rattle.std.proofs.Common.{◌≡◌, ◌≢◌, ◌≤◌, ◌∙◌, ℕ, Bool, true, false, List, Option, Some, None, ◌==◌, codes, length, eqb-true, refl, sym, ap, subst, inl, inr, arith, true≢false}
 use Rattle.std.specs.Prelude.{◌&&◌, nat_le}
 use Rattle.std.specs.List.{list_all}
 use Rattle.std.proofs.lemmas.Bool.{leb-true}
@@ -11,7 +11,7 @@ use Rattle.desk_serve.specs.Lines.{status_of}
 use Rattle.desk_serve.specs.Runs.{Asked, Outside, HasEnded, HasRun, IsWritten}
 use Rattle.desk_commands.specs.Ending.{IsOfPage}
 use Rattle.desk_commands.specs.Words.{begins, is_count_to, is_plain_word, names_page, number_at, word_at}
-use Rattle.desk_run.specs.Ending.{Ends, IsStatus}
+use Rattle.desk_run.specs.Ending.{Ends}
 use Rattle.desk_run.specs.Words.{are_right, is_serve}
 
 -- the statuses of files and words are none of `serve`
@@ -117,30 +117,10 @@ serve_workers words e =
 -- the status of a page stays one, or is that of a sink that failed
 pub ends_of_page : (status : ℕ) (text : List ℕ) (result : ℕ) (old new : Option (List ℕ)) (rose : Type 0) → IsOfPage status → Ends status text result old new rose → IsOfPage result
 ends_of_page status text result old new rose of_page (inl (is, wrote)) = subst IsOfPage (sym is) of_page
-ends_of_page status text result old new rose of_page (inr (is, part, cause)) = subst IsOfPage (sym is) (omega arith, omega arith, omega arith, omega arith, omega arith)
+ends_of_page status text result old new rose of_page (inr (is, part, cause)) = subst IsOfPage (sym is) (omega arith, omega arith, omega arith)
 
 pub of_2 : IsOfPage 2
-of_2 = (omega arith, omega arith, omega arith, omega arith, omega arith)
+of_2 = (omega arith, omega arith, omega arith)
 
 pub of_8 : IsOfPage 8
-of_8 = (omega arith, omega arith, omega arith, omega arith, omega arith)
-
--- ---- all statuses
-
-listed : (n : ℕ) → n ≢ 1 → n ≤ 11 → IsStatus n
-listed zero other few = inl refl
-listed (suc n) other few = inr (omega (arith, other), few)
-
-pub page_listed : (status : ℕ) → IsOfPage status → IsStatus status
-page_listed status is = listed status is.3 is.4
-
-listed_ending : (ending : Ending) → IsStatus (status_of ending)
-listed_ending (Done sessions deeds) = inl refl
-listed_ending SinkFault = inr (omega arith, omega arith)
-listed_ending StoreFault = inr (omega arith, omega arith)
-listed_ending NoMemory = inr (omega arith, omega arith)
-listed_ending (Spoiled row) = inr (omega arith, omega arith)
-listed_ending StreetFault = inr (omega arith, omega arith)
-
-pub run_listed : (asked : Asked) (old new : Outside) (untouched : Type 0) (status : ℕ) → HasRun asked old new untouched status → IsStatus status
-run_listed asked old new untouched status (ending, is, ended) = subst IsStatus (sym is) (listed_ending ending)
+of_8 = (omega arith, omega arith, omega arith)

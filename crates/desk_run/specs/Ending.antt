@@ -1,13 +1,9 @@
 -- How a run may end.
-use Rattle.std.specs.Prelude.{◌≡◌, ◌≤◌, ◌⊎◌, ℕ, List, codes, Option}
+use Rattle.std.specs.Prelude.{◌≡◌, ◌⊎◌, ℕ, List, codes, Option}
 use Rattle.std.specs.Io.KnownBytes.{append_known}
 use Rattle.desk_outside.specs.Bytes.{AddsPart}
 use Rattle.desk_commands.specs.Work.{Output}
 use Rattle.desk_commands.specs.Ending.{IsDueOf}
-
--- the statuses that a run may end with: 0, and 2 to 11
-abbrev pub IsStatus : ℕ → Type 0
-IsStatus status = (status ≡ 0) ⊎ ((2 ≤ status) × (status ≤ 11))
 
 -- all the bytes were added; or the sink's count rose, and bytes from their front were added
 abbrev pub Ends : ℕ → List ℕ → ℕ → Option (List ℕ) → Option (List ℕ) → Type 0 → Type 0

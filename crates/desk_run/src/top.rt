@@ -8,7 +8,7 @@ ghost use Rattle.desk_commands.specs.Words.{names_page};
 ghost use Rattle.desk_commands.specs.Commands.{work};
 ghost use Rattle.desk_commands.specs.Ending.{IsOfPage};
 ghost use Rattle.desk_run.specs.Words.{are_right, is_serve, asked_by};
-ghost use Rattle.desk_run.specs.Ending.{Ran, Ends, IsStatus};
+ghost use Rattle.desk_run.specs.Ending.{Ran, Ends};
 
 use crate::words::{is_serve, serving_of};
 use desk_commands::{command_of, page_of_command};
@@ -120,7 +120,6 @@ where
     ensures no_files { is_serve (map string_bytes words.now) ≡ true → shelf.new ≡ shelf.old }
 
     // What each status stands for, whatever the shelf, the sink, the street and the cabinet tell.
-    ensures statuses { IsStatus result }
     ensures wrong { are_right (map string_bytes words.now) ≡ false → (result ≡ 2) ⊎ (result ≡ 6) }
     ensures right { result ≡ 2 → are_right (map string_bytes words.now) ≡ false }
     ensures shelf_fault { result ≡ 5 → Rose (F.faults shelf.old) (F.faults shelf.new) }

@@ -1,6 +1,6 @@
 use Rattle.std.proofs.Common.{◌≡◌, ◌∙◌, map, string_bytes, true, false, refl, sym, true≢false}
 use Rattle.desk_run.specs.Words.{is_serve}
-use Rattle.desk_run.proofs.Served.{never_2, never_5, sink_rose, store_rose, spoiled_alone, street_rose, serve_is_right, page_is_right, run_listed, page_listed}
+use Rattle.desk_run.proofs.Served.{never_2, never_5, sink_rose, store_rose, spoiled_alone, street_rose, serve_is_right, page_is_right}
 use Rattle.desk_run.proofs.top.run.Goals as goal
 
 pub returns-then-is_serve-clause-told : goal.returns-then-is_serve-clause-told
@@ -26,9 +26,6 @@ returns-then-is_serve-clause-no_files g c =
     let words = map string_bytes c.args.words.now in
     let serves : is_serve words ≡ true = sym c.is_serve.ensures ∙ c.if-is_serve.true in
     λ e. refl
-
-pub returns-then-is_serve-clause-statuses : goal.returns-then-is_serve-clause-statuses
-returns-then-is_serve-clause-statuses g c = run_listed _ _ _ _ _ c.run_serve.ensures.served
 
 pub returns-then-is_serve-clause-wrong : goal.returns-then-is_serve-clause-wrong
 returns-then-is_serve-clause-wrong g c =
@@ -143,6 +140,3 @@ returns-clause-memory g c =
     let words = map string_bytes c.args.words.now in
     let page : is_serve words ≡ false = sym c.is_serve.ensures ∙ c.if-is_serve.false in
     λ alone. c.run_page.ensures.memory
-
-pub returns-clause-statuses : goal.returns-clause-statuses
-returns-clause-statuses g c = page_listed _ c.run_page.ensures.not_serving
