@@ -8,7 +8,8 @@ sentences() {
     awk '
         function plain(text) { gsub(/`/, "", text); gsub(/^ +| +$/, "", text); return text }
         function quoted(text) { gsub(/\\/, "\\\\", text); gsub(/"/, "\\\"", text); return "\"" text "\"" }
-        function rule(number, text) { if (!(number in rules)) order[++many] = number; rules[number] = plain(text) }
+        # A rule that has several rows is told by the first; the others are more of its examples.
+        function rule(number, text) { if (number in rules) return; order[++many] = number; rules[number] = plain(text) }
         /^#/ { part = $0; paragraph = "" }
         /^$/ { paragraph = "" }
         { paragraph = paragraph " " $0; split($0, cell, / *[|] */) }
