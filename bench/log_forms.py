@@ -57,7 +57,7 @@ def made_logs(folder):
 
 def count(program, folder, log):
     texts = [os.path.join(folder, name) for name in TEXTS]
-    return instructions(['taskset', '-c', '0', program, 'diagnose', 'demo', 'demo', *texts, os.path.join(folder, log)], folder)
+    return instructions([program, 'diagnose', 'demo', 'demo', *texts, os.path.join(folder, log)], folder)
 
 
 def tell(name, counted, first):
@@ -68,6 +68,8 @@ def main():
     if len(sys.argv) != 3:
         sys.exit(__doc__)
     other, before = (os.path.abspath(word) for word in sys.argv[1:])
+    # One processor for this script and what it runs.
+    os.sched_setaffinity(0, {min(os.sched_getaffinity(0))})
     with tempfile.TemporaryDirectory() as folder:
         subprocess.run([other, 'files', '7', '200', folder], check=True, stdout=subprocess.DEVNULL)
         for name in ('demo.log', 'each.log', 'many.log'):
