@@ -8,6 +8,7 @@ pub mod WordAssigning
 pub mod Packing
 pub mod GoodValues
 pub mod GoodBlocks
+pub mod RowsOfTest
 pub mod PlaceWords
 pub mod SortedGroups
 pub mod RenamedGroups
