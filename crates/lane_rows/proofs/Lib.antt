@@ -2,7 +2,7 @@ pub mod LaneOps
 pub mod LaneCounts
 pub mod LaneValues
 pub mod GateFolds
-pub mod Evaluated
+pub mod GatesInOrder
 pub mod Assigning
 pub mod WordAssigning
 pub mod Packing
