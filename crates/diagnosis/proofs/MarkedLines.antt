@@ -5,6 +5,8 @@ use Rattle.std.specs.List.{slice_split, position_or_len}
 use Rattle.std.proofs.lemmas.Bool.{eqb-true, ne_eqb, lt-ltb, not_from_false, or_right, false_from_ne_true}
 use Rattle.std.proofs.lemmas.List.Elements.{All-from_get_or}
 use Rattle.scan_model.specs.declared.circuit.Net.{Net}
+use Rattle.scan_model.specs.declared.parts.Chain.{Chain}
+use Rattle.scan_model.specs.Netlist.{Netlist}
 use Rattle.scan_model.specs.Lines.{line_at, has_refused_byte, without_comment, is_blank}
 use Rattle.scan_model.specs.Words.{words, is_filled, has_words}
 use Rattle.scan_model.specs.TextFaults.{lowest, first_fault}
