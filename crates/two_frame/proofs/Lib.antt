@@ -1,3 +1,4 @@
 pub mod SlowStems
 pub mod SlowOperands
 pub mod SlowPins
+pub mod Transitions

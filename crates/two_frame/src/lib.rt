@@ -4,5 +4,5 @@
 mod laws;
 mod reader;
 
-pub use laws::{second_frame, slow_operands, slow_pins, slow_stems};
+pub use laws::{only_transitions, second_frame, slow_operands, slow_pins, slow_stems};
 pub use reader::read_two_frame;
