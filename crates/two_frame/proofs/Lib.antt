@@ -1,0 +1,4 @@
+pub mod SlowStems
+pub mod SlowOperands
+pub mod SlowPins
+pub mod Transitions
