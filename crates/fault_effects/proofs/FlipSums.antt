@@ -122,7 +122,7 @@ own_below s n has = elim (cases_Bool (ltb n (length s.overlay))) [
 
 -- so all of them are
 pub own_all_below : (t : ScanTest) (g : PackedGood) (s : Scratch) (nets : List ℕ) → BelongsTo t g → IsScratchIn g s → ((n : ℕ) → Contains nets n ↔ IsTrue (has_own_row s n)) → All (λ n. n < length t.netlist.nets) nets
-own_all_below t g s nets belongs scratch all k d lt = omega (arith, own_below s (get_or nets k d) ((all (get_or nets k d)).0 (Contains-get_or nets k d lt)), scratch.own, belongs.net_count)
+own_all_below t g s nets belongs scratch all k d lt = omega (arith, own_below s (get_or nets k d) ((all (get_or nets k d)).0 (Contains-get_or nets k d lt)), scratch.own, belongs.built.net_count)
 
 absent_not_in : (n : ℕ) (nets : List ℕ) → list_any (eqb n) nets ≡ false → Contains nets n → ⊥
 absent_not_in n nets none there = let e : true ≡ false = sym (list_any_at (eqb n) nets there.0 n there.1 (eq-eqb n (get_or nets there.0 n) (sym there.2))) ∙ none in cc

@@ -55,7 +55,7 @@ unmarked_loaded t g b h c K old new rows waiting rooms loaded = record {
 module _ (t : ScanTest) (sound : IsScanTest t) (g : PackedGood) (belongs : BelongsTo t g) (b : ℕ) (block_lt : b < length g.rows) (h : ℕ) (h_lt : h < length t.chains) (K : CellKind) (c : ℕ) where
   -- the net leads to no point, or is marked
   abbrev changed : Scratch → ℕ → Bool
-  changed s n = not (belongs.wired.live n) || has_place s.moved n
+  changed s n = not (belongs.built.wired.live n) || has_place s.moved n
 
   abbrev faulty : ℕ → Fault
   faulty i = fault.Cell h i K
@@ -72,11 +72,11 @@ module _ (t : ScanTest) (sound : IsScanTest t) (g : PackedGood) (belongs : Belon
     same_net : (j : ℕ) → j < 512 → captures t (pattern_of b j) ≡ true → (n : ℕ) → n < length t.netlist.nets → changed new n ≡ false
         → net_value t (Some (faulty c)) (pattern_of b j) n ≡ net_value t (Some (faulty (c + 1))) (pattern_of b j) n
     same_net j lt captured n n_lt same =
-        let parts = or_parts (not (belongs.wired.live n)) (has_place new.moved n) same in
-        let live = not_not (belongs.wired.live n) parts.0 in
-        sym (is.nets belongs.wired.live belongs.wired.covers belongs.wired.up n j n_lt live lt captured)
+        let parts = or_parts (not (belongs.built.wired.live n)) (has_place new.moved n) same in
+        let live = not_not (belongs.built.wired.live n) parts.0 in
+        sym (is.nets belongs.built.wired.live belongs.built.wired.covers belongs.built.wired.up n j n_lt live lt captured)
         ∙ ap (λ (p : Planes). held p j) (moved.others n parts.1)
-        ∙ was.nets belongs.wired.live belongs.wired.covers belongs.wired.up n j n_lt live lt captured
+        ∙ was.nets belongs.built.wired.live belongs.built.wired.covers belongs.built.wired.up n j n_lt live lt captured
 
     stays_in_shift : (j : ℕ) → j < 512 → pattern_of b j < length t.patterns → (pattern_at t (pattern_of b j)).kind ≡ Shift → (p : Point) → IsPoint t p → noted t h c (changed new) p ≡ false
         → observed t (Some (faulty c)) (pattern_of b j) p ≡ observed t (Some (faulty (c + 1))) (pattern_of b j) p
@@ -130,8 +130,8 @@ module _ (t : ScanTest) (sound : IsScanTest t) (g : PackedGood) (belongs : Belon
         (here : AreFreshAt t rows b (faulty c) after (observed_net t (Cell h c)))
         (above : AreFreshAt t rows b (faulty c) after (observed_net t (Cell h (c + 1)))) where
       done_at : (k : ℕ) → k < length (points_of t) → changed new (observed_at t k) ≡ true → IsNetDone t rows b (faulty c) h after (observed_at t k)
-      done_at k lt is_changed = done (observed_at t k) (observed_in_range t sound g belongs k lt)
-          (live_changed (belongs.wired.live (observed_at t k)) (has_place new.moved (observed_at t k)) (observed_live t sound g belongs k lt) is_changed)
+      done_at k lt is_changed = done (observed_at t k) (observed_in_range t sound g belongs.built k lt)
+          (live_changed (belongs.built.wired.live (observed_at t k)) (has_place new.moved (observed_at t k)) (observed_live t sound g belongs.built k lt) is_changed)
 
       by_net : (k : ℕ) → k < length (points_of t) → changed new (observed_at t k) ≡ true → IsFresh t rows b (faulty c) after k
       by_net k lt is_changed = (done_at k lt is_changed).own k lt refl

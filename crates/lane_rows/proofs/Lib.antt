@@ -2,12 +2,13 @@ pub mod LaneOps
 pub mod LaneCounts
 pub mod LaneValues
 pub mod GateFolds
-pub mod Evaluated
+pub mod GatesInOrder
 pub mod Assigning
 pub mod WordAssigning
 pub mod Packing
 pub mod GoodValues
 pub mod GoodBlocks
+pub mod RowsOfTest
 pub mod PlaceWords
 pub mod SortedGroups
 pub mod RenamedGroups

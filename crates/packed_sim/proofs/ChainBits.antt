@@ -60,10 +60,10 @@ module _ (t : ScanTest) (sound : IsScanTest t) (g : PackedGood) (belongs : Belon
   outside_lane s b j k block_lt in_points lane_lt outside loaded =
       let w = pattern_of b j in
       let o = observed_at t k in
-      let o_lt = observed_in_range t sound g belongs k in_points in
+      let o_lt = observed_in_range t sound g belongs.built k in_points in
       outside_bit w k in_points outside (are_opposite (good_at g b j o) (now_at g s b j o)) (λ captured.
-      ap (λ (v : Tri). are_opposite v (now_at g s b j o)) (good_is t sound g belongs b j o block_lt lane_lt o_lt captured)
-      ∙ ap (are_opposite (good_value t w o)) (loaded.nets belongs.wired.live belongs.wired.covers belongs.wired.up o j o_lt (observed_live t sound g belongs k in_points) lane_lt captured))
+      ap (λ (v : Tri). are_opposite v (now_at g s b j o)) (good_is t g belongs b j o block_lt lane_lt o_lt captured)
+      ∙ ap (are_opposite (good_value t w o)) (loaded.nets belongs.built.wired.live belongs.built.wired.covers belongs.built.wired.up o j o_lt (observed_live t sound g belongs.built k in_points) lane_lt captured))
 
 pub both_kinds : (there : Bool) (k : PatternKind) → ((there && same_kind Capture k) || (there && same_kind Shift k)) ≡ there
 both_kinds true Capture = refl
@@ -81,7 +81,7 @@ module _ (t : ScanTest) (sound : IsScanTest t) (g : PackedGood) (belongs : Belon
         | inl capture ↦
             let is : captures t w ≡ true = ap (λ (y : Bool). y && same_kind Capture (pattern_at t w).kind) (lt-ltb w (length t.patterns) w_lt) ∙ ap (same_kind Capture) capture in
             x_is ∙ ap (λ (y : Bool). cond y captured loaded) (p_is ∙ is) ∙ captured_is
-            ∙ good_is t sound g belongs b j (observed_net t (Cell h i)) block_lt lane_lt (observed_net-in_range t sound (Cell h i) is_point) is
+            ∙ good_is t g belongs b j (observed_net t (Cell h i)) block_lt lane_lt (observed_net-in_range t sound (Cell h i) is_point) is
             ∙ sym (observed_good t sound w (Cell h i) is_point capture)
         | inr shift ↦
             let off : p ≡ false = p_is ∙ ap (λ (k : PatternKind). ltb w (length t.patterns) && same_kind Capture k) shift ∙ and_false (ltb w (length t.patterns)) in

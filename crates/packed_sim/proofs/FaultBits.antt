@@ -35,10 +35,11 @@ use Rattle.scan_model.proofs.counting.Shown.{logic_keeps, point_pin-net, point_a
 use Rattle.scan_model.proofs.counting.Masks.{masks-capture, masks-shift}
 use Rattle.lane_rows.specs.Planes.{Planes, held}
 use Rattle.lane_rows.specs.GoodRows.{pattern_of, same_kind}
+use Rattle.lane_rows.proofs.RowsOfTest.{captures_kind}
 use Rattle.packed_sim.specs.declared.good.PackedGood.{PackedGood}
 use Rattle.packed_sim.specs.Spread.{AreApart}
 use Rattle.packed_sim.specs.Belongs.{BelongsTo, good_at, observed_at, captures}
-use Rattle.packed_sim.proofs.Belonging.{captures_kind, good_is, observed_in_range}
+use Rattle.packed_sim.proofs.Belonging.{good_is, observed_in_range}
 use Rattle.packed_sim.proofs.Forcing.{two_of}
 
 pub pattern_is : (word i : ℕ) → pattern_of (word / 8) (64 * (word % 8) + i) ≡ 64 * word + i
@@ -108,7 +109,7 @@ module _ (t : ScanTest) (sound : IsScanTest t) (order : List ℕ) (ordered : IsE
         let same : w ≡ 64 * word + i = pattern_is word i in
         logic_bit f logic (64 * word + i) k in_points (are_opposite (good_at g b j (observed_at t k)) now) (λ captured.
         let captured_w : captures t w ≡ true = ap (captures t) same ∙ captured in
-        ap (λ (v : Tri). are_opposite v now) (good_is t sound g belongs b j (observed_at t k) (block_inside t g word belongs lt) (lane_inside word i i_lt) (observed_in_range t sound g belongs k in_points) captured_w)
+        ap (λ (v : Tri). are_opposite v now) (good_is t g belongs b j (observed_at t k) (block_inside t g word belongs lt) (lane_inside word i i_lt) (observed_in_range t sound g belongs.built k in_points) captured_w)
         ∙ ap (are_opposite (good_value t w (observed_at t k))) (is captured_w)
         ∙ plain_shows f logic pins w k in_points (captures_kind t w captured_w)
         ∙ ap (λ (x : ℕ). predicts_fail t f (bit_of x k)) same)

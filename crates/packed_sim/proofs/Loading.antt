@@ -36,6 +36,8 @@ use Rattle.lane_rows.specs.Planes.{Planes, held}
 use Rattle.lane_rows.specs.GoodRows.{pattern_of, same_kind}
 use Rattle.lane_rows.specs.Places.{has_place, room}
 use Rattle.lane_rows.specs.Wired.{Covers}
+use Rattle.lane_rows.specs.Stimuli.{stimuli_of}
+use Rattle.lane_rows.proofs.RowsOfTest.{captures_there, captures_kind}
 use Rattle.packed_sim.specs.declared.good.PackedGood.{PackedGood}
 use Rattle.packed_sim.specs.declared.scratch.Scratch.{Scratch}
 use Rattle.packed_sim.specs.Rows.{row_now, no_row}
@@ -43,7 +45,7 @@ use Rattle.packed_sim.specs.Spread.{lane_now, FitsScratch, IsClosed, IsFree, IsW
 use Rattle.packed_sim.specs.Belongs.{BelongsTo, IsScratchIn, IsScratchOf, block_at, good_at, now_at, captures}
 use Rattle.packed_sim.specs.Loaded.{IsOpenLoad, IsLoaded, passed_value}
 use Rattle.packed_sim.proofs.Spreading.{live_values, behind_closed, behind_free, set_fits, set_here, set_elsewhere, set_keeps_open, clean_open}
-use Rattle.packed_sim.proofs.Belonging.{fits_of, inside_of, are_good, captures_there, captures_kind, observed_live}
+use Rattle.packed_sim.proofs.Belonging.{fits_of, inside_of, are_good, own_rows, observed_live}
 use Rattle.packed_sim.proofs.FaultBits.{kinds, and_false}
 use Rattle.packed_sim.proofs.CellPlaces.{cells_apart, point_of_cell}
 
@@ -77,7 +79,7 @@ module _ (t : ScanTest) (sound : IsScanTest t) (g : PackedGood) (belongs : Belon
   net_sound = sound.circuit.netlist
 
   ordered : IsEvaluationOrder t.netlist order
-  ordered = belongs.wired.wired.ordered
+  ordered = belongs.built.wired.wired.ordered
 
   pub load_len : (w : ℕ) → w < length t.patterns → L ≡ length (load t w h)
   load_len w lt = same_len t.chains (pattern_at t w).loads h no_chain [] (sound.patterns.each w no_pattern lt).loads h_lt
@@ -125,7 +127,7 @@ module _ (t : ScanTest) (sound : IsScanTest t) (g : PackedGood) (belongs : Belon
 
     pub clean_load : (s : Scratch) → IsScratchOf g s → 0 < L → IsOpenLoad t g b h (L - 1) K s
     clean_load s is some = record {
-      fits = fits_of t sound g belongs b s block_lt is.inside;
+      fits = fits_of t sound g belongs.built b s block_lt is.inside;
       cells = λ i j lt lane_lt w_lt.
           let w = pattern_of b j in
           let len = load_len w w_lt in
@@ -137,7 +139,7 @@ module _ (t : ScanTest) (sound : IsScanTest t) (g : PackedGood) (belongs : Belon
           let w = pattern_of b j in
           let same : source (L - 1) w ≡ source_of t None w = fun_ext (λ n. source_last t w sound (captures_there t w captured) (captures_kind t w captured) h K h_lt n) in
           subst (λ (r : ℕ → Tri). IsOpen t.netlist order values r nothing_forced live j s) (sym same)
-          (clean_open t.netlist order net_sound ordered values s is.clean live (source_of t None w) j (are_good t sound g belongs b j block_lt lane_lt captured));
+          (clean_open t.netlist order net_sound ordered values s is.clean live (source_of t None w) j (are_good t sound g belongs.built (stimuli_of t) (own_rows t g belongs) b j block_lt lane_lt captured));
     }
 
     -- ---- one cell more
@@ -146,16 +148,16 @@ module _ (t : ScanTest) (sound : IsScanTest t) (g : PackedGood) (belongs : Belon
         (row_is : (j : ℕ) → j < 512 → pattern_of b j < length t.patterns → held row j ≡ passed K (load t (pattern_of b j) h) (c + 1)) where
       pub load_next : IsOpenLoad t g b h (c + 1) K old → IsOpenLoad t g b h c K new
       load_next open' = record {
-        fits = set_fits t.netlist order net_sound ordered g.wiring.sinks values belongs.wired.wired net net_lt row old new open'.fits is_set;
+        fits = set_fits t.netlist order net_sound ordered g.wiring.sinks values belongs.built.wired.wired net net_lt row old new open'.fits is_set;
         cells = λ i j lt lane_lt w_lt. elim (cases_eq i (c + 1)) [
           | inl same ↦
               ap (λ (k : ℕ). now_at g new b j (cell t h k)) same
-              ∙ set_here t.netlist order net_sound ordered g.wiring.sinks values belongs.wired.wired net net_lt row old new open'.fits is_set j
+              ∙ set_here t.netlist order net_sound ordered g.wiring.sinks values belongs.built.wired.wired net net_lt row old new open'.fits is_set j
               ∙ row_is j lane_lt w_lt
               ∙ sym (load_moves K c (load t (pattern_of b j) h))
               ∙ ap (loaded_at K c (load t (pattern_of b j) h)) (sym same)
           | inr other ↦
-              ap (λ (p : Planes). held p j) (set_elsewhere t.netlist order net_sound ordered g.wiring.sinks values belongs.wired.wired net net_lt row old new open'.fits is_set (cell t h i) (cells_apart t sound h i (c + 1) h_lt lt more other))
+              ap (λ (p : Planes). held p j) (set_elsewhere t.netlist order net_sound ordered g.wiring.sinks values belongs.built.wired.wired net net_lt row old new open'.fits is_set (cell t h i) (cells_apart t sound h i (c + 1) h_lt lt more other))
               ∙ open'.cells i j lt lane_lt w_lt
               ∙ sym (load_stays K c i (load t (pattern_of b j) h) other)
         ];
@@ -163,7 +165,7 @@ module _ (t : ScanTest) (sound : IsScanTest t) (g : PackedGood) (belongs : Belon
             let w = pattern_of b j in
             let w_lt = captures_there t w captured in
             let kind = captures_kind t w captured in
-            set_keeps_open t.netlist order net_sound ordered g.wiring.sinks values belongs.wired.wired net net_lt row old new open'.fits is_set live (source (c + 1) w) (source c w) nothing_forced nothing_forced j covers
+            set_keeps_open t.netlist order net_sound ordered g.wiring.sinks values belongs.built.wired.wired net net_lt row old new open'.fits is_set live (source (c + 1) w) (source c w) nothing_forced nothing_forced j covers
             (λ n other u. same_source t.netlist (source (c + 1) w) (source c w) u n (driver_of t.netlist n) (sym (source_stays t w sound w_lt kind h K h_lt c n other)))
             (λ u. flop_driven t.netlist (source c w) u net (driver_of t.netlist net) (cell_is_flop_of t sound h (c + 1) h_lt more).1 ∙ source_moves t w sound w_lt kind h K h_lt c more ∙ sym (row_is j lane_lt w_lt))
             (open'.still_open live j lane_lt covers up captured);
@@ -206,7 +208,7 @@ module _ (t : ScanTest) (sound : IsScanTest t) (g : PackedGood) (belongs : Belon
           → IsOpen t.netlist order values r forced live j s → IsSettled t.netlist values r forced live j end)
           → IsLoaded t g b h c K end
       load_settled fits empty settled_rooms leaves settles = record {
-        inside = inside_of t sound g belongs b start end inside fits empty (settled_rooms ∙ rooms);
+        inside = inside_of t sound g belongs.built b start end inside fits empty (settled_rooms ∙ rooms);
         cells = λ i j lt lane_lt w_lt. ap (λ (p : Planes). held p j) (leaves (cell t h i) (cell_leaf i lt)) ∙ open'.cells i j lt lane_lt w_lt;
         nets = λ live covers up n j n_lt matters lane_lt captured.
             let w = pattern_of b j in
@@ -221,7 +223,7 @@ module _ (t : ScanTest) (sound : IsScanTest t) (g : PackedGood) (belongs : Belon
 
     pub loaded_open : (c : ℕ) (s : Scratch) → IsLoaded t g b h c K s → IsOpenLoad t g b h c K s
     loaded_open c s loaded = record {
-      fits = fits_of t sound g belongs b s block_lt loaded.inside;
+      fits = fits_of t sound g belongs.built b s block_lt loaded.inside;
       cells = loaded.cells;
       still_open = λ live j lane_lt covers up captured n n_lt matters.
           let w = pattern_of b j in
@@ -239,8 +241,8 @@ module _ (t : ScanTest) (sound : IsScanTest t) (g : PackedGood) (belongs : Belon
           → now_at g s b j (observed_net t (Cell h i)) ≡ value_at (captured t (Some (fault.Cell h c K)) (pattern_of b j) h) i
       data_net i j lt lane_lt is =
           let at = point_of_cell t h i h_lt lt in
-          let live : belongs.wired.live (observed_net t (Cell h i)) ≡ true = ap (λ (p : Point). belongs.wired.live (observed_net t p)) (sym at.2) ∙ observed_live t sound g belongs at.0 at.1 in
-          loaded.nets belongs.wired.live belongs.wired.covers belongs.wired.up (observed_net t (Cell h i)) j (observed_net-in_range t sound (Cell h i) (h_lt, lt)) live lane_lt is
+          let live : belongs.built.wired.live (observed_net t (Cell h i)) ≡ true = ap (λ (p : Point). belongs.built.wired.live (observed_net t p)) (sym at.2) ∙ observed_live t sound g belongs.built at.0 at.1 in
+          loaded.nets belongs.built.wired.live belongs.built.wired.covers belongs.built.wired.up (observed_net t (Cell h i)) j (observed_net-in_range t sound (Cell h i) (h_lt, lt)) live lane_lt is
           ∙ sym (captured_net t sound (pattern_of b j) h K c i lt)
 
       pub shown_capture : (i j : ℕ) (here next : Tri) → i < L → j < 512 → captures t (pattern_of b j) ≡ true → here ≡ value_at (captured t (Some (fault.Cell h c K)) (pattern_of b j) h) i

@@ -16,15 +16,15 @@ use Rattle.scan_model.specs.Faults.{stuck_value}
 use Rattle.scan_model.specs.Netlist.{IsNetlist, IsPlacedAt, driver_of, net_at, pin_at}
 use Rattle.scan_model.specs.ChainShift.{value_at}
 use Rattle.scan_model.specs.ScanTest.{ScanTest, IsScanTest}
-use Rattle.scan_model.specs.NetValue.{good_value}
+use Rattle.scan_model.specs.NetValue.{values_of, nothing_forced}
 use Rattle.scan_model.specs.BranchMask.{senses}
-use Rattle.scan_model.specs.Masks.{mask, forced_output, operand_values, is_operand_of}
-use Rattle.scan_model.proofs.counting.BranchPins.{branch_flips}
+use Rattle.scan_model.specs.Masks.{mask_from, forced_output_from, operand_values_from, is_operand_of}
+use Rattle.scan_model.proofs.counting.BranchPins.{branch_flips_from}
 use Rattle.lane_rows.specs.GoodRows.{pattern_of}
+use Rattle.lane_rows.specs.Stimuli.{Stimuli, AreRowsOf}
 use Rattle.packed_sim.specs.declared.good.PackedGood.{PackedGood}
-use Rattle.packed_sim.specs.Belongs.{BelongsTo, block_at, good_at, captures}
+use Rattle.packed_sim.specs.Belongs.{IsBuiltFor, block_at, good_at}
 use Rattle.packed_sim.specs.Ways.{read_values, senses_of}
-use Rattle.packed_sim.proofs.Belonging.{good_is}
 
 same_map : (f : ℕ → Tri) (h : ℕ → ℕ) (k : ℕ → Tri) (a n : ℕ) → ((p : ℕ) → a ≤ p → p < a + n → k p ≡ f (h p)) → map k (range_with_len a n) ≡ map f (map h (range_with_len a n))
 same_map f h k a zero agree = refl
@@ -33,36 +33,42 @@ same_map f h k a (suc n) agree =
     let rest = same_map f h k (a + 1) n (λ p le lt. agree p (omega arith) (omega arith)) in
     rw (first, rest) refl
 
-module _ (t : ScanTest) (sound : IsScanTest t) (g : PackedGood) (belongs : BelongsTo t g) (b j : ℕ) (block_lt : b < length g.rows) (lane_lt : j < 512) (captured : captures t (pattern_of b j) ≡ true)
+module _ (t : ScanTest) (sound : IsScanTest t) (g : PackedGood) (built : IsBuiltFor t g) (σ : Stimuli) (rows : AreRowsOf t.netlist σ g.rows) (b j : ℕ) (block_lt : b < length g.rows) (lane_lt : j < 512) (captured : σ.captures (pattern_of b j) ≡ true)
     (pin gate i : ℕ) (kind : GateKind) (v : Stuck) (pin_lt : pin < length t.netlist.pins) (gate_lt : gate < length t.netlist.nets)
     (stands : (pin_at t.netlist pin).place ≡ Operand gate i) (driven : driver_of t.netlist gate ≡ Gate kind) where
   net_sound : IsNetlist t.netlist
   net_sound = sound.circuit.netlist
 
-  abbrev w : ℕ
-  w = pattern_of b j
+  abbrev s : ℕ → Tri
+  s = σ.source (pattern_of b j)
 
-  operands_are : operand_values t w gate ≡ read_values t.netlist (block_at g b).values gate j
-  operands_are = same_map (good_at g b j) (λ p. (pin_at t.netlist p).net) (λ p. good_value t w (pin_at t.netlist p).net) (net_at t.netlist gate).first_pin (net_at t.netlist gate).pin_count
-      (λ p le lt. sym (good_is t sound g belongs b j (pin_at t.netlist p).net block_lt lane_lt (net_sound.pin_nets p (omega (arith, net_sound.operand_range gate gate_lt))) captured))
+  abbrev value : ℕ → Tri
+  value = values_of t.netlist s nothing_forced
+
+  good_is : (n : ℕ) → n < length t.netlist.nets → good_at g b j n ≡ value n
+  good_is n n_lt = rows.value b j n block_lt lane_lt n_lt captured
+
+  operands_are : operand_values_from t.netlist s gate ≡ read_values t.netlist (block_at g b).values gate j
+  operands_are = same_map (good_at g b j) (λ p. (pin_at t.netlist p).net) (λ p. value (pin_at t.netlist p).net) (net_at t.netlist gate).first_pin (net_at t.netlist gate).pin_count
+      (λ p le lt. sym (good_is (pin_at t.netlist p).net (net_sound.pin_nets p (omega (arith, net_sound.operand_range gate gate_lt)))))
 
   placed : IsPlacedAt t.netlist pin (Operand gate i)
   placed = subst (IsPlacedAt t.netlist pin) stands (net_sound.pin_places pin pin_lt)
 
-  own_value : value_at (operand_values t w gate) i ≡ good_value t w (pin_at t.netlist pin).net
-  own_value = get_or-map-range_with_len (λ p. good_value t w (pin_at t.netlist p).net) (net_at t.netlist gate).first_pin (net_at t.netlist gate).pin_count i pin Unknown placed.1 (sym placed.2)
+  own_value : value_at (operand_values_from t.netlist s gate) i ≡ value (pin_at t.netlist pin).net
+  own_value = get_or-map-range_with_len (λ p. value (pin_at t.netlist p).net) (net_at t.netlist gate).first_pin (net_at t.netlist gate).pin_count i pin Unknown placed.1 (sym placed.2)
 
   pub gate_mask_is : (x y : Bool) (r : Tri) → r ≡ good_at g b j (pin_at t.netlist pin).net → x ≡ are_opposite r (stuck_value v) → y ≡ senses_of kind (read_values t.netlist (block_at g b).values gate j) r
-      → (x && y) ≡ mask t (fault.Branch pin v) w gate
+      → (x && y) ≡ mask_from t.netlist s (fault.Branch pin v) gate
   gate_mask_is x y r r_is x_is y_is =
       let net_lt = net_sound.pin_nets pin pin_lt in
-      let r_good : r ≡ good_value t w (pin_at t.netlist pin).net = r_is ∙ good_is t sound g belongs b j (pin_at t.netlist pin).net block_lt lane_lt net_lt captured in
-      let xs = operand_values t w gate in
+      let r_good : r ≡ value (pin_at t.netlist pin).net = r_is ∙ good_is (pin_at t.netlist pin).net net_lt in
+      let xs = operand_values_from t.netlist s gate in
       let y_senses : y ≡ senses kind xs i = y_is
       ∙ ap (λ (l : List Tri). senses_of kind l r) (sym operands_are)
       ∙ ap (senses_of kind xs) (r_good ∙ sym own_value) in
       ap (λ (z : Bool). z && y) (x_is ∙ ap (λ (u : Tri). are_opposite u (stuck_value v)) r_good)
-      ∙ ap (λ (z : Bool). are_opposite (good_value t w (pin_at t.netlist pin).net) (stuck_value v) && z) y_senses
-      ∙ sym (branch_flips t sound g.wiring.order.items belongs.wired.wired.ordered w pin gate i v kind pin_lt stands driven)
-      ∙ sym (ap (λ (p : PinPlace). is_operand_of gate p && are_opposite (good_value t w gate) (forced_output t w (fault.Branch pin v) gate)) stands
-      ∙ ap (λ (z : Bool). z && are_opposite (good_value t w gate) (forced_output t w (fault.Branch pin v) gate)) (eq-eqb gate gate refl))
+      ∙ ap (λ (z : Bool). are_opposite (value (pin_at t.netlist pin).net) (stuck_value v) && z) y_senses
+      ∙ sym (branch_flips_from t.netlist g.wiring.order.items net_sound built.wired.wired.ordered s pin gate i v kind pin_lt stands driven)
+      ∙ sym (ap (λ (p : PinPlace). is_operand_of gate p && are_opposite (value gate) (forced_output_from t.netlist s (fault.Branch pin v) gate)) stands
+      ∙ ap (λ (z : Bool). z && are_opposite (value gate) (forced_output_from t.netlist s (fault.Branch pin v) gate)) (eq-eqb gate gate refl))

@@ -3,18 +3,19 @@ use Rattle.std.specs.Prelude.{◌≡◌, ℕ, ◌+◌, ◌*◌, ◌<◌, ◌≤�
 use Rattle.std.specs.List.{list_any, range_with_len}
 use Rattle.std.specs.Int.{bit_at}
 use Rattle.scan_model.specs.declared.values.Tri.{Tri}
-use Rattle.scan_model.specs.declared.parts.PatternKind.TheVariants.{Capture}
 use Rattle.scan_model.specs.declared.fault.Fault.{Fault}
 use Rattle.scan_model.specs.Netlist.{is_gate, net_numbers}
 use Rattle.scan_model.specs.Cone.{in_fan_in}
-use Rattle.scan_model.specs.ScanTest.{ScanTest, pattern_at, points_of, point_at}
+use Rattle.scan_model.specs.ScanTest.{ScanTest, points_of, point_at}
 use Rattle.scan_model.specs.Coverage.{bit_of}
 use Rattle.scan_model.specs.Response.{predicts_fail}
 use Rattle.scan_model.specs.Suspect.{observed_net}
 use Rattle.scan_model.specs.Masks.{touched_nets}
 use Rattle.lane_rows.specs.declared.block.Block.{Block}
 use Rattle.lane_rows.specs.Sources.{lane_values}
-use Rattle.lane_rows.specs.GoodRows.{AreGoodRows, no_block, same_kind}
+use Rattle.lane_rows.specs.GoodRows.{AreGoodRows, no_block}
+use Rattle.lane_rows.specs.Stimuli.{HaveRows}
+pub use Rattle.lane_rows.specs.Stimuli.{captures}
 use Rattle.lane_rows.specs.Places.{has_place, room}
 use Rattle.lane_rows.specs.Wired.{IsWiredFor}
 use Rattle.packed_sim.specs.declared.good.PackedGood.{PackedGood}
@@ -30,23 +31,24 @@ observed_at t k = observed_net t (point_at t k)
 abbrev pub points_of_net : ScanTest → ℕ → List ℕ
 points_of_net t n = filter (λ k. observed_at t k == n) (range_with_len 0 (length (points_of t)))
 
--- the pattern is there and captures
-abbrev pub captures : ScanTest → ℕ → Bool
-captures t w = nat_lt w (length t.patterns) && same_kind Capture (pattern_at t w).kind
-
 -- the nets that the points observe, all of them nets of the test
 pub record AreObserved (t : ScanTest) (nets : List ℕ) : Type 0 where
   pub are : nets ≡ map (observed_net t) (points_of t)
   pub in_range : All (λ n. n < length t.netlist.nets) nets
   pub few : length nets < 2 ^ 32
 
--- The rows and the wiring are those of a test.
-pub record BelongsTo (t : ScanTest) (g : PackedGood) : Type 0 where
-  pub rows : AreGoodRows t g.rows
+-- The wiring and the points are those of a test, and each block has a row for each net, of whatever values.
+pub record IsBuiltFor (t : ScanTest) (g : PackedGood) : Type 0 where
+  pub rows : HaveRows t.netlist g.rows
   pub observed : g.observed.items ≡ map (observed_net t) (points_of t)
   pub wired : IsWiredFor t.netlist g.observed.items g.wiring.order.items g.wiring.sinks
   pub net_count : length g.points ≡ length t.netlist.nets
   pub points : (n : ℕ) → n < length t.netlist.nets → slice_index_or g.points n [] ≡ points_of_net t n
+
+-- The same, and the rows are the fault-free ones of the test's patterns.
+pub record BelongsTo (t : ScanTest) (g : PackedGood) : Type 0 where
+  pub rows : AreGoodRows t g.rows
+  pub built : IsBuiltFor t g
 
 abbrev pub block_at : PackedGood → ℕ → Block
 block_at g b = slice_index_or g.rows b no_block

@@ -13,7 +13,7 @@ ghost use Rattle.lane_rows.specs.Planes.{held};
 ghost use Rattle.lane_rows.specs.GoodRows.{pattern_of};
 ghost use Rattle.lane_rows.specs.Places.{room};
 ghost use Rattle.packed_sim.specs.Spread.{HasMoved, IsWithin, is_behind};
-ghost use Rattle.packed_sim.specs.Belongs.{BelongsTo, IsScratchIn, IsScratchOf, block_at, good_at, now_at, gates_behind};
+ghost use Rattle.packed_sim.specs.Belongs.{IsBuiltFor, BelongsTo, IsScratchIn, IsScratchOf, block_at, good_at, now_at, gates_behind};
 ghost use Rattle.packed_sim.specs.Loaded.{IsOpenLoad, IsLoaded, passed_value};
 
 use crate::good::PackedGood;
@@ -260,7 +260,7 @@ impl PackedGood {
 
     /// The row that a net has now.
     pub fn row_now(&self, parts: &Parts, scratch: &Scratch, block: usize, net: u32) -> Packed
-        requires good { BelongsTo parts.now self.now }
+        requires built { IsBuiltFor parts.now self.now }
         requires scratch { IsScratchIn self.now scratch.now }
         requires block { block < length self.now.rows }
         requires net { net < length parts.now.netlist.nets }

@@ -4,14 +4,15 @@ ghost use Rattle.scan_model.specs.Values.{are_opposite};
 ghost use Rattle.scan_model.specs.ScanTest.{points_of};
 ghost use Rattle.scan_model.specs.NetValue.{values_of, source_of};
 ghost use Rattle.scan_model.specs.Force.{force, force_taken};
-ghost use Rattle.scan_model.specs.Masks.{flip_shows};
+ghost use Rattle.scan_model.specs.Masks.{flip_shows_from, flip_shows};
 ghost use Rattle.scan_model.proofs.counting.OneSite.{force_two};
 ghost use Rattle.lane_rows.specs.Lanes.{lane};
 ghost use Rattle.lane_rows.specs.Planes.{held};
 ghost use Rattle.lane_rows.specs.GoodRows.{pattern_of};
+ghost use Rattle.lane_rows.specs.Stimuli.{Stimuli, AreRowsOf};
 ghost use Rattle.packed_sim.specs.Rows.{no_row};
 ghost use Rattle.packed_sim.specs.Spread.{AreApart, lane_now};
-ghost use Rattle.packed_sim.specs.Belongs.{BelongsTo, IsScratchIn, IsScratchOf, block_at, good_at, now_at, observed_at, captures, has_own_row, gates_behind};
+ghost use Rattle.packed_sim.specs.Belongs.{IsBuiltFor, BelongsTo, IsScratchIn, IsScratchOf, block_at, good_at, now_at, observed_at, captures, has_own_row, gates_behind};
 
 use crate::good::PackedGood;
 use crate::scratch::Scratch;
@@ -65,13 +66,13 @@ impl PackedGood {
         row: Packed,
         steps: &mut Steps<L>,
     )
-        requires good { BelongsTo parts.now self.now }
+        requires built { IsBuiltFor parts.now self.now }
         requires scratch { IsScratchOf self.now scratch.old }
         requires block { block < length self.now.rows }
         requires net { net < length parts.now.netlist.nets }
         ensures scratch { IsScratchIn self.now scratch.new }
-        ensures values { (k j : ℕ) → k < length (points_of parts.now) → j < 512 → captures parts.now (pattern_of block j) ≡ true
-            → now_at self.now scratch.new block j (observed_at parts.now k) ≡ values_of parts.now.netlist (source_of parts.now None (pattern_of block j)) (force net (held row j)) (observed_at parts.now k) }
+        ensures values { (σ : Stimuli) → AreRowsOf parts.now.netlist σ self.now.rows → (k j : ℕ) → k < length (points_of parts.now) → j < 512 → σ.captures (pattern_of block j) ≡ true
+            → now_at self.now scratch.new block j (observed_at parts.now k) ≡ values_of parts.now.netlist (σ.source (pattern_of block j)) (force net (held row j)) (observed_at parts.now k) }
         ensures steps { steps.new ≤ steps.old + length (gates_behind parts.now (net ∷ [])) }
     {
         let good = self.values(block);
@@ -134,7 +135,7 @@ impl PackedGood {
     }
 
     /// Flips a net in some lanes, in a clean scratch, and evaluates again what changes and leads to a point. Where the net
-    /// is X nothing changes.
+    /// is X nothing changes. The rows may be those of any stimuli.
     pub fn flip<L: Ledger>(
         &self,
         parts: &Parts,
@@ -144,12 +145,14 @@ impl PackedGood {
         lanes: Row,
         steps: &mut Steps<L>,
     )
-        requires good { BelongsTo parts.now self.now }
+        requires built { IsBuiltFor parts.now self.now }
         requires scratch { IsScratchOf self.now scratch.old }
         requires block { block < length self.now.rows }
         requires net { net < length parts.now.netlist.nets }
         ensures scratch { IsScratchIn self.now scratch.new }
-        ensures shows { (k j : ℕ) → k < length (points_of parts.now) → j < 512 → captures parts.now (pattern_of block j) ≡ true
+        ensures shows_from { (σ : Stimuli) → AreRowsOf parts.now.netlist σ self.now.rows → (k j : ℕ) → k < length (points_of parts.now) → j < 512 → σ.captures (pattern_of block j) ≡ true
+            → are_opposite (good_at self.now block j (observed_at parts.now k)) (now_at self.now scratch.new block j (observed_at parts.now k)) ≡ (lane lanes j && flip_shows_from parts.now.netlist (σ.source (pattern_of block j)) net (observed_at parts.now k)) }
+        ensures shows { BelongsTo parts.now self.now → (k j : ℕ) → k < length (points_of parts.now) → j < 512 → captures parts.now (pattern_of block j) ≡ true
             → are_opposite (good_at self.now block j (observed_at parts.now k)) (now_at self.now scratch.new block j (observed_at parts.now k)) ≡ (lane lanes j && flip_shows parts.now (pattern_of block j) net k) }
         ensures steps { steps.new ≤ steps.old + length (gates_behind parts.now (net ∷ [])) }
     {
@@ -161,7 +164,7 @@ impl PackedGood {
 
     /// The fault-free row of a net.
     pub(crate) fn row_of(&self, parts: &Parts, block: usize, net: u32) -> Packed
-        requires good { BelongsTo parts.now self.now }
+        requires built { IsBuiltFor parts.now self.now }
         requires block { block < length self.now.rows }
         requires net { net < length parts.now.netlist.nets }
         ensures { (j : ℕ) → j < 512 → held result j ≡ good_at self.now block j net }
@@ -172,7 +175,7 @@ impl PackedGood {
 
     /// The lanes in which a net now has the opposite of its fault-free value.
     pub fn difference(&self, parts: &Parts, scratch: &Scratch, block: usize, net: u32) -> Row
-        requires good { BelongsTo parts.now self.now }
+        requires built { IsBuiltFor parts.now self.now }
         requires scratch { IsScratchIn self.now scratch.now }
         requires block { block < length self.now.rows }
         requires net { net < length parts.now.netlist.nets }

@@ -5,7 +5,8 @@ ghost use Rattle.scan_model.specs.Netlist.{driver_of, pin_at};
 ghost use Rattle.scan_model.specs.Loads.{cell};
 ghost use Rattle.scan_model.specs.Response.{data_pin};
 ghost use Rattle.scan_model.specs.Suspect as suspect;
-ghost use Rattle.packed_sim.specs.Belongs.{BelongsTo, IsScratchOf, AreObserved, points_of_net};
+ghost use Rattle.lane_rows.specs.Stimuli.{HaveRows};
+ghost use Rattle.packed_sim.specs.Belongs.{IsBuiltFor, BelongsTo, IsScratchOf, AreObserved, points_of_net};
 
 use crate::good::PackedGood;
 use crate::overlay::Overlay;
@@ -88,8 +89,17 @@ impl PackedGood {
     pub fn make(alloc: Global, parts: &Parts) -> Result<PackedGood, NoMemory>
         ensures { IfOk result (BelongsTo parts.now) }
     {
-        let observed = observed_nets(alloc, parts)?;
         let rows = GoodRows::make(alloc, parts)?;
+        PackedGood::of_rows(alloc, parts, rows)
+    }
+
+    /// Rows of any stimuli, with what counting needs of the circuit. The only error is want of memory.
+    pub fn of_rows(alloc: Global, parts: &Parts, rows: GoodRows) -> Result<PackedGood, NoMemory>
+        requires { HaveRows parts.now.netlist rows }
+        ensures built { IfOk result (IsBuiltFor parts.now) }
+        ensures rows { IfOk result (λ good. good.rows ≡ rows) }
+    {
+        let observed = observed_nets(alloc, parts)?;
         let circuit = parts.circuit();
         let nets = circuit.nets().len();
         let wiring = Wiring::make(alloc, circuit, &observed)?;
@@ -117,7 +127,7 @@ impl PackedGood {
 
     /// The points that observe a net, in rising order.
     pub fn points_of_net(&self, parts: &Parts, net: u32) -> &[u32]
-        requires good { BelongsTo parts.now self.now }
+        requires built { IsBuiltFor parts.now self.now }
         requires net { net < length parts.now.netlist.nets }
         ensures { result.now ≡ points_of_net parts.now net }
     {
@@ -127,7 +137,7 @@ impl PackedGood {
 
     /// The net that each point observes.
     pub fn observed(&self, parts: &Parts) -> &[u32]
-        requires { BelongsTo parts.now self.now }
+        requires { IsBuiltFor parts.now self.now }
         ensures { result.now ≡ map (suspect.observed_net parts.now) (points_of parts.now) }
     {
         let _ = parts;

@@ -8,12 +8,13 @@ ghost use Rattle.scan_model.specs.Faults.{stuck_value, bridged};
 ghost use Rattle.scan_model.specs.Netlist.{pin_at, driver_of, is_gate};
 ghost use Rattle.scan_model.specs.NetValue.{good_value};
 ghost use Rattle.scan_model.specs.BranchMask as way;
-ghost use Rattle.scan_model.specs.Masks.{mask};
+ghost use Rattle.scan_model.specs.Masks.{mask_from, mask};
 ghost use Rattle.lane_rows.specs.Lanes.{lane};
 ghost use Rattle.lane_rows.specs.Planes.{held};
 ghost use Rattle.packed_sim.specs.Rows.{no_row};
 ghost use Rattle.lane_rows.specs.GoodRows.{pattern_of};
-ghost use Rattle.packed_sim.specs.Belongs.{BelongsTo, captures};
+ghost use Rattle.lane_rows.specs.Stimuli.{Stimuli, AreRowsOf};
+ghost use Rattle.packed_sim.specs.Belongs.{IsBuiltFor, BelongsTo, captures, good_at};
 ghost use Rattle.packed_sim.specs.Ways.{read_values, senses_of, IsGateOfPin};
 
 use crate::good::PackedGood;
@@ -104,12 +105,13 @@ pub(crate) fn gate_of_pin(circuit: &Circuit, pin: u32) -> Option<(u32, GateKind)
 }
 
 impl PackedGood {
-    /// The lanes in which a net has the opposite of a stuck value. Of lanes whose patterns don't capture it says nothing.
+    /// The lanes in which a net has the opposite of a stuck value, in rows of any stimuli.
     pub fn stuck_mask(&self, parts: &Parts, block: usize, net: u32, value: Stuck) -> Row
-        requires good { BelongsTo parts.now self.now }
+        requires built { IsBuiltFor parts.now self.now }
         requires block { block < length self.now.rows }
         requires net { net < length parts.now.netlist.nets }
-        ensures { (j : ℕ) → j < 512 → captures parts.now (pattern_of block j) ≡ true → lane result j ≡ are_opposite (good_value parts.now (pattern_of block j) net) (stuck_value value) }
+        ensures lanes { (j : ℕ) → j < 512 → lane result j ≡ are_opposite (good_at self.now block j net) (stuck_value value) }
+        ensures good { BelongsTo parts.now self.now → (j : ℕ) → j < 512 → captures parts.now (pattern_of block j) ≡ true → lane result j ≡ are_opposite (good_value parts.now (pattern_of block j) net) (stuck_value value) }
     {
         let _ = parts.circuit();
         opposite_of(self.row_of(parts, block, net), value)
@@ -124,11 +126,12 @@ impl PackedGood {
         gate: (u32, GateKind),
         value: Stuck,
     ) -> Row
-        requires good { BelongsTo parts.now self.now }
+        requires built { IsBuiltFor parts.now self.now }
         requires block { block < length self.now.rows }
         requires pin { pin < length parts.now.netlist.pins }
         requires gate { IsGateOfPin parts.now.netlist pin gate.0 gate.1 }
-        ensures { (j : ℕ) → j < 512 → captures parts.now (pattern_of block j) ≡ true → lane result j ≡ mask parts.now (fault.Branch pin value) (pattern_of block j) gate.0 }
+        ensures { (σ : Stimuli) → AreRowsOf parts.now.netlist σ self.now.rows → (j : ℕ) → j < 512 → σ.captures (pattern_of block j) ≡ true
+            → lane result j ≡ mask_from parts.now.netlist (σ.source (pattern_of block j)) (fault.Branch pin value) gate.0 }
     {
         let circuit = parts.circuit();
         let net = net_of_pin(circuit, pin);
@@ -138,12 +141,15 @@ impl PackedGood {
         opposite.and(sensed)
     }
 
-    /// The lanes in which a stuck operand flips its gate, all else fault-free; no lanes for a pin that is no gate's.
+    /// The lanes in which a stuck operand flips its gate, all else fault-free, in rows of any stimuli; no lanes for a pin that
+    /// is no gate's.
     pub fn branch_mask(&self, parts: &Parts, block: usize, pin: u32, value: Stuck) -> Row
-        requires good { BelongsTo parts.now self.now }
+        requires built { IsBuiltFor parts.now self.now }
         requires block { block < length self.now.rows }
         requires pin { pin < length parts.now.netlist.pins }
-        ensures { (n i j : ℕ) (kind : GateKind) → (pin_at parts.now.netlist pin).place ≡ place.Operand n i → driver_of parts.now.netlist n ≡ driver.Gate kind → j < 512 → captures parts.now (pattern_of block j) ≡ true
+        ensures lanes { (σ : Stimuli) → AreRowsOf parts.now.netlist σ self.now.rows → (n i j : ℕ) (kind : GateKind) → (pin_at parts.now.netlist pin).place ≡ place.Operand n i → driver_of parts.now.netlist n ≡ driver.Gate kind → j < 512 → σ.captures (pattern_of block j) ≡ true
+            → lane result j ≡ mask_from parts.now.netlist (σ.source (pattern_of block j)) (fault.Branch pin value) n }
+        ensures good { BelongsTo parts.now self.now → (n i j : ℕ) (kind : GateKind) → (pin_at parts.now.netlist pin).place ≡ place.Operand n i → driver_of parts.now.netlist n ≡ driver.Gate kind → j < 512 → captures parts.now (pattern_of block j) ≡ true
             → lane result j ≡ mask parts.now (fault.Branch pin value) (pattern_of block j) n }
     {
         match gate_of_pin(parts.circuit(), pin) {

@@ -12,6 +12,7 @@ pub mod ChainWalks
 pub mod LogicFaults
 pub mod BranchMasks
 pub mod BranchPins
+pub mod Flips
 pub mod Masks
 pub mod Regions
 pub mod Suspects

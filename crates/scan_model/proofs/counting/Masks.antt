@@ -33,9 +33,8 @@ use Rattle.scan_model.proofs.Sites.{site_of}
 use Rattle.scan_model.proofs.FanSweeps.{in_own}
 use Rattle.scan_model.specs.Force.{force}
 use Rattle.scan_model.specs.Masks.{point_pin, flipped, flip_shows_at, flip_shows, is_operand_of, forced_output, mask, operand_is_point, place_is_point, straight_at, straight, place_nets, touched_nets, IsLogic}
-use Rattle.scan_model.proofs.counting.Valuations.{valuation_is}
-use Rattle.scan_model.proofs.counting.Branches.{force_pin, branch_is_force}
-use Rattle.scan_model.proofs.counting.OneSite.{opposite_is_not, one_site, force_two, unflipped, one_of_two}
+use Rattle.scan_model.proofs.counting.OneSite.{one_site, force_two, one_of_two}
+use Rattle.scan_model.proofs.counting.Flips.{force_shows_from, unread_is_good, gate_shows_from}
 use Rattle.scan_model.proofs.counting.Shown.{not_opposite_itself, logic_keeps, point_pin-net, observed_net-in_range, point_at-IsPoint, predicts_fail-is, observed_sees, observed_good, shifted_same, place_is_point-is}
 use Rattle.scan_model.proofs.counting.LogicFaults.{IsLoopFree, loop_free}
 
@@ -66,13 +65,8 @@ module _ (t : ScanTest) (sound : IsScanTest t) (order : List ℕ) (ordered : IsE
   predicted f p = list_any (λ n. mask t f w n && flip_shows_at t w n p) (touched_nets t f) || straight_at t f w p
 
   -- a forced net is flipped, or nothing shows
-  pub force_shows : (m : ℕ) (x : Tri) (o : ℕ) → o < length t.netlist.nets → are_opposite (good o) (values_of t.netlist s (force m x) o) ≡ (are_opposite (good m) x && are_opposite (good o) (flipped t w m o))
-  force_shows m x o lt = elim (cases_Bool (are_opposite (good m) x)) [
-    | inl flips ↦
-        let is : x ≡ tri_not (good m) = opposite_is_not (good m) x flips in
-        rw flips (ap (λ (y : Tri). are_opposite (good o) (values_of t.netlist s (force m y) o)) is)
-    | inr miss ↦ rw miss (unflipped t.netlist order net_sound ordered s m x miss o lt)
-  ]
+  force_shows : (m : ℕ) (x : Tri) (o : ℕ) → o < length t.netlist.nets → are_opposite (good o) (values_of t.netlist s (force m x) o) ≡ (are_opposite (good m) x && are_opposite (good o) (flipped t w m o))
+  force_shows = force_shows_from t.netlist order net_sound ordered s
 
   -- what a point shows of a logic fault
   at_pin : (f : Fault) (p : Point) → IsPoint t p → (pattern_at t w).kind ≡ Capture → IsLogic f
@@ -166,32 +160,13 @@ module _ (t : ScanTest) (sound : IsScanTest t) (order : List ℕ) (ordered : IsE
 
   -- ---- branches
 
-  -- a pin that no gate reads changes no net
-  pub unforced : (F : Forced) (p : ℕ) (f : ℕ → Tri) (first count : ℕ) → ((q : ℕ) → q ≢ p → F.pin q ≡ None) → ((j : ℕ) → j < count → (first + j) ≢ p) → map (seen t.netlist F f) (range_with_len first count) ≡ map (seen t.netlist nothing_forced f) (range_with_len first count)
-  unforced F p f first zero free apart = refl
-  unforced F p f first (suc count) free apart =
-      let here : F.pin first ≡ None = free first (λ same. apart 0 (omega arith) (omega (arith, same))) in
-      let rest = unforced F p f (first + 1) count free (λ j lt same. apart (suc j) (omega arith) (omega (arith, same))) in
-      rw (here, rest) refl
-
-  pub straight_is_good : (p : ℕ) (v : Stuck) → ((n i : ℕ) → (pin_at t.netlist p).place ≡ place.Operand n i → is_gate t.netlist n ≡ false) → (m : ℕ) → m < length t.netlist.nets → net_value t (Some (fault.Branch p v)) w m ≡ good m
-  straight_is_good p v unread m lt = valuation_is t.netlist order net_sound ordered s nothing_forced (values_of t.netlist s (force_pin p (stuck_value v)))
-      (λ n in'. values_of-is t.netlist order s (force_pin p (stuck_value v)) ordered n in' ∙ go n in' (driver_of t.netlist n) refl) m lt
-    where
-      go : (n : ℕ) → n < length t.netlist.nets → (x : Driver) → driver_of t.netlist n ≡ x → driven t.netlist s (force_pin p (stuck_value v)) x (values_of t.netlist s (force_pin p (stuck_value v))) n ≡ driven t.netlist s nothing_forced x (values_of t.netlist s (force_pin p (stuck_value v))) n
-      go n in' Input drives = refl
-      go n in' Flop drives = refl
-      go n in' (Gate kd) drives = ap (gate_value kd) (unforced (force_pin p (stuck_value v)) p (values_of t.netlist s (force_pin p (stuck_value v))) (net_at t.netlist n).first_pin (net_at t.netlist n).pin_count
-          (λ q other. rw (ne_eqb q p other) refl)
-          (λ j below same. both_ways (is_gate t.netlist n) (unread n j (ap (λ (q : ℕ). (pin_at t.netlist q).place) (sym same) ∙ net_sound.operand_places n j in' below)) (ap is_gate_driver drives)))
-
   branch_straight : (p : ℕ) (v : Stuck) (point : Point) → p < length t.netlist.pins → IsPoint t point → ((n i : ℕ) → (pin_at t.netlist p).place ≡ place.Operand n i → is_gate t.netlist n ≡ false)
       → are_opposite (good (observed_net t point)) (pin_value t (Some (fault.Branch p v)) w (point_pin t point)) ≡ (place_is_point t (pin_at t.netlist p).place point && are_opposite (good (pin_at t.netlist p).net) (stuck_value v))
   branch_straight p v point site is_point unread = rw (place_is_point-is t sound p point site is_point) (elim (cases_eq (point_pin t point) p) [
     | inl same ↦ rw (eq-eqb (point_pin t point) p same) (ap (λ (o : ℕ). are_opposite (good o) (stuck_value v)) (sym (point_pin-net t sound point is_point) ∙ ap (λ (q : ℕ). (pin_at t.netlist q).net) same))
     | inr other ↦ rw (ne_eqb (point_pin t point) p other)
         (ap (λ (o : ℕ). are_opposite (good (observed_net t point)) (net_value t (Some (fault.Branch p v)) w o)) (point_pin-net t sound point is_point)
-        ∙ ap (are_opposite (good (observed_net t point))) (straight_is_good p v unread (observed_net t point) (observed_net-in_range t sound point is_point))
+        ∙ ap (are_opposite (good (observed_net t point))) (unread_is_good t.netlist order net_sound ordered s p (stuck_value v) unread (observed_net t point) (observed_net-in_range t sound point is_point))
         ∙ not_opposite_itself (good (observed_net t point)))
   ])
 
@@ -201,12 +176,9 @@ module _ (t : ScanTest) (sound : IsScanTest t) (order : List ℕ) (ordered : IsE
       let o = observed_net t point in
       let lt = observed_net-in_range t sound point is_point in
       let apart : eqb (point_pin t point) p ≡ false = sym (place_is_point-is t sound p point site is_point) ∙ ap (λ (x : PinPlace). place_is_point t x point) at ∙ ap (λ (d : Driver). operand_is_point t d n point) drives in
-      let output : forced_output t w (fault.Branch p v) n ≡ gate_value kind (map (seen t.netlist (force_pin p (stuck_value v)) good) (operands t.netlist n)) = ap (λ (d : Driver). driven t.netlist s (force_pin p (stuck_value v)) d good n) drives in
       rw apart
       (ap (λ (q : ℕ). are_opposite (good o) (net_value t (Some (fault.Branch p v)) w q)) (point_pin-net t sound point is_point)
-      ∙ ap (are_opposite (good o)) (branch_is_force t.netlist order net_sound ordered s p n i (stuck_value v) kind in' at drives o lt)
-      ∙ ap (λ (y : Tri). are_opposite (good o) (values_of t.netlist s (force n y) o)) (sym output)
-      ∙ force_shows n (forced_output t w (fault.Branch p v) n) o lt)
+      ∙ gate_shows_from t.netlist order net_sound ordered s p n i v kind o in' at drives lt)
 
   branch_shows : (p : ℕ) (v : Stuck) (point : Point) → p < length t.netlist.pins → IsPoint t point
       → are_opposite (good (observed_net t point)) (pin_value t (Some (fault.Branch p v)) w (point_pin t point)) ≡ predicted (fault.Branch p v) point

@@ -17,20 +17,20 @@ use Rattle.scan_model.specs.Netlist.{Netlist, IsNetlist, IsPlacedAt, reads, is_g
 use Rattle.scan_model.specs.Walks.{IsEvaluationOrder}
 use Rattle.scan_model.specs.Cone.{in_fan_in}
 use Rattle.scan_model.specs.ScanTest.{ScanTest, IsScanTest, IsPoint}
-use Rattle.scan_model.specs.NetValue.{Forced, seen, driven, net_node, values_of, source_of, nothing_forced, good_value}
+use Rattle.scan_model.specs.NetValue.{Forced, seen, driven, net_node, values_of, source_of, nothing_forced}
 use Rattle.scan_model.specs.Suspect.{observed_net}
 use Rattle.scan_model.proofs.NetValues.{values_of-is, net_node_local}
 use Rattle.scan_model.proofs.FanSweeps.{is_read, reads_in_range, in_own}
 use Rattle.scan_model.specs.Force.{force}
 use Rattle.scan_model.specs.BranchMask.{senses}
-use Rattle.scan_model.specs.Masks.{point_pin, flipped, flip_shows_at, operand_is_point, place_is_point, operand_values}
+use Rattle.scan_model.specs.Masks.{point_pin, flipped_from, flip_shows_from, flip_shows_at, operand_is_point, place_is_point, operand_values_from, operand_values}
 use Rattle.scan_model.proofs.counting.Valuations.{valuation_is, own_force}
 use Rattle.scan_model.proofs.counting.Branches.{force_pin, branch_is_force, no_loop}
 use Rattle.scan_model.proofs.counting.OneSite.{force_outside}
 use Rattle.scan_model.proofs.counting.BranchMasks.{senses_unknown}
 use Rattle.scan_model.proofs.counting.BranchPins.{forced_gate_flips, good_is, count_fits, first_value}
 use Rattle.scan_model.proofs.counting.Shown.{not_opposite_itself, point_pin-net, point_pin-in_range, observed_net-in_range, place_is_point-is}
-use Rattle.scan_model.proofs.counting.Masks.{unforced, force_shows}
+use Rattle.scan_model.proofs.counting.Flips.{unforced, force_shows_from}
 
 map_agree_in : (f g : ℕ → Tri) (first count : ℕ) → ((j : ℕ) → j < count → f (first + j) ≡ g (first + j)) → map f (range_with_len first count) ≡ map g (range_with_len first count)
 map_agree_in f g first zero same = refl
@@ -44,41 +44,32 @@ abbrev owner : PinPlace → ℕ
 owner (place.Operand n i) = n
 owner (place.Output k) = 0
 
-module _ (t : ScanTest) (sound : IsScanTest t) (order : List ℕ) (ordered : IsEvaluationOrder t.netlist order) (w : ℕ)
-    (p n g i : ℕ) (kind : GateKind) (in_range : p < length t.netlist.pins) (net : (pin_at t.netlist p).net ≡ n) (at : (pin_at t.netlist p).place ≡ place.Operand g i) (drives : driver_of t.netlist g ≡ Gate kind)
-    (one : (q : ℕ) → q < length t.netlist.pins → (pin_at t.netlist q).net ≡ n → q ≡ p) where
-  abbrev c : Netlist
-  c = t.netlist
-
-  abbrev s : ℕ → Tri
-  s = source_of t None w
-
+module _ (c : Netlist) (order : List ℕ) (sound : IsNetlist c) (ordered : IsEvaluationOrder c order) (s : ℕ → Tri)
+    (p n g i : ℕ) (kind : GateKind) (in_range : p < length c.pins) (net : (pin_at c p).net ≡ n) (at : (pin_at c p).place ≡ place.Operand g i) (drives : driver_of c g ≡ Gate kind)
+    (one : (q : ℕ) → q < length c.pins → (pin_at c q).net ≡ n → q ≡ p) where
   abbrev good : ℕ → Tri
-  good = good_value t w
+  good = values_of c s nothing_forced
 
-  net_sound : IsNetlist t.netlist
-  net_sound = sound.circuit.netlist
+  stands : (g < length c.nets) × (i < (net_at c g).pin_count) × (p ≡ (net_at c g).first_pin + i)
+  stands = subst (IsPlacedAt c p) at (sound.pin_places p in_range)
 
-  stands : (g < length t.netlist.nets) × (i < (net_at t.netlist g).pin_count) × (p ≡ (net_at t.netlist g).first_pin + i)
-  stands = subst (IsPlacedAt t.netlist p) at (net_sound.pin_places p in_range)
+  n_lt : n < length c.nets
+  n_lt = subst (λ (m : ℕ). m < length c.nets) net (sound.pin_nets p in_range)
 
-  n_lt : n < length t.netlist.nets
-  n_lt = subst (λ (m : ℕ). m < length t.netlist.nets) net (net_sound.pin_nets p in_range)
-
-  gate_g : is_gate t.netlist g ≡ true
+  gate_g : is_gate c g ≡ true
   gate_g = ap is_gate_driver drives
 
-  reads_n : Contains (reads t.netlist g) n
-  reads_n = subst (λ (m : ℕ). Contains (reads t.netlist g) m) (ap (λ (q : ℕ). (pin_at t.netlist q).net) (sym stands.2) ∙ net) (is_read t.netlist g i stands.1)
+  reads_n : Contains (reads c g) n
+  reads_n = subst (λ (m : ℕ). Contains (reads c g) m) (ap (λ (q : ℕ). (pin_at c q).net) (sym stands.2) ∙ net) (is_read c g i stands.1)
 
   not_itself : n ≢ g
-  not_itself same = both_ways (in_fan_in t.netlist g n) (no_loop t.netlist order net_sound ordered g n stands.0 gate_g reads_n) (ap (in_fan_in t.netlist g) same ∙ in_own t.netlist g)
+  not_itself same = both_ways (in_fan_in c g n) (no_loop c order sound ordered g n stands.0 gate_g reads_n) (ap (in_fan_in c g) same ∙ in_own c g)
 
   abbrev v : Tri
   v = tri_not (good n)
 
   abbrev V : ℕ → Tri
-  V = values_of t.netlist s (force n v)
+  V = values_of c s (force n v)
 
   -- the flip's values with n put back
   abbrev back : ℕ → Tri
@@ -88,84 +79,90 @@ module _ (t : ScanTest) (sound : IsScanTest t) (order : List ℕ) (ordered : IsE
   FP = force_pin p v
 
   V_at : V n ≡ v
-  V_at = values_of-is t.netlist order s (force n v) ordered n n_lt ∙ rw (eq-eqb n n refl) refl
+  V_at = values_of-is c order s (force n v) ordered n n_lt ∙ rw (eq-eqb n n refl) refl
 
-  own_read : (m : ℕ) → is_gate t.netlist n ≡ true → Contains (reads t.netlist n) m → good m ≡ back m
+  own_read : (m : ℕ) → is_gate c n ≡ true → Contains (reads c n) m → good m ≡ back m
   own_read m gate read =
-      let m_lt = reads_in_range t.netlist n m net_sound n_lt read in
-      let out = no_loop t.netlist order net_sound ordered n m n_lt gate read in
-      let other : m ≢ n = λ same. both_ways (in_fan_in t.netlist n m) out (ap (in_fan_in t.netlist n) same ∙ in_own t.netlist n) in
-      rw (ne_eqb m n other) (sym (force_outside t.netlist order net_sound ordered s n v m m_lt out))
+      let m_lt = reads_in_range c n m sound n_lt read in
+      let out = no_loop c order sound ordered n m n_lt gate read in
+      let other : m ≢ n = λ same. both_ways (in_fan_in c n m) out (ap (in_fan_in c n) same ∙ in_own c n) in
+      rw (ne_eqb m n other) (sym (force_outside c order sound ordered s n v m m_lt out))
 
-  at_n : good n ≡ net_node t.netlist s FP n back
-  at_n = values_of-is t.netlist order s nothing_forced ordered n n_lt ∙ net_node_local t.netlist s nothing_forced n good back own_read ∙ go (driver_of t.netlist n) refl
+  at_n : good n ≡ net_node c s FP n back
+  at_n = values_of-is c order s nothing_forced ordered n n_lt ∙ net_node_local c s nothing_forced n good back own_read ∙ go (driver_of c n) refl
     where
-      go : (d : Driver) → driver_of t.netlist n ≡ d → driven t.netlist s nothing_forced d back n ≡ driven t.netlist s FP d back n
+      go : (d : Driver) → driver_of c n ≡ d → driven c s nothing_forced d back n ≡ driven c s FP d back n
       go Input is = refl
       go Flop is = refl
-      go (Gate kd) is = sym (ap (gate_value kd) (unforced t sound order ordered w FP p back (net_at t.netlist n).first_pin (net_at t.netlist n).pin_count (λ q other. rw (ne_eqb q p other) refl)
-          (λ j below same. not_itself (ap owner (sym (net_sound.operand_places n j n_lt below) ∙ ap (λ (q : ℕ). (pin_at t.netlist q).place) same ∙ at)))))
+      go (Gate kd) is = sym (ap (gate_value kd) (unforced c FP p back (net_at c n).first_pin (net_at c n).pin_count (λ q other. rw (ne_eqb q p other) refl)
+          (λ j below same. not_itself (ap owner (sym (sound.operand_places n j n_lt below) ∙ ap (λ (q : ℕ). (pin_at c q).place) same ∙ at)))))
 
-  elsewhere : (m : ℕ) → m < length t.netlist.nets → m ≢ n → V m ≡ net_node t.netlist s FP m back
-  elsewhere m lt other = values_of-is t.netlist order s (force n v) ordered m lt ∙ rw (ne_eqb m n other) (go (driver_of t.netlist m))
+  elsewhere : (m : ℕ) → m < length c.nets → m ≢ n → V m ≡ net_node c s FP m back
+  elsewhere m lt other = values_of-is c order s (force n v) ordered m lt ∙ rw (ne_eqb m n other) (go (driver_of c m))
     where
-      pin : (q : ℕ) → q < length t.netlist.pins → seen t.netlist (force n v) V q ≡ seen t.netlist FP back q
+      pin : (q : ℕ) → q < length c.pins → seen c (force n v) V q ≡ seen c FP back q
       pin q q_lt = elim (cases_eq q p) [
-        | inl is ↦ rw (eq-eqb q p is) (ap (λ (k : ℕ). V (pin_at t.netlist k).net) is ∙ ap V net ∙ V_at)
-        | inr differs ↦ rw (ne_eqb q p differs, ne_eqb (pin_at t.netlist q).net n (λ same. differs (one q q_lt same))) refl
+        | inl is ↦ rw (eq-eqb q p is) (ap (λ (k : ℕ). V (pin_at c k).net) is ∙ ap V net ∙ V_at)
+        | inr differs ↦ rw (ne_eqb q p differs, ne_eqb (pin_at c q).net n (λ same. differs (one q q_lt same))) refl
       ]
 
-      go : (d : Driver) → driven t.netlist s (force n v) d V m ≡ driven t.netlist s FP d back m
+      go : (d : Driver) → driven c s (force n v) d V m ≡ driven c s FP d back m
       go Input = refl
       go Flop = refl
-      go (Gate kd) = ap (gate_value kd) (map_agree_in (seen t.netlist (force n v) V) (seen t.netlist FP back) (net_at t.netlist m).first_pin (net_at t.netlist m).pin_count
-          (λ j below. pin ((net_at t.netlist m).first_pin + j) (omega (arith, net_sound.operand_range m lt))))
+      go (Gate kd) = ap (gate_value kd) (map_agree_in (seen c (force n v) V) (seen c FP back) (net_at c m).first_pin (net_at c m).pin_count
+          (λ j below. pin ((net_at c m).first_pin + j) (omega (arith, sound.operand_range m lt))))
 
-  back_is : (m : ℕ) → m < length t.netlist.nets → back m ≡ values_of t.netlist s FP m
-  back_is m lt = valuation_is t.netlist order net_sound ordered s FP back (λ k in'. elim (cases_eq k n) [
-    | inl is ↦ cond-true (eqb k n) (good n) (V k) (eq-eqb k n is) ∙ at_n ∙ ap (λ (j : ℕ). net_node t.netlist s FP j back) (sym is)
+  back_is : (m : ℕ) → m < length c.nets → back m ≡ values_of c s FP m
+  back_is m lt = valuation_is c order sound ordered s FP back (λ k in'. elim (cases_eq k n) [
+    | inl is ↦ cond-true (eqb k n) (good n) (V k) (eq-eqb k n is) ∙ at_n ∙ ap (λ (j : ℕ). net_node c s FP j back) (sym is)
     | inr other ↦ cond-false (eqb k n) (good n) (V k) (ne_eqb k n other) ∙ elsewhere k in' other
   ]) m lt
 
-  unseen : (point : Point) → IsPoint t point → observed_net t point ≢ n
+  -- the flip shows where the branch does
+  shows_by_pin : (o : ℕ) → o < length c.nets → o ≢ n → flip_shows_from c s n o ≡ ((are_opposite (good n) v && senses kind (operand_values_from c s g) i) && flip_shows_from c s g o)
+  shows_by_pin o lt unseen =
+      let output = gate_value kind (map (seen c FP good) (operands c g)) in
+      ap (are_opposite (good o)) (sym (cond-false (eqb o n) (good n) (V o) (ne_eqb o n unseen)) ∙ back_is o lt ∙ branch_is_force c order sound ordered s p g i v kind stands.0 at drives o lt)
+      ∙ force_shows_from c order sound ordered s g output o lt
+      ∙ ap (λ (b : Bool). b && flip_shows_from c s g o) (forced_gate_flips c order sound ordered s p g i v kind in_range at drives ∙ ap (λ (m : ℕ). are_opposite (good m) v && senses kind (operand_values_from c s g) i) net)
+
+  unknown_hides : (m o : ℕ) → o < length c.nets → good m ≡ Unknown → flip_shows_from c s m o ≡ false
+  unknown_hides m o lt is =
+      let same : flipped_from c s m o ≡ good o = ap (λ (x : Tri). values_of c s (force m (tri_not x)) o) is ∙ ap (λ (x : Tri). values_of c s (force m x) o) (sym is) ∙ sym (own_force c order sound ordered s m o lt) in
+      ap (are_opposite (good o)) same ∙ not_opposite_itself (good o)
+
+  -- it shows at another net where the gate senses its operand
+  pub single_pin_shows_from : (o : ℕ) → o < length c.nets → o ≢ n → flip_shows_from c s n o ≡ (senses kind (operand_values_from c s g) i && flip_shows_from c s g o)
+  single_pin_shows_from o lt unseen = shows_by_pin o lt unseen ∙ go (good n) refl
+    where
+      S : Bool
+      S = senses kind (operand_values_from c s g) i
+
+      hidden : good n ≡ Unknown → (b : Bool) → senses kind (operand_values_from c s g) i ≡ b → false ≡ (b && flip_shows_from c s g o)
+      hidden is false sensed = refl
+      hidden is true sensed = sym (unknown_hides g o lt
+          (good_is c order sound ordered s p g i v kind in_range at drives
+          ∙ senses_unknown kind (operand_values_from c s g) i (count_fits c order sound ordered s p g i v kind in_range at drives)
+          (omega (arith, length-map-range_with_len (seen c nothing_forced good) (net_at c g).first_pin (net_at c g).pin_count, stands.1))
+          (first_value c order sound ordered s p g i v kind in_range at drives ∙ ap good net ∙ is) sensed))
+
+      go : (x : Tri) → good n ≡ x → ((are_opposite (good n) (tri_not (good n)) && senses kind (operand_values_from c s g) i) && flip_shows_from c s g o) ≡ (senses kind (operand_values_from c s g) i && flip_shows_from c s g o)
+      go Zero is = rw is refl
+      go One is = rw is refl
+      go Unknown is = rw is (hidden is (senses kind (operand_values_from c s g) i) refl)
+
+module _ (t : ScanTest) (sound : IsScanTest t) (order : List ℕ) (ordered : IsEvaluationOrder t.netlist order) (w : ℕ)
+    (p n g i : ℕ) (kind : GateKind) (in_range : p < length t.netlist.pins) (net : (pin_at t.netlist p).net ≡ n) (at : (pin_at t.netlist p).place ≡ place.Operand g i) (drives : driver_of t.netlist g ≡ Gate kind)
+    (one : (q : ℕ) → q < length t.netlist.pins → (pin_at t.netlist q).net ≡ n → q ≡ p) where
+  -- no point observes the net
+  pub unseen : (point : Point) → IsPoint t point → observed_net t point ≢ n
   unseen point is_point same =
       let here : point_pin t point ≡ p = one (point_pin t point) (point_pin-in_range t sound point is_point) (point_pin-net t sound point is_point ∙ same) in
       both_ways (place_is_point t (pin_at t.netlist p).place point)
       (ap (λ (x : PinPlace). place_is_point t x point) at ∙ ap (λ (d : Driver). operand_is_point t d g point) drives)
       (place_is_point-is t sound p point in_range is_point ∙ eq-eqb (point_pin t point) p here)
 
-  -- the flip shows where the branch does
-  shows_by_pin : (point : Point) → IsPoint t point → flip_shows_at t w n point ≡ ((are_opposite (good n) v && senses kind (operand_values t w g) i) && flip_shows_at t w g point)
-  shows_by_pin point is_point =
-      let o = observed_net t point in
-      let lt = observed_net-in_range t sound point is_point in
-      let output = gate_value kind (map (seen t.netlist FP good) (operands t.netlist g)) in
-      ap (are_opposite (good o)) (sym (cond-false (eqb o n) (good n) (V o) (ne_eqb o n (unseen point is_point))) ∙ back_is o lt ∙ branch_is_force t.netlist order net_sound ordered s p g i v kind stands.0 at drives o lt)
-      ∙ force_shows t sound order ordered w g output o lt
-      ∙ ap (λ (b : Bool). b && flip_shows_at t w g point) (forced_gate_flips t sound order ordered w p g i v kind in_range at drives ∙ ap (λ (m : ℕ). are_opposite (good m) v && senses kind (operand_values t w g) i) net)
-
-  unknown_hides : (m : ℕ) (point : Point) → IsPoint t point → good m ≡ Unknown → flip_shows_at t w m point ≡ false
-  unknown_hides m point is_point is =
-      let o = observed_net t point in
-      let same : flipped t w m o ≡ good o = ap (λ (x : Tri). values_of t.netlist s (force m (tri_not x)) o) is ∙ ap (λ (x : Tri). values_of t.netlist s (force m x) o) (sym is) ∙ sym (own_force t.netlist order net_sound ordered s m o (observed_net-in_range t sound point is_point)) in
-      ap (are_opposite (good o)) same ∙ not_opposite_itself (good o)
-
-  -- it shows there where the gate senses its operand
+  -- in a pattern the flip shows at a point where the gate senses its operand
   pub single_pin_shows : (point : Point) → IsPoint t point → flip_shows_at t w n point ≡ (senses kind (operand_values t w g) i && flip_shows_at t w g point)
-  single_pin_shows point is_point = shows_by_pin point is_point ∙ go (good n) refl
-    where
-      S : Bool
-      S = senses kind (operand_values t w g) i
-
-      hidden : good n ≡ Unknown → (b : Bool) → senses kind (operand_values t w g) i ≡ b → false ≡ (b && flip_shows_at t w g point)
-      hidden is false sensed = refl
-      hidden is true sensed = sym (unknown_hides g point is_point
-          (good_is t sound order ordered w p g i v kind in_range at drives
-          ∙ senses_unknown kind (operand_values t w g) i (count_fits t sound order ordered w p g i v kind in_range at drives)
-          (omega (arith, length-map-range_with_len (seen t.netlist nothing_forced good) (net_at t.netlist g).first_pin (net_at t.netlist g).pin_count, stands.1))
-          (first_value t sound order ordered w p g i v kind in_range at drives ∙ ap good net ∙ is) sensed))
-
-      go : (x : Tri) → good n ≡ x → ((are_opposite (good n) (tri_not (good n)) && senses kind (operand_values t w g) i) && flip_shows_at t w g point) ≡ (senses kind (operand_values t w g) i && flip_shows_at t w g point)
-      go Zero is = rw is refl
-      go One is = rw is refl
-      go Unknown is = rw is (hidden is (senses kind (operand_values t w g) i) refl)
+  single_pin_shows point is_point = single_pin_shows_from t.netlist order sound.circuit.netlist ordered (source_of t None w) p n g i kind in_range net at drives one
+      (observed_net t point) (observed_net-in_range t sound point is_point) (unseen point is_point)

@@ -9,5 +9,5 @@ use Rattle.fault_effects.proofs.flip.flipping_lanes.Goals as goal
 pub returns : goal.returns
 returns c = λ g j pin lt captured.
     c.or.ensures j lt
-    ∙ ap (λ (x : Bool). x || lane c.branch_mask-one.result j) (c.branch_mask-zero.ensures g pin.index j pin.kind pin.at pin.drives lt captured)
-    ∙ ap (λ (x : Bool). mask c.args.parts.now (Branch c.args.pin Zero) (pattern_of c.args.block j) g || x) (c.branch_mask-one.ensures g pin.index j pin.kind pin.at pin.drives lt captured)
+    ∙ ap (λ (x : Bool). x || lane c.branch_mask-one.result j) (c.branch_mask-zero.ensures.good c.requires.good g pin.index j pin.kind pin.at pin.drives lt captured)
+    ∙ ap (λ (x : Bool). mask c.args.parts.now (Branch c.args.pin Zero) (pattern_of c.args.block j) g || x) (c.branch_mask-one.ensures.good c.requires.good g pin.index j pin.kind pin.at pin.drives lt captured)

@@ -12,5 +12,5 @@ returns-clause-flip g c = λ logs points.
     let t = c.args.work.now.parts.now in
     let b = c.args.work.now.block in
     flip_shown t logs c.args.work.now.good.now c.flip.new.scratch b c.args.net c.args.work.now.rows.now c.gather-gathered.new.self (c.requires.work.good.rows.each b c.args.work.now.block_within) points
-    (λ k j lt lj captured. c.flip.ensures.shows k j lt lj captured ∙ ap (λ (x : Bool). x && flip_shows t (pattern_of b j) c.args.net k) (c.all.ensures j lj))
+    (λ k j lt lj captured. c.flip.ensures.shows c.requires.work.good k j lt lj captured ∙ ap (λ (x : Bool). x && flip_shows t (pattern_of b j) c.args.net k) (c.all.ensures j lj))
     c.in_ok-gathered.ensures

@@ -13,4 +13,4 @@ returns-in-Branch c = λ j lt captured.
     let net = c.args.net in
     let at = gate_pin t (pin_at t.netlist c.in-Branch.pin).place net (sym (ap (owner t) c.in-Branch.is) ∙ c.requires.owner) c.requires.net in
     let gate = gate_kind t net at.gate in
-    c.branch_mask.ensures net at.index j gate.0 at.at gate.1 lt captured ∙ ap (λ (f : Fault). mask t f (pattern_of c.args.block j) net) (sym c.in-Branch.is)
+    c.branch_mask.ensures.good c.requires.good net at.index j gate.0 at.at gate.1 lt captured ∙ ap (λ (f : Fault). mask t f (pattern_of c.args.block j) net) (sym c.in-Branch.is)

@@ -47,5 +47,5 @@ returns c = λ logs side points.
     ∙ ap (λ (x : Pin). sum_by (pin_lanes t rows side x.place mask) (points_of_net t x.net)) at_is
     ∙ pin_shown t c.circuit.ensures.fits logs g b rows (c.requires.work.good.rows.each b c.args.work.now.block_within) points p c.requires.pin c.args.value mask stuck
     (λ j lt. c.and-mask.ensures j lt ∙ ap (λ (x : Block). lane stuck j && lane x.capture j) block)
-    (λ j lt captured. c.stuck_mask.ensures j lt captured ∙ ap (λ (x : Pin). are_opposite (good_value t (pattern_of b j) x.net) (stuck_value c.args.value)) at_is)
+    (λ j lt captured. c.stuck_mask.ensures.good c.requires.work.good j lt captured ∙ ap (λ (x : Pin). are_opposite (good_value t (pattern_of b j) x.net) (stuck_value c.args.value)) at_is)
     side

@@ -19,7 +19,7 @@ force_bridge-requires g c =
       block = block_inside c.args.parts.now c.args.self.now c.args.word c.requires.good c.requires.word;
       first = site.0;
       second = site.1;
-      apart = bridge_apart c.args.parts.now c.circuit.ensures.fits c.args.self.now.wiring.order.items c.requires.good.wired.wired.ordered c.args.bridge.0 c.args.bridge.1 c.args.bridge.2 c.requires.fault;
+      apart = bridge_apart c.args.parts.now c.circuit.ensures.fits c.args.self.now.wiring.order.items c.requires.good.built.wired.wired.ordered c.args.bridge.0 c.args.bridge.1 c.args.bridge.2 c.requires.fault;
     }
 
 pub returns-clause-fails : goal.returns-clause-fails
@@ -28,7 +28,7 @@ returns-clause-fails g c k i lt i_lt =
     let word = c.args.word in
     let j = 64 * (word % 8) + i in
     c.write_differences.ensures k i lt i_lt
-    ∙ bridge_bit t c.circuit.ensures.fits c.args.self.now.wiring.order.items c.requires.good.wired.wired.ordered c.args.self.now c.requires.good c.args.bridge.0 c.args.bridge.1 c.args.bridge.2 word k i c.requires.word lt i_lt c.bridged_row-row.result
+    ∙ bridge_bit t c.circuit.ensures.fits c.args.self.now.wiring.order.items c.requires.good.built.wired.wired.ordered c.args.self.now c.requires.good c.args.bridge.0 c.args.bridge.1 c.args.bridge.2 word k i c.requires.word lt i_lt c.bridged_row-row.result
     (now_at c.args.self.now c.force_bridge.new.scratch (word / 8) j (observed_at t k))
     (λ captured. c.bridged_row-row.ensures j (lane_inside word i i_lt) captured)
     (λ captured. c.force_bridge.ensures.values k j lt (lane_inside word i i_lt) captured)

@@ -16,5 +16,5 @@ returns c j lt captured =
     let taken = takes c.args.kind (eqb c.args.net c.args.pair.0) (eqb c.args.net c.args.pair.1) in
     c.flipped_lanes.ensures j lt
     ∙ ap (λ (b : Bool). b && are_opposite (held c.row_of-own.result j) value) c.takes-is_taken.ensures
-    ∙ ap (λ (v : Tri). taken && are_opposite v value) (c.row_of-own.ensures j lt ∙ good_is t c.circuit.ensures.fits c.args.self.now c.requires.good c.args.block j c.args.net c.requires.block lt c.requires.net captured)
+    ∙ ap (λ (v : Tri). taken && are_opposite v value) (c.row_of-own.ensures j lt ∙ good_is t c.args.self.now c.requires.good c.args.block j c.args.net c.requires.block lt c.requires.net captured)
     ∙ ap (λ (v : Tri). taken && are_opposite (good_value t (pattern_of c.args.block j) c.args.net) v) (c.bridged_row-value.ensures j lt captured)

@@ -12,5 +12,5 @@ returns c j lt captured =
     let t = c.args.parts.now in
     let w = pattern_of c.args.block j in
     c.value.ensures j lt
-    ∙ ap (λ (v : Tri). bridged c.args.kind v (held c.row_of-second.result j)) (c.row_of-first.ensures j lt ∙ good_is t c.circuit.ensures.fits c.args.self.now c.requires.good c.args.block j c.args.a c.requires.block lt c.requires.a captured)
-    ∙ ap (bridged c.args.kind (good_value t w c.args.a)) (c.row_of-second.ensures j lt ∙ good_is t c.circuit.ensures.fits c.args.self.now c.requires.good c.args.block j c.args.b c.requires.block lt c.requires.b captured)
+    ∙ ap (λ (v : Tri). bridged c.args.kind v (held c.row_of-second.result j)) (c.row_of-first.ensures j lt ∙ good_is t c.args.self.now c.requires.good c.args.block j c.args.a c.requires.block lt c.requires.a captured)
+    ∙ ap (bridged c.args.kind (good_value t w c.args.a)) (c.row_of-second.ensures j lt ∙ good_is t c.args.self.now c.requires.good c.args.block j c.args.b c.requires.block lt c.requires.b captured)

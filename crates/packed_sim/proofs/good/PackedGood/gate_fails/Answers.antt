@@ -20,15 +20,15 @@ returns-clause-fails g c k i lt i_lt =
     let n = c.args.gate.0 in
     let gate : is_gate t.netlist n ≡ true = ap is_gate_driver c.requires.gate.driven in
     c.write_differences.ensures k i lt i_lt
-    ∙ gate_bit t c.circuit.ensures.fits c.args.self.now.wiring.order.items c.requires.good.wired.wired.ordered c.args.branch.0 c.args.branch.1 n c.requires.gate.index word k i i_lt lt c.requires.fault
+    ∙ gate_bit t c.circuit.ensures.fits c.args.self.now.wiring.order.items c.requires.good.built.wired.wired.ordered c.args.branch.0 c.args.branch.1 n c.requires.gate.index word k i i_lt lt c.requires.fault
     c.requires.gate.placed gate (lane c.branch_mask-lanes.result j)
     (are_opposite (good_at c.args.self.now (word / 8) j (observed_at t k)) (now_at c.args.self.now c.flip.new.scratch (word / 8) j (observed_at t k)))
-    (λ captured. c.branch_mask-lanes.ensures n c.requires.gate.index j c.args.gate.1 c.requires.gate.placed c.requires.gate.driven (lane_inside word i i_lt) captured)
-    (λ captured. c.flip.ensures.shows k j lt (lane_inside word i i_lt) captured)
+    (λ captured. c.branch_mask-lanes.ensures.good c.requires.good n c.requires.gate.index j c.args.gate.1 c.requires.gate.placed c.requires.gate.driven (lane_inside word i i_lt) captured)
+    (λ captured. c.flip.ensures.shows c.requires.good k j lt (lane_inside word i i_lt) captured)
 
 pub returns-clause-steps : goal.returns-clause-steps
 returns-clause-steps g c =
     let t = c.args.parts.now in
     let gate : is_gate t.netlist c.args.gate.0 ≡ true = ap is_gate_driver c.requires.gate.driven in
-    let nets = gate_nets t c.circuit.ensures.fits c.args.self.now.wiring.order.items c.requires.good.wired.wired.ordered c.args.branch.0 c.args.gate.0 c.requires.gate.index c.requires.gate.placed gate in
+    let nets = gate_nets t c.circuit.ensures.fits c.args.self.now.wiring.order.items c.requires.good.built.wired.wired.ordered c.args.branch.0 c.args.gate.0 c.requires.gate.index c.requires.gate.placed gate in
     omega (arith, c.flip.ensures.steps, ap (λ (ns : List ℕ). length (gates_behind t ns)) nets)

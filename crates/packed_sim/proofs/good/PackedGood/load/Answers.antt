@@ -31,7 +31,7 @@ loop-at-preserved g c = record {
 }
 
 pub settle-requires-clause-wiring : goal.settle-requires-clause-wiring
-settle-requires-clause-wiring g c = rw c.circuit-circuit.ensures.value c.requires.good.wired.wired
+settle-requires-clause-wiring g c = rw c.circuit-circuit.ensures.value c.requires.good.built.wired.wired
 
 pub settle-requires-clause-fits : goal.settle-requires-clause-fits
 settle-requires-clause-fits g c = rw (c.circuit-circuit.ensures.value, c.values-good.ensures) c.loop-at.invariant.opens.fits
@@ -49,8 +49,8 @@ returns-clause-steps g c =
     let s = c.args.self.now in
     let nets = drop (c.args.behind.1 + 1) (chain_at t c.args.behind.0).cells in
     let order = s.wiring.order.items in
-    let closed : IsClosed t.netlist (is_behind t.netlist nets) = behind_closed t.netlist order c.chains.ensures.fits.circuit.netlist c.requires.good.wired.wired.ordered nets
+    let closed : IsClosed t.netlist (is_behind t.netlist nets) = behind_closed t.netlist order c.chains.ensures.fits.circuit.netlist c.requires.good.built.wired.wired.ordered nets
     (above_lt t c.chains.ensures.fits s c.requires.good c.args.block c.requires.block c.args.behind.0 c.requires.chain c.args.behind.1)
     (above_apart t c.chains.ensures.fits s c.requires.good c.args.block c.requires.block c.args.behind.0 c.requires.chain c.args.behind.1) in
     let few : c.settle.new.steps ≤ c.args.steps.now + count_by (is_behind t.netlist nets) order = c.settle.ensures.steps (is_behind t.netlist nets) (subst (λ (n : Netlist). IsClosed n (is_behind t.netlist nets)) (sym c.circuit-circuit.ensures.value) closed) c.loop-at.invariant.within in
-    omega (arith, few, few_steps t c.chains.ensures.fits s c.requires.good nets)
+    omega (arith, few, few_steps t c.chains.ensures.fits s c.requires.good.built nets)

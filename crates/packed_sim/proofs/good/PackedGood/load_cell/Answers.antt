@@ -10,7 +10,7 @@ pub set-requires : goal.set-requires
 set-requires c =
     let t = c.args.parts.now in
     let fits = c.requires.opened.fits in
-    let wired = c.requires.good.wired.wired in
+    let wired = c.requires.good.built.wired.wired in
     record {
       net = omega (arith, c.cell_at-net.ensures.in_range, fits.own);
       sinks = omega (arith, wired.nets, fits.own);
@@ -29,7 +29,7 @@ pub returns-clause-within : goal.returns-clause-within
 returns-clause-within c pos less within =
     let t = c.args.parts.now in
     let g = c.args.self.now in
-    let wired = c.requires.good.wired.wired in
+    let wired = c.requires.good.built.wired.wired in
     set_within t.netlist g.wiring.order.items c.chains.ensures.fits.circuit.netlist wired.ordered g.wiring.sinks _ wired c.cell_at-net.result c.cell_at-net.ensures.in_range c.passed_row-row.result c.args.scratch.now c.set.new.self c.requires.opened.fits c.set.ensures
     (drop (pos + 1) (chain_at t c.args.chain).cells)
     (above_lt t c.chains.ensures.fits g c.requires.good c.args.block c.requires.block c.args.chain c.requires.chain pos)
@@ -44,5 +44,5 @@ pub returns-clause-moved : goal.returns-clause-moved
 returns-clause-moved c =
     let t = c.args.parts.now in
     let g = c.args.self.now in
-    let wired = c.requires.good.wired.wired in
+    let wired = c.requires.good.built.wired.wired in
     set_moved t.netlist g.wiring.order.items c.chains.ensures.fits.circuit.netlist wired.ordered g.wiring.sinks _ wired c.cell_at-net.result c.cell_at-net.ensures.in_range c.passed_row-row.result c.args.scratch.now c.set.new.self c.requires.opened.fits c.set.ensures

@@ -10,7 +10,7 @@ pub load_cell-requires-clause-opened : goal.load_cell-requires-clause-opened
 load_cell-requires-clause-opened g c = loaded_open c.args.parts.now c.chains.ensures.fits c.args.self.now c.requires.good c.args.block c.requires.block c.args.behind.0 c.requires.chain c.args.kind (c.args.behind.1 + 1) c.args.scratch.now c.requires.loaded
 
 pub settle-requires-clause-wiring : goal.settle-requires-clause-wiring
-settle-requires-clause-wiring g c = rw c.circuit-circuit.ensures.value c.requires.good.wired.wired
+settle-requires-clause-wiring g c = rw c.circuit-circuit.ensures.value c.requires.good.built.wired.wired
 
 pub settle-requires-clause-fits : goal.settle-requires-clause-fits
 settle-requires-clause-fits g c = rw (c.circuit-circuit.ensures.value, c.values-good.ensures) c.load_cell.ensures.opened.fits

@@ -1,28 +1,18 @@
-use Rattle.std.proofs.Common.{◌≡◌, length, ◌∙◌, arith}
-use Rattle.packed_sim.proofs.Observed.{points_are}
+use Rattle.std.proofs.Common.{◌≡◌, List, Result, Ok, Err, IfOk, subst, sym}
+use Rattle.scan_model.specs.declared.rows.NoMemory.{NoMemory}
+use Rattle.scan_model.specs.ScanTest.{ScanTest}
+use Rattle.lane_rows.specs.declared.block.Block.{Block}
+use Rattle.lane_rows.specs.GoodRows.{AreGoodRows}
+use Rattle.packed_sim.specs.declared.good.PackedGood.{PackedGood}
+use Rattle.packed_sim.specs.Belongs.{IsBuiltFor, BelongsTo}
 use Rattle.packed_sim.proofs.good.PackedGood.make.Goals as goal
 
-pub make-requires-2 : goal.make-requires-2
-make-requires-2 c = rw (c.circuit-circuit.ensures.value, c.deref.ensures.value) c.in_ok-observed.ensures.in_range
+of_test : (t : ScanTest) (rows : List Block) (made : Result PackedGood NoMemory) → AreGoodRows t rows → IfOk made (IsBuiltFor t) → IfOk made (λ good. good.rows ≡ rows) → IfOk made (BelongsTo t)
+of_test t rows (Ok good) right built is = record { rows = subst (AreGoodRows t) (sym is) right; built = built }
+of_test t rows (Err e) right built is = tt
 
-pub of-requires-clause-keys : goal.of-requires-clause-keys
-of-requires-clause-keys c =
-    let count : c.len-nets.result ≡ length c.args.parts.now.netlist.nets = rw (c.nets.ensures.value, c.circuit-circuit.ensures.value) at c.len-nets.ensures in
-    rw (count, c.deref-2.ensures.value) c.in_ok-observed.ensures.in_range
-
-pub of-requires-clause-fit : goal.of-requires-clause-fit
-of-requires-clause-fit c = rw c.deref-2.ensures.value c.in_ok-observed.ensures.few
+pub of_rows-requires : goal.of_rows-requires
+of_rows-requires c = λ b lt. (c.in_ok-rows.ensures.each b lt).len
 
 pub returns : goal.returns
-returns c =
-    let t = c.args.parts.now in
-    let count : c.len-nets.result ≡ length t.netlist.nets = rw (c.nets.ensures.value, c.circuit-circuit.ensures.value) at c.len-nets.ensures in
-    let observed = c.in_ok-observed.ensures.are in
-    let groups = rw c.deref-2.ensures.value at c.in_ok-points.ensures.groups in
-    record {
-      rows = c.in_ok-rows.ensures;
-      observed = observed;
-      wired = rw (c.circuit-circuit.ensures.value, c.deref.ensures.value) at c.in_ok-wiring.ensures;
-      net_count = c.in_ok-points.ensures.len ∙ count;
-      points = λ n lt. groups n (omega (arith, count)) ∙ points_are t c.in_ok-observed.observed.items n observed;
-    }
+returns c = of_test c.args.parts.now c.in_ok-rows.rows c.of_rows.result c.in_ok-rows.ensures c.of_rows.ensures.built c.of_rows.ensures.rows

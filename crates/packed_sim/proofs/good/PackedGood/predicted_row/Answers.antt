@@ -39,8 +39,8 @@ difference-differs-requires-clause-net c =
     let t = c.args.parts.now in
     let g = c.args.self.now in
     let k = c.args.k in
-    let read : c.index-net.result.now ≡ get_or g.observed.items k 0 = get_or_read g.observed.items k c.index-net.result.now (omega (arith, observed_len t c.chains.ensures.fits g c.requires.good, c.requires.point)) c.index-net.ensures 0 in
-    omega (arith, read, observed_is t c.chains.ensures.fits g c.requires.good k c.requires.point, observed_in_range t c.chains.ensures.fits g c.requires.good k c.requires.point)
+    let read : c.index-net.result.now ≡ get_or g.observed.items k 0 = get_or_read g.observed.items k c.index-net.result.now (omega (arith, observed_len t c.chains.ensures.fits g c.requires.good.built, c.requires.point)) c.index-net.ensures 0 in
+    omega (arith, read, observed_is t c.chains.ensures.fits g c.requires.good.built k c.requires.point, observed_in_range t c.chains.ensures.fits g c.requires.good.built k c.requires.point)
 
 pub returns-in-None : goal.returns-in-None
 returns-in-None c j j_lt =
@@ -49,8 +49,8 @@ returns-in-None c j j_lt =
     let k = c.args.k in
     let b = c.args.block in
     let w = pattern_of b j in
-    let read : c.index-net.result.now ≡ get_or g.observed.items k 0 = get_or_read g.observed.items k c.index-net.result.now (omega (arith, observed_len t c.chains.ensures.fits g c.requires.good, c.requires.point)) c.index-net.ensures 0 in
-    let net_is : c.index-net.result.now ≡ observed_at t k = read ∙ observed_is t c.chains.ensures.fits g c.requires.good k c.requires.point in
+    let read : c.index-net.result.now ≡ get_or g.observed.items k 0 = get_or_read g.observed.items k c.index-net.result.now (omega (arith, observed_len t c.chains.ensures.fits g c.requires.good.built, c.requires.point)) c.index-net.ensures 0 in
+    let net_is : c.index-net.result.now ≡ observed_at t k = read ∙ observed_is t c.chains.ensures.fits g c.requires.good.built k c.requires.point in
     let outside : IsOutside c.args.behind.0 (point_at t k) = subst (IsOutside c.args.behind.0) c.point_of-point.ensures c.in-None.ensures in
     c.and.ensures j j_lt
     ∙ ap (λ (x : Bool). x && lane c.difference-differs.result j) (ap (λ (r : List ℕ). lane r j) c.capture-capture.ensures ∙ (c.requires.good.rows.each b c.requires.block).capture j j_lt)

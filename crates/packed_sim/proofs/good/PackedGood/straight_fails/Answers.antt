@@ -28,4 +28,4 @@ loop-k-preserved c =
 pub returns : goal.returns
 returns c k i lt i_lt =
     c.loop-k.invariant.so_far k i (omega (arith, c.loop-k.invariant.len, c.requires.out)) i_lt
-    ∙ straight_bit c.args.parts.now c.circuit-circuit.ensures.fits c.args.self.now.wiring.order.items c.requires.good.wired.wired.ordered c.args.branch.0 c.args.branch.1 (64 * c.args.word + i) k lt c.requires.fault c.requires.straight
+    ∙ straight_bit c.args.parts.now c.circuit-circuit.ensures.fits c.args.self.now.wiring.order.items c.requires.good.built.wired.wired.ordered c.args.branch.0 c.args.branch.1 (64 * c.args.word + i) k lt c.requires.fault c.requires.straight

@@ -22,4 +22,4 @@ returns c i i_lt =
     ∙ ap (λ (x : Bool). x && lane c.stuck_mask-opposite.result j) (ap (λ (r : List ℕ). lane r j) c.capture-capture.ensures
     ∙ (c.requires.good.rows.each b (block_inside t c.args.self.now word c.requires.good c.requires.word)).capture j j_lt ∙ ap (captures t) (pattern_is word i))
     ∙ and_when (captures t (64 * word + i)) (lane c.stuck_mask-opposite.result j) (are_opposite (good_value t (64 * word + i) c.args.net) (stuck_value c.args.value))
-    (λ captured. c.stuck_mask-opposite.ensures j j_lt (ap (captures t) (pattern_is word i) ∙ captured) ∙ ap (λ (w : ℕ). are_opposite (good_value t w c.args.net) (stuck_value c.args.value)) (pattern_is word i))
+    (λ captured. c.stuck_mask-opposite.ensures.good c.requires.good j j_lt (ap (captures t) (pattern_is word i) ∙ captured) ∙ ap (λ (w : ℕ). are_opposite (good_value t w c.args.net) (stuck_value c.args.value)) (pattern_is word i))

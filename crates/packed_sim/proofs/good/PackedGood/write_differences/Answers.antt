@@ -13,8 +13,8 @@ difference_word-bits-requires-clause-net c =
     let g = c.args.self.now in
     let k = c.loop-k.k in
     let in_points : k < length (points_of t) = omega (arith, c.loop-k.invariant.len, c.requires.out) in
-    let read : c.index-net.result.now ≡ get_or g.observed.items k 0 = get_or_read g.observed.items k c.index-net.result.now (omega (arith, observed_len t c.circuit.ensures.fits g c.requires.good, in_points)) c.index-net.ensures 0 in
-    omega (arith, read, observed_is t c.circuit.ensures.fits g c.requires.good k in_points, observed_in_range t c.circuit.ensures.fits g c.requires.good k in_points)
+    let read : c.index-net.result.now ≡ get_or g.observed.items k 0 = get_or_read g.observed.items k c.index-net.result.now (omega (arith, observed_len t c.circuit.ensures.fits g c.requires.good.built, in_points)) c.index-net.ensures 0 in
+    omega (arith, read, observed_is t c.circuit.ensures.fits g c.requires.good.built k in_points, observed_in_range t c.circuit.ensures.fits g c.requires.good.built k in_points)
 
 pub loop-k-preserved : goal.loop-k-preserved
 loop-k-preserved c =
@@ -23,8 +23,8 @@ loop-k-preserved c =
     let k = c.loop-k.k in
     let word = c.args.word in
     let in_points : k < length (points_of t) = omega (arith, c.loop-k.invariant.len, c.requires.out) in
-    let read : c.index-net.result.now ≡ get_or g.observed.items k 0 = get_or_read g.observed.items k c.index-net.result.now (omega (arith, observed_len t c.circuit.ensures.fits g c.requires.good, in_points)) c.index-net.ensures 0 in
-    let net_is : c.index-net.result.now ≡ observed_at t k = read ∙ observed_is t c.circuit.ensures.fits g c.requires.good k in_points in
+    let read : c.index-net.result.now ≡ get_or g.observed.items k 0 = get_or_read g.observed.items k c.index-net.result.now (omega (arith, observed_len t c.circuit.ensures.fits g c.requires.good.built, in_points)) c.index-net.ensures 0 in
+    let net_is : c.index-net.result.now ≡ observed_at t k = read ∙ observed_is t c.circuit.ensures.fits g c.requires.good.built k in_points in
     record {
       len = length-set c.loop-k.out k c.difference_word-bits.result ∙ c.loop-k.invariant.len;
       so_far = words_more (λ m i. captures t (64 * word + i) && are_opposite (good_at g (word / 8) (64 * (word % 8) + i) (observed_at t m)) (now_at g c.args.scratch.now (word / 8) (64 * (word % 8) + i) (observed_at t m)))
