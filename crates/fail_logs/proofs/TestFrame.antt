@@ -1,5 +1,5 @@
--- The frame of a scan test is sound.
-use Rattle.std.proofs.Common.{◌≡◌, ℕ, ◌+◌, ◌<◌, ◌≤◌, false, List, [], length, map, get_or, replicate, sym, ◌∙◌, inl, inr, arith}
+-- The frame of a test is sound over any points that are its outputs and cells of chains, and the points of a test are that.
+use Rattle.std.proofs.Common.{◌≡◌, ℕ, ◌+◌, ◌-◌, ◌<◌, ◌≤◌, false, List, [], length, map, get_or, replicate, sym, ◌∙◌, inl, inr, arith}
 use Rattle.std.specs.Prelude.{flat_map, bytes_eq, nat_eq}
 use Rattle.std.specs.List.{range_with_len, IsDistinct}
 use Rattle.std.specs.Cmp.Lexicographic.{nat_list_eq_equiv}
@@ -12,12 +12,13 @@ use Rattle.scan_model.specs.declared.parts.Point.{Point}
 use Rattle.scan_model.specs.declared.parts.Point.TheVariants.{Output, Cell}
 use Rattle.scan_model.specs.Netlist.{no_net}
 use Rattle.scan_model.specs.ScanTest.{ScanTest, IsScanTest, IsPoint, no_chain, chain_at, name_of, cycle, longest, points_of}
-use Rattle.scan_model.specs.LogText.{log_frame, is_shift}
+use Rattle.scan_model.specs.declared.logs.LogForm.{LogForm}
+use Rattle.scan_model.specs.LogText.{LogFrame, is_shift}
 use Rattle.scan_model.proofs.Outputs.{output_in_range}
 use Rattle.scan_model.proofs.Points.{points_are_points}
 use Rattle.fail_logs.specs.BitNumbers.{place_in}
 use Rattle.fail_logs.specs.Places.{places_in}
-use Rattle.fail_logs.specs.IsFrame.{IsFrame, IsPointIn}
+use Rattle.fail_logs.specs.IsFrame.{IsFrame, IsPointIn, IsPointOf, ArePoints, frame_with}
 use Rattle.fail_logs.proofs.TestOrder.{cell_stands, points_differ}
 use Rattle.fail_logs.proofs.CellTable.{HasCell, place_is}
 use Rattle.fail_logs.proofs.Named.{within}
@@ -44,29 +45,47 @@ outputs_apart t sound = IsDistinct-from_apart bytes_eq (map (name_of t) t.netlis
     rw (name i i_lt, name j j_lt) (names_apart names (get_or outputs i 0) (get_or outputs j 0) sound.circuit.names_differ (omega (arith, net i i_lt)) (omega (arith, net j j_lt)) other))
 
 module _ (t : ScanTest) where
-  outputs_first : (k : ℕ) → k < length t.netlist.outputs → (k < length (points_of t)) × (get_or (points_of t) k (Output 0) ≡ Output k)
-  outputs_first k lt =
+  outputs_lead : (k : ℕ) → k < length t.netlist.outputs → (k < length (points_of t)) × (get_or (points_of t) k (Output 0) ≡ Output k)
+  outputs_lead k lt =
       let n : ℕ = length t.netlist.outputs in
       let front : List Point = map (λ k. Output k) (range_with_len 0 n) in
       let cells : List Point = flat_map (λ m. cycle m 0 t.chains) (range_with_len 0 (longest t.chains)) in
       let count : length front ≡ n = length-map-range_with_len (λ k. Output k) 0 n in
       (omega (arith, length-append front cells), get_or_append_left front cells (Output 0) k (omega arith) ∙ get_or-map-range_with_len (λ k. Output k) 0 n k k (Output 0) lt (omega arith))
 
-  few_outputs : length (points_of t) ≤ 131072 → length t.netlist.outputs ≤ 131072
-  few_outputs few =
-      let n : ℕ = length t.netlist.outputs in
-      let front : List Point = map (λ k. Output k) (range_with_len 0 n) in
-      let cells : List Point = flat_map (λ m. cycle m 0 t.chains) (range_with_len 0 (longest t.chains)) in
-      omega (arith, length-append front cells, length-map-range_with_len (λ k. Output k) 0 n)
-
   abbrev lengths : List ℕ
   lengths = map (λ h. length h.cells) t.chains
 
+  length_at : (h : ℕ) → h < length t.chains → get_or lengths h 0 ≡ length (chain_at t h).cells
+  length_at h lt = get_or-map (λ h. length h.cells) t.chains h no_chain 0 lt
+
+  point_of_test : (s : Point) → IsPoint t s → IsPointOf (length t.netlist.outputs) (length lengths) s
+  point_of_test (Output k) is = is
+  point_of_test (Cell h i) is = omega (arith, length-map t.chains (λ h. length h.cells), is.0)
+
+  pub test_points : ArePoints (length t.netlist.outputs) lengths (points_of t)
+  test_points = record {
+    outputs_first = outputs_lead;
+    cells = λ h i lt.
+        let h_lt : h < length t.chains = omega (arith, within lengths h i lt, length-map t.chains (λ h. length h.cells)) in
+        cell_stands t h i h_lt (omega (arith, length_at h h_lt, lt));
+    within = All-weaker (IsPoint t) (IsPointOf (length t.netlist.outputs) (length lengths)) point_of_test (points_of t) (points_are_points t);
+    differ = λ j k. points_differ t j k (Output 0);
+  }
+
+module _ (t : ScanTest) (sound : IsScanTest t) (form : LogForm) (names : List (List ℕ)) (lengths : List ℕ) (points : List Point) (design die : List ℕ)
+    (differ : IsDistinct bytes_eq names) (same : length lengths ≡ length names) (few : length names ≤ 256) (are : ArePoints (length t.netlist.outputs) lengths points) (few_points : length points ≤ 131072) where
   abbrev blank : List (List ℕ)
   blank = map (λ n. replicate n 0) lengths
 
-  length_at : (h : ℕ) → h < length t.chains → get_or lengths h 0 ≡ length (chain_at t h).cells
-  length_at h lt = get_or-map (λ h. length h.cells) t.chains h no_chain 0 lt
+  abbrev frame : LogFrame
+  frame = frame_with t form names lengths points design die
+
+  few_outputs : length t.netlist.outputs ≤ 131072
+  few_outputs = elim (cases_lt 0 (length t.netlist.outputs)) [
+    | inl some ↦ omega (arith, (are.outputs_first (length t.netlist.outputs - 1) (omega arith)).0)
+    | inr none ↦ omega arith
+  ]
 
   has_cell : (h i : ℕ) → i < get_or lengths h 0 → HasCell blank h i
   has_cell h i lt =
@@ -76,30 +95,29 @@ module _ (t : ScanTest) where
         pos = rw (get_or-map (λ (n : ℕ). replicate {A = ℕ} n 0) lengths h 0 [] in_lengths, length-replicate {A = ℕ} (get_or lengths h 0) 0) lt;
       }
 
-  cells_at : (h i : ℕ) → i < get_or lengths h 0 → (place_in (places_in blank 0 (points_of t)) h i < length (points_of t)) × (get_or (points_of t) (place_in (places_in blank 0 (points_of t)) h i) (Output 0) ≡ Cell h i)
+  cells_at : (h i : ℕ) → i < get_or lengths h 0 → (place_in (places_in blank 0 points) h i < length points) × (get_or points (place_in (places_in blank 0 points) h i) (Output 0) ≡ Cell h i)
   cells_at h i lt =
-      let h_lt : h < length t.chains = omega (arith, within lengths h i lt, length-map t.chains (λ h. length h.cells)) in
-      let at = cell_stands t h i h_lt (omega (arith, length_at h h_lt, lt)) in
-      let here : get_or (points_of t) at.0 (Output 0) ≡ Cell h i = get_or_default (points_of t) at.0 (Output 0) (Cell h i) at.1 ∙ at.2 in
+      let at = are.cells h i lt in
+      let here : get_or points at.0 (Output 0) ≡ Cell h i = get_or_default points at.0 (Output 0) (Cell h i) at.1 ∙ at.2 in
       let sum : 0 + at.0 ≡ at.0 = omega arith in
-      let place : place_in (places_in blank 0 (points_of t)) h i ≡ at.0 = place_is (points_of t) blank 0 h i at.0 (has_cell h i lt) at.1 here (λ a b. points_differ t a b (Output 0)) ∙ sum in
+      let place : place_in (places_in blank 0 points) h i ≡ at.0 = place_is points blank 0 h i at.0 (has_cell h i lt) at.1 here are.differ ∙ sum in
       rw place (at.1, here)
 
-  point_in_frame : (design die : List ℕ) (s : Point) → IsPoint t s → IsPointIn (log_frame t design die) s
-  point_in_frame design die (Output k) is = omega (arith, length-map t.netlist.outputs (name_of t), is)
-  point_in_frame design die (Cell h i) is = omega (arith, length-map t.chains (λ h. h.name), is.0)
+  point_in_frame : (s : Point) → IsPointOf (length t.netlist.outputs) (length lengths) s → IsPointIn frame s
+  point_in_frame (Output k) is = omega (arith, length-map t.netlist.outputs (name_of t), is)
+  point_in_frame (Cell h i) is = omega (arith, same, is)
 
-  pub frame_is_sound : (design die : List ℕ) → IsScanTest t → length (points_of t) ≤ 131072 → IsFrame (log_frame t design die) (places_in blank 0 (points_of t))
-  frame_is_sound design die sound few = record {
+  pub frame_is_sound : IsFrame frame (places_in blank 0 points)
+  frame_is_sound = record {
     outputs_differ = outputs_apart t sound;
-    chains_differ = sound.chains.names_differ;
-    lengths = length-map t.chains (λ h. length h.cells) ∙ sym (length-map t.chains (λ h. h.name));
-    outputs = λ k lt. outputs_first k (omega (arith, length-map t.netlist.outputs (name_of t)));
+    chains_differ = differ;
+    lengths = same;
+    outputs = λ k lt. are.outputs_first k (omega (arith, length-map t.netlist.outputs (name_of t)));
     cells = cells_at;
-    points = All-weaker (IsPoint t) (IsPointIn (log_frame t design die)) (point_in_frame design die) (points_of t) (points_are_points t);
-    points_differ = λ j k. points_differ t j k (Output 0);
-    few_outputs = omega (arith, length-map t.netlist.outputs (name_of t), few_outputs few);
-    few_chains = omega (arith, length-map t.chains (λ h. h.name), sound.chains.few);
-    few_points = few;
+    points = All-weaker (IsPointOf (length t.netlist.outputs) (length lengths)) (IsPointIn frame) point_in_frame points are.within;
+    points_differ = are.differ;
+    few_outputs = omega (arith, length-map t.netlist.outputs (name_of t), few_outputs);
+    few_chains = few;
+    few_points = few_points;
     few_patterns = omega (arith, length-map t.patterns is_shift, sound.patterns.few);
   }

@@ -13,15 +13,15 @@ use Rattle.scan_model.specs.declared.parts.Point.TheVariants.{Output, Cell}
 use Rattle.scan_model.specs.ScanTest.{ScanTest, no_chain, chain_at, cycle, longest, points_of}
 use Rattle.fail_logs.proofs.Rising.{Rising, Below, Rising-append, Rising-weaken, Rising-lt}
 
-contains_here : {X : Type 0} (x : X) (xs : List X) → Contains (x ∷ xs) x
+pub contains_here : {X : Type 0} (x : X) (xs : List X) → Contains (x ∷ xs) x
 contains_here x xs = (0, omega arith, refl)
 
-contains_later : {X : Type 0} (y x : X) (xs : List X) → Contains xs x → Contains (y ∷ xs) x
+pub contains_later : {X : Type 0} (y x : X) (xs : List X) → Contains xs x → Contains (y ∷ xs) x
 contains_later y x xs h = Contains-append_right (y ∷ []) xs x h
 
 -- ---- each stands there
 
-in_outputs : (a n k : ℕ) → a ≤ k → k < a + n → Contains (map (λ k. Output k) (range_with_len a n)) (Output k)
+pub in_outputs : (a n k : ℕ) → a ≤ k → k < a + n → Contains (map (λ k. Output k) (range_with_len a n)) (Output k)
 in_outputs a zero k low high = absurd (omega arith)
 in_outputs a (suc n) k low high = elim (cases_lt a k) [
   | inl lt ↦ contains_later (Output a) (Output k) (map (λ k. Output k) (range_with_len (a + 1) n)) (in_outputs (a + 1) n k (omega arith) (omega arith))
@@ -43,7 +43,7 @@ in_cycle t h (c ∷ cs) (suc j) lt shows =
       | inr not_there ↦ rw not_there later
     ]
 
-in_cycles : (f : ℕ → List Point) (x : Point) (a n t : ℕ) → a ≤ t → t < a + n → Contains (f t) x → Contains (flat_map f (range_with_len a n)) x
+pub in_cycles : (f : ℕ → List Point) (x : Point) (a n t : ℕ) → a ≤ t → t < a + n → Contains (f t) x → Contains (flat_map f (range_with_len a n)) x
 in_cycles f x a zero t low high h = absurd (omega arith)
 in_cycles f x a (suc n) t low high h = elim (cases_lt a t) [
   | inl lt ↦ Contains-append_right (f a) (flat_map f (range_with_len (a + 1) n)) x (in_cycles f x (a + 1) n t (omega arith) (omega arith) h)
@@ -75,7 +75,7 @@ abbrev order_of : ScanTest → Point → ℕ
 order_of t (Output k) = k
 order_of t (Cell h i) = length t.netlist.outputs + (length (chain_at t h).cells - 1 - i) * length t.chains + h
 
-rising_outputs : (f : Point → ℕ) (a n : ℕ) → ((k : ℕ) → f (Output k) ≡ k) → Rising a (map f (map (λ k. Output k) (range_with_len a n))) × Below (a + n) (map f (map (λ k. Output k) (range_with_len a n)))
+pub rising_outputs : (f : Point → ℕ) (a n : ℕ) → ((k : ℕ) → f (Output k) ≡ k) → Rising a (map f (map (λ k. Output k) (range_with_len a n))) × Below (a + n) (map f (map (λ k. Output k) (range_with_len a n)))
 rising_outputs f a zero is = (tt, tt)
 rising_outputs f a (suc n) is =
     let rest = rising_outputs f (a + 1) n is in
@@ -105,12 +105,12 @@ rising_cycle f base t h (c ∷ cs) is =
     ]
 
 -- block after block, each of n numbers
-rising_blocks : (f : ℕ → List ℕ) (base n a m : ℕ) → ((t : ℕ) → Rising (base + t * n) (f t) × Below (base + (t + 1) * n) (f t)) → Rising (base + a * n) (flat_map f (range_with_len a m))
+pub rising_blocks : (f : ℕ → List ℕ) (base n a m : ℕ) → ((t : ℕ) → Rising (base + t * n) (f t) × Below (base + (t + 1) * n) (f t)) → Rising (base + a * n) (flat_map f (range_with_len a m))
 rising_blocks f base n a zero each = tt
 rising_blocks f base n a (suc m) each =
     Rising-append (base + a * n) (base + (a + 1) * n) (f a) (flat_map f (range_with_len (a + 1) m)) (omega (arith, add-mul a 1 n)) (each a).0 (each a).1 (rising_blocks f base n (a + 1) m each)
 
-map-flat_map : {X : Type 0} (f : X → ℕ) (g : ℕ → List X) (ns : List ℕ) → map f (flat_map g ns) ≡ flat_map (λ n. map f (g n)) ns
+pub map-flat_map : {X : Type 0} (f : X → ℕ) (g : ℕ → List X) (ns : List ℕ) → map f (flat_map g ns) ≡ flat_map (λ n. map f (g n)) ns
 map-flat_map f g [] = refl
 map-flat_map f g (n ∷ ns) = map-append f (g n) (flat_map g ns) ∙ ap (λ zs. map f (g n) ++ zs) (map-flat_map f g ns)
 

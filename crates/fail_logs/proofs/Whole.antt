@@ -31,11 +31,11 @@ pub was_read : {X : Type 0} (fault : Option (ℕ × ℕ)) (x y : X) → refused_
 was_read None x y e = (refl, cc)
 was_read (Some f) x y e = absurd cc
 
-All-flat_map : {X Y : Type 0} (P : Y → Type 0) (f : X → List Y) → ((x : X) → All P (f x)) → (xs : List X) → All P (flat_map f xs)
+pub All-flat_map : {X Y : Type 0} (P : Y → Type 0) (f : X → List Y) → ((x : X) → All P (f x)) → (xs : List X) → All P (flat_map f xs)
 All-flat_map P f each [] = All-nil P
 All-flat_map P f each (x ∷ xs) = All-append P (f x) (flat_map f xs) (each x) (All-flat_map P f each xs)
 
-range_below : (n : ℕ) → All (λ k. k < n) (range_with_len 0 n)
+pub range_below : (n : ℕ) → All (λ k. k < n) (range_with_len 0 n)
 range_below n i d lt =
     let within : i < n = omega (arith, length-range_with_len 0 n, lt) in
     rw (get_or-range_with_len 0 n i d within) (omega (arith, within))

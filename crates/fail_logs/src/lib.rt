@@ -13,4 +13,6 @@ mod rules;
 mod tables;
 mod tested;
 
-pub use reading::read_log;
+pub use frame::Frame;
+pub use reading::{read_framed, read_log};
+pub use tables::chain_names;

@@ -11,7 +11,7 @@ ghost use Rattle.text_parts.specs.Gives.{Gives, IfFault};
 ghost use Rattle.text_parts.specs.Views.{nows};
 ghost use Rattle.fail_logs.specs.GivesV1.{GivesV1};
 ghost use Rattle.fail_logs.specs.Frames.{frame_view, places_view, IsSmall};
-ghost use Rattle.fail_logs.specs.IsFrame.{IsFrame};
+ghost use Rattle.fail_logs.specs.IsFrame.{IsFrameOf};
 ghost use Rattle.fail_logs.specs.LineFacts.{facts_of, kept_facts};
 ghost use Rattle.fail_logs.specs.Taken.{IsAfter};
 
@@ -73,10 +73,12 @@ fn read_lines(alloc: Global, frame: &Frame<'_>, bytes: &[u8]) -> Result<Kept, Re
     Ok(kept)
 }
 
-// What a log stands for, or its first fault.
-fn read_framed(alloc: Global, frame: &Frame<'_>, bytes: &[u8]) -> Result<LogFacts, ReadFault>
-    requires { IsFrame (frame_view frame.now) (places_view frame.now) }
+/// What a log stands for that is read for a frame, or its first fault by the rules of logs of its form.
+pub fn read_framed(alloc: Global, frame: &Frame<'_>, bytes: &[u8]) -> Result<LogFacts, ReadFault>
+    requires { IsFrameOf frame.now }
     ensures reading { Gives (λ log. log) result (log_reading (frame_view frame.now) bytes.now) }
+    ensures first { IfFault result (IsFirstFault (log_breaks (frame_view frame.now) (text_lines bytes.now)) (length (text_lines bytes.now) + 1)) }
+    ensures none { IfOk result (λ log. HasNoFault (log_breaks (frame_view frame.now) (text_lines bytes.now)) (length (text_lines bytes.now) + 1)) }
     ensures fits { IfOk result (FitsLog (length frame.now.shifts.items) (length frame.now.points.now)) }
 {
     let kept = read_lines(alloc, frame, bytes)?;

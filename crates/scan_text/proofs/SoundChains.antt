@@ -42,7 +42,7 @@ none_sound nets = record {
 
 -- ---- one more line
 
-all_from_any : {X : Type 0} (p : X → Bool) (xs : List X) → list_any (λ x. not (p x)) xs ≡ false → All (λ x. p x ≡ true) xs
+pub all_from_any : {X : Type 0} (p : X → Bool) (xs : List X) → list_any (λ x. not (p x)) xs ≡ false → All (λ x. p x ≡ true) xs
 all_from_any p [] h = All-nil (λ x. p x ≡ true)
 all_from_any p (x ∷ xs) h =
     let both = or_parts (not (p x)) (list_any (λ y. not (p y)) xs) h in

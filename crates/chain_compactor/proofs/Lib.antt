@@ -1,0 +1,5 @@
+pub mod PointCount
+pub mod Sound
+pub mod ChannelLoop
+pub mod Judged
+pub mod CompactOrder

@@ -1,0 +1,5 @@
+pub mod Channels
+pub mod ChannelText
+pub mod AfterChannels
+pub mod CompactLog
+pub mod Compaction

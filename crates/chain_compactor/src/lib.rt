@@ -1,0 +1,13 @@
+//! An XOR compactor behind the chains of a test: the channels of a text, their logs, and what a tester sees through them.
+#![tactic(auto)]
+
+mod channels;
+mod compactor;
+mod in_order;
+mod logs;
+mod named;
+mod reading;
+
+pub use compactor::{Channel, Compact};
+pub use logs::read_compact_log;
+pub use reading::read_channels;
