@@ -2,3 +2,5 @@ pub mod SlowStems
 pub mod SlowOperands
 pub mod SlowPins
 pub mod Transitions
+pub mod SlowPlaces
+pub mod FrameLayout

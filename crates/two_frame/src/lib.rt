@@ -2,7 +2,10 @@
 #![tactic(auto)]
 
 mod laws;
+mod names;
 mod reader;
+mod text;
 
 pub use laws::{only_transitions, second_frame, slow_operands, slow_pins, slow_stems};
 pub use reader::read_two_frame;
+pub use text::frame_text;
