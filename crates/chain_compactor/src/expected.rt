@@ -108,7 +108,8 @@ fn with_chain(parts: &Parts, block: &Block, row: Packed, chain: u32, cycle: u32)
         return row;
     }
     let pos = (length - 1 - cycle as usize) as u32;
-    row.xor(point_in_block(parts, block, Point::Cell { chain, pos }))
+    let shown = point_in_block(parts, block, Point::Cell { chain, pos });
+    row.xor(shown)
 }
 
 /// The XOR of what chains show in an unload cycle, in the 512 patterns of a block.

@@ -10,8 +10,8 @@ use Rattle.lane_rows.specs.GoodRows.{pattern_of}
 use Rattle.chain_compactor.specs.Channels.{chain_length as model_length}
 use Rattle.chain_compactor.proofs.expected.with_chain.Goals as goal
 
-pub point_in_block-requires-clause-point : goal.point_in_block-requires-clause-point
-point_in_block-requires-clause-point c = (c.requires.chain, omega (arith, c.chain_length-length.ensures.value))
+pub point_in_block-shown-requires-clause-point : goal.point_in_block-shown-requires-clause-point
+point_in_block-shown-requires-clause-point c = (c.requires.chain, omega (arith, c.chain_length-length.ensures.value))
 
 pub returns-then-cycle-length : goal.returns-then-cycle-length
 returns-then-cycle-length c = λ b j rows lane_in there vs so_far.
@@ -26,6 +26,6 @@ returns c = λ b j rows lane_in there vs so_far.
     let shows : ltb c.args.cycle (model_length t c.args.chain) ≡ true = grind (arith, nat_tests, c.chain_length-length.ensures.value) in
     rw (shows, ← c.chain_length-length.ensures.value)
     (c.xor.ensures j lane_in
-    ∙ ap (tri_xor (held c.args.row j)) (c.point_in_block.ensures b j rows lane_in there)
+    ∙ ap (tri_xor (held c.args.row j)) (c.point_in_block-shown.ensures b j rows lane_in there)
     ∙ ap (λ (v : Tri). tri_xor v (see (Cell c.args.chain (length - 1 - c.args.cycle)))) so_far
     ∙ sym (xor_of-push vs (see (Cell c.args.chain (length - 1 - c.args.cycle)))))
