@@ -3,3 +3,9 @@ pub mod Sound
 pub mod ChannelLoop
 pub mod Judged
 pub mod CompactOrder
+pub mod Xors
+pub mod OneFlip
+pub mod Behind
+pub mod Members
+pub mod BlockShows
+pub mod ShownWords

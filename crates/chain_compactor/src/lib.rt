@@ -3,11 +3,15 @@
 
 mod channels;
 mod compactor;
+mod expected;
 mod in_order;
+mod laws;
 mod logs;
 mod named;
 mod reading;
 
 pub use compactor::{Channel, Compact};
+pub use expected::compact_expected;
+pub use laws::{compact_flips, fails_behind};
 pub use logs::read_compact_log;
 pub use reading::read_channels;

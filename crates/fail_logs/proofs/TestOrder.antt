@@ -50,7 +50,7 @@ in_cycles f x a (suc n) t low high h = elim (cases_lt a t) [
   | inr le ↦ let same : t ≡ a = omega arith in Contains-append_left (f a) (flat_map f (range_with_len (a + 1) n)) x (rw same at h)
 ]
 
-longest-above : (cs : List Chain) (j : ℕ) → j < length cs → length (get_or cs j no_chain).cells ≤ longest cs
+pub longest-above : (cs : List Chain) (j : ℕ) → j < length cs → length (get_or cs j no_chain).cells ≤ longest cs
 longest-above [] j lt = absurd (omega arith)
 longest-above (c ∷ cs) zero lt = omega arith
 longest-above (c ∷ cs) (suc j) lt = omega (arith, longest-above cs j (omega arith))

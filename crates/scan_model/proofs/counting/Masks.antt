@@ -92,7 +92,12 @@ module _ (t : ScanTest) (sound : IsScanTest t) (order : List ℕ) (ordered : IsE
       or_comm false true = refl
       or_comm false false = refl
 
-  module _ (a b : ℕ) (kind : BridgeKind) (p : Point) (is_point : IsPoint t p) (site : (a < length t.netlist.nets) × (b < length t.netlist.nets)) (free : IsLoopFree t (fault.Bridge a b kind)) where
+  -- the nets have the values of net n alone forced to x, and of the touched nets the fault may flip n alone
+  pub record IsForceOf (f : Fault) (n : ℕ) (x : Tri) : Type 0 where
+    pub values : (o : ℕ) → o < length t.netlist.nets → net_value t (Some f) w o ≡ values_of t.netlist s (force n x) o
+    pub masks : (shows : ℕ → Bool) → list_any (λ m. mask t f w m && shows m) (touched_nets t f) ≡ (are_opposite (good n) x && shows n)
+
+  module _ (a b : ℕ) (kind : BridgeKind) (site : (a < length t.netlist.nets) × (b < length t.netlist.nets)) (free : IsLoopFree t (fault.Bridge a b kind)) where
     abbrev x : Tri
     x = bridged kind (good a) (good b)
 
@@ -102,24 +107,9 @@ module _ (t : ScanTest) (sound : IsScanTest t) (order : List ℕ) (ordered : IsE
     abbrev B : Bool
     B = are_opposite (good b) x
 
-    abbrev o : ℕ
-    o = observed_net t p
-
-    lt : observed_net t p < length t.netlist.nets
-    lt = observed_net-in_range t sound p is_point
-
     or_true : (y : Bool) → (y || true) ≡ true
     or_true true = refl
     or_true false = refl
-
-    one_forced : (x ≡ good a) ⊎ (x ≡ good b) → are_opposite (good o) (values_of t.netlist s (force_two a b x) o) ≡ ((A && flip_shows_at t w a p) || (B && flip_shows_at t w b p))
-    one_forced (inl is) =
-        let off : A ≡ false = ap (are_opposite (good a)) is ∙ not_opposite_itself (good a) in
-        ap (are_opposite (good o)) (one_of_two t.netlist order net_sound ordered s a b x site.0 is free.0 o lt) ∙ force_shows b x o lt ∙ sym (rw off refl)
-    one_forced (inr is) =
-        let off : B ≡ false = ap (are_opposite (good b)) is ∙ not_opposite_itself (good b) in
-        ap (λ (F : Forced). are_opposite (good o) (values_of t.netlist s F o)) (bridge_other a b x)
-        ∙ ap (are_opposite (good o)) (one_of_two t.netlist order net_sound ordered s b a x site.1 is free.1 o lt) ∙ force_shows a x o lt ∙ sym (rw off (or_false (A && flip_shows_at t w a p)))
 
     -- the forced nets, by who takes the value
     abbrev forced_as : (Bool → Bool → Bool) → Forced
@@ -128,35 +118,54 @@ module _ (t : ScanTest) (sound : IsScanTest t) (order : List ℕ) (ordered : IsE
     same_force : (g : Bool → Bool → Bool) → ((y z : Bool) → takes kind y z ≡ g y z) → forced_as (takes kind) ≡ forced_as g
     same_force g same = ap (λ (f : ℕ → Option Tri). let F : Forced = record { net = f; pin = λ q. None } in F) (fun_ext (λ n. ap (λ (c : Bool). cond c (Some x) None) (same (eqb n a) (eqb n b))))
 
-    seen_as : (g : Bool → Bool → Bool) → ((y z : Bool) → takes kind y z ≡ g y z) → are_opposite (good (observed_net t p)) (pin_value t (Some (fault.Bridge a b kind)) w (point_pin t p)) ≡ are_opposite (good (observed_net t p)) (values_of t.netlist s (forced_as g) (observed_net t p))
-    seen_as g same =
-        ap (λ (q : ℕ). are_opposite (good (observed_net t p)) (values_of t.netlist s (forced_as (takes kind)) q)) (point_pin-net t sound p is_point)
-        ∙ ap (λ (F : Forced). are_opposite (good (observed_net t p)) (values_of t.netlist s F (observed_net t p))) (same_force g same)
+    values_as : (g : Bool → Bool → Bool) → ((y z : Bool) → takes kind y z ≡ g y z) → (o : ℕ) → net_value t (Some (fault.Bridge a b kind)) w o ≡ values_of t.netlist s (forced_as g) o
+    values_as g same o = ap (λ (F : Forced). values_of t.netlist s F o) (same_force g same)
 
-    both_take : ((y z : Bool) → takes kind y z ≡ (y || z)) → are_opposite (good (observed_net t p)) (pin_value t (Some (fault.Bridge a b kind)) w (point_pin t p)) ≡ predicted (fault.Bridge a b kind) p
-    both_take same =
-        seen_as (λ y z. y || z) same
-        ∙ one_forced (one_site kind (good a) (good b))
-        ∙ sym (rw (same (eqb a a) (eqb a b), same (eqb b a) (eqb b b), eq-eqb a a refl, eq-eqb b b refl, or_true (eqb b a)) (or_false ((A && flip_shows_at t w a p) || ((B && flip_shows_at t w b p) || false)) ∙ ap (λ (y : Bool). (A && flip_shows_at t w a p) || y) (or_false (B && flip_shows_at t w b p))))
+    -- where both nets take the value it is the fault-free one of one of them
+    both_take : ((y z : Bool) → takes kind y z ≡ (y || z)) → (x ≡ good a) ⊎ (x ≡ good b) → (n : ℕ) × IsForceOf (fault.Bridge a b kind) n x
+    both_take same (inl is) =
+        let off : A ≡ false = ap (are_opposite (good a)) is ∙ not_opposite_itself (good a) in
+        (b, record {
+          values = λ o lt. values_as (λ y z. y || z) same o ∙ one_of_two t.netlist order net_sound ordered s a b x site.0 is free.0 o lt;
+          masks = λ shows. rw (same (eqb a a) (eqb a b), same (eqb b a) (eqb b b), eq-eqb a a refl, eq-eqb b b refl, or_true (eqb b a), off) (or_false (B && shows b));
+        })
+    both_take same (inr is) =
+        let off : B ≡ false = ap (are_opposite (good b)) is ∙ not_opposite_itself (good b) in
+        (a, record {
+          values = λ o lt. values_as (λ y z. y || z) same o ∙ ap (λ (F : Forced). values_of t.netlist s F o) (bridge_other a b x) ∙ one_of_two t.netlist order net_sound ordered s b a x site.1 is free.1 o lt;
+          masks = λ shows. rw (same (eqb a a) (eqb a b), same (eqb b a) (eqb b b), eq-eqb a a refl, eq-eqb b b refl, or_true (eqb b a), off) (or_false (A && shows a));
+        })
 
     apart : a ≢ b
     apart same = both_ways (in_fan_in t.netlist b a) free.0 (ap (in_fan_in t.netlist b) same ∙ in_own t.netlist b)
 
-    second_takes : ((y z : Bool) → takes kind y z ≡ z) → are_opposite (good (observed_net t p)) (pin_value t (Some (fault.Bridge a b kind)) w (point_pin t p)) ≡ predicted (fault.Bridge a b kind) p
-    second_takes same =
-        seen_as (λ y z. z) same
-        ∙ force_shows b x (observed_net t p) lt
-        ∙ sym (rw (same (eqb a a) (eqb a b), same (eqb b a) (eqb b b), ne_eqb a b apart, eq-eqb b b refl) (or_false ((B && flip_shows_at t w b p) || false) ∙ or_false (B && flip_shows_at t w b p)))
+    second_takes : ((y z : Bool) → takes kind y z ≡ z) → (n : ℕ) × IsForceOf (fault.Bridge a b kind) n x
+    second_takes same = (b, record {
+      values = λ o lt. values_as (λ y z. z) same o;
+      masks = λ shows. rw (same (eqb a a) (eqb a b), same (eqb b a) (eqb b b), ne_eqb a b apart, eq-eqb b b refl) (or_false (B && shows b));
+    })
 
-    bridge_by : (k : BridgeKind) → k ≡ kind → are_opposite (good (observed_net t p)) (pin_value t (Some (fault.Bridge a b kind)) w (point_pin t p)) ≡ predicted (fault.Bridge a b kind) p
-    bridge_by Dominant is = both_take (λ y z. ap (λ (k : BridgeKind). takes k y z) (sym is))
-    bridge_by WiredAnd is = both_take (λ y z. ap (λ (k : BridgeKind). takes k y z) (sym is))
-    bridge_by WiredOr is = both_take (λ y z. ap (λ (k : BridgeKind). takes k y z) (sym is))
+    bridge_by : (k : BridgeKind) → k ≡ kind → (n : ℕ) × IsForceOf (fault.Bridge a b kind) n x
+    bridge_by Dominant is = both_take (λ y z. ap (λ (k : BridgeKind). takes k y z) (sym is)) (one_site kind (good a) (good b))
+    bridge_by WiredAnd is = both_take (λ y z. ap (λ (k : BridgeKind). takes k y z) (sym is)) (one_site kind (good a) (good b))
+    bridge_by WiredOr is = both_take (λ y z. ap (λ (k : BridgeKind). takes k y z) (sym is)) (one_site kind (good a) (good b))
     bridge_by DominantAnd is = second_takes (λ y z. ap (λ (k : BridgeKind). takes k y z) (sym is))
     bridge_by DominantOr is = second_takes (λ y z. ap (λ (k : BridgeKind). takes k y z) (sym is))
 
-    bridge_shows : are_opposite (good (observed_net t p)) (pin_value t (Some (fault.Bridge a b kind)) w (point_pin t p)) ≡ predicted (fault.Bridge a b kind) p
-    bridge_shows = bridge_by kind refl
+    -- a bridge forces one net
+    pub bridge_is_force : (n : ℕ) × IsForceOf (fault.Bridge a b kind) n x
+    bridge_is_force = bridge_by kind refl
+
+    bridge_shows : (p : Point) → IsPoint t p → are_opposite (good (observed_net t p)) (pin_value t (Some (fault.Bridge a b kind)) w (point_pin t p)) ≡ predicted (fault.Bridge a b kind) p
+    bridge_shows p is_point =
+        let o = observed_net t p in
+        let lt = observed_net-in_range t sound p is_point in
+        let one = bridge_is_force in
+        ap (λ (q : ℕ). are_opposite (good o) (net_value t (Some (fault.Bridge a b kind)) w q)) (point_pin-net t sound p is_point)
+        ∙ ap (are_opposite (good o)) (one.1.values o lt)
+        ∙ force_shows one.0 x o lt
+        ∙ sym (one.1.masks (λ m. flip_shows_at t w m p))
+        ∙ sym (or_false (list_any (λ m. mask t (fault.Bridge a b kind) w m && flip_shows_at t w m p) (touched_nets t (fault.Bridge a b kind))))
 
   -- ---- branches
 
@@ -214,7 +223,7 @@ module _ (t : ScanTest) (sound : IsScanTest t) (order : List ℕ) (ordered : IsE
   shows : (f : Fault) (p : Point) → IsPoint t p → HasSite t f → IsLoopFree t f → IsLogic f → are_opposite (good (observed_net t p)) (pin_value t (Some f) w (point_pin t p)) ≡ predicted f p
   shows (fault.Stem m v) p is_point site free logic = stem_shows m v p is_point
   shows (fault.Branch q v) p is_point site free logic = branch_shows q v p site is_point
-  shows (fault.Bridge a b kind) p is_point site free logic = bridge_shows a b kind p is_point site free
+  shows (fault.Bridge a b kind) p is_point site free logic = bridge_shows a b kind site free p is_point
   shows (fault.Cell h c kind) p is_point site free logic = absurd logic
 
   pub masks-capture : (f : Fault) (k : ℕ) → Contains (universe t) f → IsLogic f → k < length (points_of t) → (pattern_at t w).kind ≡ Capture

@@ -26,7 +26,8 @@ opposite_is_not One One e = absurd cc
 opposite_is_not One Unknown e = absurd cc
 opposite_is_not Unknown v e = absurd cc
 
-compare : (x v : Tri) → are_opposite x v ≡ false → IsAtLeast v x ⊎ IsAtLeast x v
+-- values that are not opposite compare, and values that compare are not opposite
+pub compare : (x v : Tri) → are_opposite x v ≡ false → IsAtLeast v x ⊎ IsAtLeast x v
 compare Unknown v e = inl tt
 compare Zero Unknown e = inr tt
 compare One Unknown e = inr tt
@@ -35,12 +36,12 @@ compare One One e = inl refl
 compare Zero One e = absurd cc
 compare One Zero e = absurd cc
 
-above_not_opposite : (x v : Tri) → IsAtLeast v x → are_opposite x v ≡ false
+pub above_not_opposite : (x v : Tri) → IsAtLeast v x → are_opposite x v ≡ false
 above_not_opposite Unknown v h = refl
 above_not_opposite Zero v h = ap (are_opposite Zero) h
 above_not_opposite One v h = ap (are_opposite One) h
 
-below_not_opposite : (x v : Tri) → IsAtLeast x v → are_opposite x v ≡ false
+pub below_not_opposite : (x v : Tri) → IsAtLeast x v → are_opposite x v ≡ false
 below_not_opposite Zero Unknown h = refl
 below_not_opposite One Unknown h = refl
 below_not_opposite Unknown v h = refl

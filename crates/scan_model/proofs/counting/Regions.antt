@@ -118,38 +118,52 @@ module _ (c : Netlist) (order : List ℕ) (sound : IsNetlist c) (ordered : IsEva
     | inr other ↦ cond-false (eqb k n) (good n) (V k) (ne_eqb k n other) ∙ elsewhere k in' other
   ]) m lt
 
+  abbrev output : Tri
+  output = gate_value kind (map (seen c FP good) (operands c g))
+
+  -- at another net the flip has the value of the gate's output forced, as the flipped operand makes it
+  pub flip_is_gate : (o : ℕ) → o < length c.nets → o ≢ n → flipped_from c s n o ≡ values_of c s (force g (gate_value kind (map (seen c FP good) (operands c g)))) o
+  flip_is_gate o lt unseen = sym (cond-false (eqb o n) (good n) (V o) (ne_eqb o n unseen)) ∙ back_is o lt ∙ branch_is_force c order sound ordered s p g i v kind stands.0 at drives o lt
+
+  pub gate_flips : are_opposite (good g) (gate_value kind (map (seen c FP good) (operands c g))) ≡ (are_opposite (good n) v && senses kind (operand_values_from c s g) i)
+  gate_flips = forced_gate_flips c order sound ordered s p g i v kind in_range at drives ∙ ap (λ (m : ℕ). are_opposite (good m) v && senses kind (operand_values_from c s g) i) net
+
   -- the flip shows where the branch does
   shows_by_pin : (o : ℕ) → o < length c.nets → o ≢ n → flip_shows_from c s n o ≡ ((are_opposite (good n) v && senses kind (operand_values_from c s g) i) && flip_shows_from c s g o)
   shows_by_pin o lt unseen =
-      let output = gate_value kind (map (seen c FP good) (operands c g)) in
-      ap (are_opposite (good o)) (sym (cond-false (eqb o n) (good n) (V o) (ne_eqb o n unseen)) ∙ back_is o lt ∙ branch_is_force c order sound ordered s p g i v kind stands.0 at drives o lt)
+      ap (are_opposite (good o)) (flip_is_gate o lt unseen)
       ∙ force_shows_from c order sound ordered s g output o lt
-      ∙ ap (λ (b : Bool). b && flip_shows_from c s g o) (forced_gate_flips c order sound ordered s p g i v kind in_range at drives ∙ ap (λ (m : ℕ). are_opposite (good m) v && senses kind (operand_values_from c s g) i) net)
+      ∙ ap (λ (b : Bool). b && flip_shows_from c s g o) gate_flips
 
   unknown_hides : (m o : ℕ) → o < length c.nets → good m ≡ Unknown → flip_shows_from c s m o ≡ false
   unknown_hides m o lt is =
       let same : flipped_from c s m o ≡ good o = ap (λ (x : Tri). values_of c s (force m (tri_not x)) o) is ∙ ap (λ (x : Tri). values_of c s (force m x) o) (sym is) ∙ sym (own_force c order sound ordered s m o lt) in
       ap (are_opposite (good o)) same ∙ not_opposite_itself (good o)
 
-  -- it shows at another net where the gate senses its operand
-  pub single_pin_shows_from : (o : ℕ) → o < length c.nets → o ≢ n → flip_shows_from c s n o ≡ (senses kind (operand_values_from c s g) i && flip_shows_from c s g o)
-  single_pin_shows_from o lt unseen = shows_by_pin o lt unseen ∙ go (good n) refl
+  -- an X that the gate senses makes its output X
+  pub sensed_unknown : good n ≡ Unknown → senses kind (operand_values_from c s g) i ≡ true → good g ≡ Unknown
+  sensed_unknown is sensed =
+      good_is c order sound ordered s p g i v kind in_range at drives
+      ∙ senses_unknown kind (operand_values_from c s g) i (count_fits c order sound ordered s p g i v kind in_range at drives)
+      (omega (arith, length-map-range_with_len (seen c nothing_forced good) (net_at c g).first_pin (net_at c g).pin_count, stands.1))
+      (first_value c order sound ordered s p g i v kind in_range at drives ∙ ap good net ∙ is) sensed
+
+  -- where X hides what a flip of the gate shows, a flip of the net shows where the gate senses it
+  pub sensed_shows : (shows : Bool) → (good g ≡ Unknown → shows ≡ false) → ((are_opposite (good n) (tri_not (good n)) && senses kind (operand_values_from c s g) i) && shows) ≡ (senses kind (operand_values_from c s g) i && shows)
+  sensed_shows shows hides = go (good n) refl
     where
-      S : Bool
-      S = senses kind (operand_values_from c s g) i
-
-      hidden : good n ≡ Unknown → (b : Bool) → senses kind (operand_values_from c s g) i ≡ b → false ≡ (b && flip_shows_from c s g o)
+      hidden : good n ≡ Unknown → (b : Bool) → senses kind (operand_values_from c s g) i ≡ b → false ≡ (b && shows)
       hidden is false sensed = refl
-      hidden is true sensed = sym (unknown_hides g o lt
-          (good_is c order sound ordered s p g i v kind in_range at drives
-          ∙ senses_unknown kind (operand_values_from c s g) i (count_fits c order sound ordered s p g i v kind in_range at drives)
-          (omega (arith, length-map-range_with_len (seen c nothing_forced good) (net_at c g).first_pin (net_at c g).pin_count, stands.1))
-          (first_value c order sound ordered s p g i v kind in_range at drives ∙ ap good net ∙ is) sensed))
+      hidden is true sensed = sym (hides (sensed_unknown is sensed))
 
-      go : (x : Tri) → good n ≡ x → ((are_opposite (good n) (tri_not (good n)) && senses kind (operand_values_from c s g) i) && flip_shows_from c s g o) ≡ (senses kind (operand_values_from c s g) i && flip_shows_from c s g o)
+      go : (x : Tri) → good n ≡ x → ((are_opposite (good n) (tri_not (good n)) && senses kind (operand_values_from c s g) i) && shows) ≡ (senses kind (operand_values_from c s g) i && shows)
       go Zero is = rw is refl
       go One is = rw is refl
       go Unknown is = rw is (hidden is (senses kind (operand_values_from c s g) i) refl)
+
+  -- it shows at another net where the gate senses its operand
+  pub single_pin_shows_from : (o : ℕ) → o < length c.nets → o ≢ n → flip_shows_from c s n o ≡ (senses kind (operand_values_from c s g) i && flip_shows_from c s g o)
+  single_pin_shows_from o lt unseen = shows_by_pin o lt unseen ∙ sensed_shows (flip_shows_from c s g o) (unknown_hides g o lt)
 
 module _ (t : ScanTest) (sound : IsScanTest t) (order : List ℕ) (ordered : IsEvaluationOrder t.netlist order) (w : ℕ)
     (p n g i : ℕ) (kind : GateKind) (in_range : p < length t.netlist.pins) (net : (pin_at t.netlist p).net ≡ n) (at : (pin_at t.netlist p).place ≡ place.Operand g i) (drives : driver_of t.netlist g ≡ Gate kind)
