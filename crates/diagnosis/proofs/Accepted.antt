@@ -60,4 +60,4 @@ patterns_accepted frame text patterns e =
     none_refused ls (λ k lt.
     let rule : lowest (pattern_rules frame (length (pattern_lines (take k ls))) (line_at ls k)) ≡ None = rw (differs k (length ls) lt) at (fault_from-clean (pattern_rule frame ls) 0 (length ls + 1) none k (omega arith) (omega arith)) in
     let rules = none_broken (pattern_rules frame (length (pattern_lines (take k ls))) (line_at ls k)) rule in
-    (or_parts (has_refused_byte (line_at ls k)) (has_words (words (line_at ls k)) && not (is_some (kind_of (words (line_at ls k))))) rules.0).0)
+    (or_parts (has_refused_byte (line_at ls k)) (has_words (words (line_at ls k)) && not (is_some (kind_of frame (words (line_at ls k))))) rules.0).0)

@@ -5,13 +5,15 @@ use Rattle.std.specs.List.{slice_split, position_or_len}
 use Rattle.std.proofs.lemmas.Bool.{eqb-true, ne_eqb, lt-ltb, not_from_false, or_right, false_from_ne_true}
 use Rattle.std.proofs.lemmas.List.Elements.{All-from_get_or}
 use Rattle.scan_model.specs.declared.circuit.Net.{Net}
+use Rattle.scan_model.specs.declared.parts.Chain.{Chain}
+use Rattle.scan_model.specs.Netlist.{Netlist}
 use Rattle.scan_model.specs.Lines.{line_at, has_refused_byte, without_comment, is_blank}
 use Rattle.scan_model.specs.Words.{words, is_filled, has_words}
 use Rattle.scan_model.specs.TextFaults.{lowest, first_fault}
 use Rattle.scan_model.specs.NetlistLines.{form_of}
 use Rattle.scan_model.specs.NetlistRules.{is_no_form, forms_of, defined_names, outputs_of, pins_after, first_rules, first_rule}
 use Rattle.scan_model.specs.ScanText.{chain_of, chains_before, cells_in, titles_in, scan_rules, scan_rule}
-use Rattle.scan_model.specs.PatternText.{PatternFrame, kind_of, pattern_lines, pattern_rules, pattern_rule}
+use Rattle.scan_model.specs.PatternText.{pattern_frame, kind_of, pattern_lines, pattern_rules, pattern_rule}
 use Rattle.scan_model.proofs.FaultSteps.{fault_from-clean}
 use Rattle.diagnosis.specs.Bundle.{is_mark}
 
@@ -51,8 +53,8 @@ has_no_chain line e = let first = first_word line e in go first.0 first.1 first.
     go w (name ∷ cell ∷ cells) is = rw (is, has_a_word (37 ∷ w) (name ∷ cell ∷ cells)) refl
 
 -- its first word names no kind of pattern
-has_no_kind : (line : List ℕ) → is_mark line ≡ true → (has_words (words line) && not (is_some (kind_of (words line)))) ≡ true
-has_no_kind line e = let first = first_word line e in rw (first.2, has_a_word (37 ∷ first.0) first.1) refl
+has_no_kind : (c : Netlist) (chains : List Chain) (line : List ℕ) → is_mark line ≡ true → (has_words (words line) && not (is_some (kind_of (pattern_frame c chains) (words line)))) ≡ true
+has_no_kind c chains line e = let first = first_word line e in rw (first.2, has_a_word (37 ∷ first.0) first.1) refl
 
 -- ---- the rules that it breaks
 
@@ -67,9 +69,9 @@ breaks_scan : (nets : List Net) (cells titles : List (List ℕ)) (line : List �
 breaks_scan nets cells titles line mark none =
     let some : lowest (scan_rules nets cells titles line) ≡ Some 11 = rw (or_right (has_refused_byte line) _ (has_no_chain line mark)) refl in cc
 
-breaks_patterns : (frame : PatternFrame) (earlier : ℕ) (line : List ℕ) → is_mark line ≡ true → lowest (pattern_rules frame earlier line) ≡ None → ⊥
-breaks_patterns frame earlier line mark none =
-    let some : lowest (pattern_rules frame earlier line) ≡ Some 21 = rw (or_right (has_refused_byte line) _ (has_no_kind line mark)) refl in cc
+breaks_patterns : (c : Netlist) (chains : List Chain) (earlier : ℕ) (line : List ℕ) → is_mark line ≡ true → lowest (pattern_rules (pattern_frame c chains) earlier line) ≡ None → ⊥
+breaks_patterns c chains earlier line mark none =
+    let some : lowest (pattern_rules (pattern_frame c chains) earlier line) ≡ Some 21 = rw (or_right (has_refused_byte line) _ (has_no_kind c chains line mark)) refl in cc
 
 -- ---- lines without a fault
 
@@ -86,7 +88,7 @@ pub unmarked_scan : (nets : List Net) (ls : List (List ℕ)) → first_fault (sc
 unmarked_scan nets ls = none_marked (scan_rule nets ls) ls (length ls) (omega arith)
     (λ i lt. breaks_scan nets (cells_in (chains_before ls i)) (titles_in (chains_before ls i)) (line_at ls i))
 
-pub unmarked_patterns : (frame : PatternFrame) (ls : List (List ℕ)) → first_fault (pattern_rule frame ls) (length ls + 1) ≡ None → All (λ line. is_mark line ≡ false) ls
-unmarked_patterns frame ls = none_marked (pattern_rule frame ls) ls (length ls + 1) (omega arith) (λ i lt mark none.
+pub unmarked_patterns : (c : Netlist) (chains : List Chain) (ls : List (List ℕ)) → first_fault (pattern_rule (pattern_frame c chains) ls) (length ls + 1) ≡ None → All (λ line. is_mark line ≡ false) ls
+unmarked_patterns c chains ls = none_marked (pattern_rule (pattern_frame c chains) ls) ls (length ls + 1) (omega arith) (λ i lt mark none.
     let inside : (i == length ls) ≡ false = ne_eqb i (length ls) (λ same. omega arith) in
-    breaks_patterns frame (length (pattern_lines (take i ls))) (line_at ls i) mark (rw inside at none))
+    breaks_patterns c chains (length (pattern_lines (take i ls))) (line_at ls i) mark (rw inside at none))

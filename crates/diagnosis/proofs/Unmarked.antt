@@ -12,7 +12,7 @@ use Rattle.scan_model.specs.TextFaults.{first_fault}
 use Rattle.scan_model.specs.NetlistRules.{first_rule, second_rule, early_fault}
 use Rattle.scan_model.specs.NetlistText.{third_rule, netlist_fault, netlist_reading, circuit_of}
 use Rattle.scan_model.specs.ScanText.{net_names, scan_fault, scan_reading, chains_of}
-use Rattle.scan_model.specs.PatternText.{PatternFrame, pattern_frame, pattern_fault, pattern_reading, patterns_of}
+use Rattle.scan_model.specs.PatternText.{pattern_frame, pattern_fault, pattern_reading, patterns_of}
 use Rattle.text_parts.specs.Ended.{ended}
 use Rattle.bridge_pairs.specs.PairText.{records_in, pairs_in, pairs_fault, pairs_reading, parted}
 use Rattle.diagnosis.specs.Texts.{FourTexts}
@@ -40,10 +40,11 @@ scan_unmarked nets bytes chains e =
     let clean = (no_fault (scan_fault nets bytes) (chains_of nets (text_lines bytes)) chains e).0 in
     unmarked_pieces bytes (unmarked_scan nets (text_lines bytes) clean)
 
-patterns_unmarked : (frame : PatternFrame) (bytes : List ℕ) (patterns : List Pattern) → pattern_reading frame bytes ≡ Ok patterns → All (λ piece. is_mark piece ≡ false) (pieces (ended bytes))
-patterns_unmarked frame bytes patterns e =
+patterns_unmarked : (c : Netlist) (chains : List Chain) (bytes : List ℕ) (patterns : List Pattern) → pattern_reading (pattern_frame c chains) bytes ≡ Ok patterns → All (λ piece. is_mark piece ≡ false) (pieces (ended bytes))
+patterns_unmarked c chains bytes patterns e =
+    let frame = pattern_frame c chains in
     let clean = (no_fault (pattern_fault frame bytes) (patterns_of frame (text_lines bytes)) patterns e).0 in
-    unmarked_pieces bytes (unmarked_patterns frame (text_lines bytes) clean)
+    unmarked_pieces bytes (unmarked_patterns c chains (text_lines bytes) clean)
 
 neighbours_unmarked : (netlist bytes : List ℕ) (c : Netlist) (pairs : Pairs) → netlist_reading netlist ≡ Ok c → pairs_reading c bytes ≡ Ok pairs → All (λ piece. is_mark piece ≡ false) (pieces (ended bytes))
 neighbours_unmarked netlist bytes c pairs read e =
@@ -62,6 +63,6 @@ unmarked texts t e =
     record {
       netlist = netlist_unmarked texts.netlist r.c r.netlist_stands;
       scan = scan_unmarked r.c.nets texts.scan r.chains r.scan_stands;
-      patterns = patterns_unmarked (pattern_frame r.c r.chains) texts.patterns r.patterns r.patterns_stand;
+      patterns = patterns_unmarked r.c r.chains texts.patterns r.patterns r.patterns_stand;
       neighbours = neighbours_unmarked texts.netlist texts.neighbours r.c r.pairs r.netlist_stands r.neighbours_stand;
     }

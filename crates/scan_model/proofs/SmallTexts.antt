@@ -6,7 +6,7 @@ use Rattle.scan_model.specs.declared.circuit.Driver.TheVariants.{Input, Flop, Ga
 use Rattle.scan_model.specs.declared.circuit.Net.{Net}
 use Rattle.scan_model.specs.declared.circuit.PinPlace.TheVariants as place
 use Rattle.scan_model.specs.declared.values.Tri.TheVariants.{Zero, One, Unknown}
-use Rattle.scan_model.specs.declared.parts.PatternKind.TheVariants.{Shift}
+use Rattle.scan_model.specs.declared.parts.PatternKind.TheVariants.{Capture, Shift}
 use Rattle.scan_model.specs.declared.parts.Point.TheVariants.{Output, Cell}
 use Rattle.scan_model.specs.Netlist.{netlist}
 use Rattle.scan_model.specs.NetlistText.{netlist_fault, netlist_reading, circuit_of}
@@ -92,7 +92,7 @@ one_chain = refl
 -- ---- pattern texts
 
 abbrev frame : PatternFrame
-frame = record { inputs = 4; lengths = 3 ∷ [] }
+frame = record { inputs = 4; lengths = 3 ∷ []; keyword = codes "CAPTURE"; shifts = true }
 
 few_words : pattern_reading frame (codes "CAPTURE 0000") ≡ Err (1, 22)
 few_words = refl
@@ -111,6 +111,19 @@ no_pattern = refl
 
 a_shift : pattern_reading frame (codes "SHIFT 1x0") ≡ Ok (record { kind = Shift; inputs = []; loads = (One ∷ Unknown ∷ Zero ∷ []) ∷ [] } ∷ [])
 a_shift = refl
+
+-- a frame without shifts
+abbrev launching : PatternFrame
+launching = record { inputs = 4; lengths = 3 ∷ []; keyword = codes "LOC"; shifts = false }
+
+no_such_keyword : pattern_reading launching (codes "CAPTURE 0011 001") ≡ Err (1, 21)
+no_such_keyword = refl
+
+no_shift : pattern_reading launching (codes "SHIFT 001") ≡ Err (1, 21)
+no_shift = refl
+
+a_launch : pattern_reading launching (codes "LOC 0011 0x1") ≡ Ok (record { kind = Capture; inputs = Zero ∷ Zero ∷ One ∷ One ∷ []; loads = (Zero ∷ Unknown ∷ One ∷ []) ∷ [] } ∷ [])
+a_launch = refl
 
 -- ---- fail logs, of c17 with one CAPTURE pattern
 

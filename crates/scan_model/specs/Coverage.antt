@@ -44,9 +44,12 @@ covers log b =
     && ((not log.truncated || list_any (not_after b) log.fails)
     && list_all (λ group. not (has_point group b.point) || group_goes_on log b group) log.cuts)
 
--- all bits, in bit order
+-- all bits of so many patterns and points, in bit order
+abbrev pub bits_over : ℕ → ℕ → List Bit
+bits_over patterns points = flat_map (λ w. map (bit_of w) (range_with_len 0 points)) (range_with_len 0 patterns)
+
 abbrev pub bits_of : ScanTest → List Bit
-bits_of t = flat_map (λ w. map (bit_of w) (range_with_len 0 (length (points_of t)))) (range_with_len 0 (length t.patterns))
+bits_of t = bits_over (length t.patterns) (length (points_of t))
 
 -- the log's tested patterns, its failing bits and its groups lie within so many patterns and points, and its failing
 -- bits in its ranges

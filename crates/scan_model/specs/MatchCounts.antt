@@ -2,6 +2,8 @@
 use Rattle.std.specs.Prelude.{ℕ, List, map, filter, count_by, Bool, not, ◌&&◌, nat_le}
 use Rattle.std.specs.List.{enumerate_from}
 use Rattle.scan_model.specs.declared.fault.Fault.{Fault}
+use Rattle.scan_model.specs.declared.logs.Bit.{Bit}
+use Rattle.scan_model.specs.declared.logs.BitClass.{BitClass}
 use Rattle.scan_model.specs.declared.logs.LogFacts.{LogFacts}
 use Rattle.scan_model.specs.declared.logs.Counts.{Counts}
 use Rattle.scan_model.specs.declared.logs.Scored.{Scored}
@@ -13,12 +15,15 @@ use Rattle.scan_model.specs.Classes.{class, is_failing, is_passing}
 
 -- Tester fail, simulated fail: the failing bits at which the fault predicts a fail. Tester fail, simulated
 -- pass: the other failing bits. Tester pass, simulated fail: the passing bits at which it predicts a fail.
-abbrev pub counts_of : ScanTest → List LogFacts → Fault → Counts
-counts_of t logs f = record {
-  tfsf = count_by (λ b. is_failing (class t logs b) && predicts_fail t f b) (bits_of t);
-  tfsp = count_by (λ b. is_failing (class t logs b) && not (predicts_fail t f b)) (bits_of t);
-  tpsf = count_by (λ b. is_passing (class t logs b) && predicts_fail t f b) (bits_of t);
+abbrev pub counts_by : List Bit → (Bit → BitClass) → (Bit → Bool) → Counts
+counts_by bits classes fails = record {
+  tfsf = count_by (λ b. is_failing (classes b) && fails b) bits;
+  tfsp = count_by (λ b. is_failing (classes b) && not (fails b)) bits;
+  tpsf = count_by (λ b. is_passing (classes b) && fails b) bits;
 }
+
+abbrev pub counts_of : ScanTest → List LogFacts → Fault → Counts
+counts_of t logs f = counts_by (bits_of t) (class t logs) (predicts_fail t f)
 
 abbrev pub scored : ScanTest → List LogFacts → ℕ × Fault → Scored
 scored t logs e = record { place = e.0; counts = counts_of t logs e.1 }

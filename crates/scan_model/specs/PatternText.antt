@@ -16,13 +16,16 @@ use Rattle.scan_model.specs.declared.values.Tri.TheVariants.{Zero, One, Unknown}
 abbrev pub pattern_limit : ℕ
 pattern_limit = 4096
 
--- what a pattern is for: so many inputs, and chains of these lengths in file order
+-- What a pattern is for: so many inputs, and chains of these lengths in file order. A line of the keyword captures; there
+-- may be lines that only shift.
 pub record PatternFrame : Type 0 where
   pub inputs : ℕ
   pub lengths : List ℕ
+  pub keyword : List ℕ
+  pub shifts : Bool
 
 abbrev pub pattern_frame : Netlist → List Chain → PatternFrame
-pattern_frame c chains = record { inputs = length c.inputs; lengths = map (λ h. length h.cells) chains }
+pattern_frame c chains = record { inputs = length c.inputs; lengths = map (λ h. length h.cells) chains; keyword = codes "CAPTURE"; shifts = true }
 
 -- one of the characters `0`, `1`, `X`, `x`
 abbrev pub is_value : ℕ → Bool
@@ -31,11 +34,11 @@ is_value b = (b == 48) || ((b == 49) || ((b == 88) || (b == 120)))
 abbrev pub character_value : ℕ → Tri
 character_value b = if b == 48 then Zero else if b == 49 then One else Unknown
 
--- the first word is CAPTURE, or SHIFT, or another
-abbrev pub kind_of : List (List ℕ) → Option PatternKind
-kind_of [] = None
-kind_of (w ∷ ws) =
-    if bytes_eq w (codes "CAPTURE") then Some Capture else if bytes_eq w (codes "SHIFT") then Some Shift else None
+-- the first word is the keyword, or SHIFT where lines may only shift, or another
+abbrev pub kind_of : PatternFrame → List (List ℕ) → Option PatternKind
+kind_of frame [] = None
+kind_of frame (w ∷ ws) =
+    if bytes_eq w frame.keyword then Some Capture else if frame.shifts && bytes_eq w (codes "SHIFT") then Some Shift else None
 
 -- `-` stands where there is no input
 abbrev pub is_dash : List ℕ → Bool
@@ -47,7 +50,7 @@ have_lengths (n ∷ ns) (w ∷ ws) = (length w == n) && have_lengths ns ws
 have_lengths [] ws = true
 have_lengths ns [] = true
 
--- rule 22: a word for the inputs in a CAPTURE line, and one for each chain
+-- rule 22: a word for the inputs in a line that captures, and one for each chain
 abbrev pub word_count : PatternFrame → PatternKind → ℕ
 word_count frame Capture = 2 + length frame.lengths
 word_count frame Shift = 1 + length frame.lengths
@@ -77,16 +80,16 @@ abbrev pub pattern_lines : List (List ℕ) → List (List (List ℕ))
 pattern_lines ls = filter has_words (word_lines ls)
 
 -- rule 21
-abbrev pub has_other_keyword : List ℕ → List (List ℕ) → Bool
-has_other_keyword line ws = has_refused_byte line || (has_words ws && not (is_some (kind_of ws)))
+abbrev pub has_other_keyword : PatternFrame → List ℕ → List (List ℕ) → Bool
+has_other_keyword frame line ws = has_refused_byte line || (has_words ws && not (is_some (kind_of frame ws)))
 
 -- the rules at a line, after so many patterns
 abbrev pub pattern_rules : PatternFrame → ℕ → List ℕ → List (ℕ × Bool)
 pattern_rules frame earlier line =
-    (21, has_other_keyword line (words line)) ∷
-    (22, has_wrong_words frame (kind_of (words line)) (words line)) ∷
-    (23, has_wrong_length frame (kind_of (words line)) (words line)) ∷
-    (24, has_other_value frame (kind_of (words line)) (words line)) ∷
+    (21, has_other_keyword frame line (words line)) ∷
+    (22, has_wrong_words frame (kind_of frame (words line)) (words line)) ∷
+    (23, has_wrong_length frame (kind_of frame (words line)) (words line)) ∷
+    (24, has_other_value frame (kind_of frame (words line)) (words line)) ∷
     (25, has_words (words line) && nat_le pattern_limit earlier) ∷ []
 
 -- rule 26, at the line after the last
@@ -116,7 +119,7 @@ input_values n w = if n == 0 then [] else map character_value w
 
 abbrev pub line_pattern : PatternFrame → List (List ℕ) → Pattern
 line_pattern frame (keyword ∷ p ∷ ws) =
-    if bytes_eq keyword (codes "CAPTURE")
+    if bytes_eq keyword frame.keyword
     then record { kind = Capture; inputs = input_values frame.inputs p; loads = map (map character_value) ws }
     else record { kind = Shift; inputs = []; loads = map (map character_value) (p ∷ ws) }
 line_pattern frame ws = record { kind = Shift; inputs = []; loads = [] }

@@ -54,9 +54,16 @@ abbrev pub branch_words : ScanTest → PinPlace → List (List ℕ)
 branch_words t (place.Operand g i) = codes "to" ∷ name_of t g ∷ decimal (i + 1) ∷ []
 branch_words t (place.Output k) = codes "to-output" ∷ []
 
+-- the words for a stem, and for the branch at a pin
+abbrev pub stem_site : ScanTest → ℕ → List (List ℕ)
+stem_site t n = codes "stem" ∷ name_of t n ∷ []
+
+abbrev pub branch_site : ScanTest → ℕ → List (List ℕ)
+branch_site t p = codes "branch" ∷ name_of t (pin_at t.netlist p).net ∷ branch_words t (pin_at t.netlist p).place
+
 abbrev pub fault_words : ScanTest → Fault → List (List ℕ)
-fault_words t (fault.Stem n v) = codes "stem" ∷ name_of t n ∷ stuck_word v ∷ []
-fault_words t (fault.Branch p v) = (codes "branch" ∷ name_of t (pin_at t.netlist p).net ∷ branch_words t (pin_at t.netlist p).place) ++ stuck_word v ∷ []
+fault_words t (fault.Stem n v) = stem_site t n ++ stuck_word v ∷ []
+fault_words t (fault.Branch p v) = branch_site t p ++ stuck_word v ∷ []
 fault_words t (fault.Bridge a b kind) = codes "bridge" ∷ name_of t a ∷ name_of t b ∷ bridge_word kind ∷ []
 fault_words t (fault.Cell h i kind) = codes "cell" ∷ (chain_at t h).name ∷ decimal i ∷ cell_word kind ∷ []
 
@@ -67,42 +74,70 @@ abbrev pub point_words : ScanTest → Point → List (List ℕ)
 point_words t (Output k) = codes "out" ∷ name_of t (slice_index_or t.netlist.outputs k 0) ∷ []
 point_words t (Cell h i) = codes "cell" ∷ (chain_at t h).name ∷ decimal i ∷ []
 
+-- The words of a report: its title, the words of a point and those of the fault at a place, both by number.
+pub record ReportForm : Type 0 where
+  pub title : List ℕ
+  pub point : ℕ → List (List ℕ)
+  pub fault : ℕ → List (List ℕ)
+
 -- a line that names a bit
-abbrev pub bit_line : ScanTest → List ℕ → Bit → List ℕ
-bit_line t word b = line (word ∷ decimal b.pattern ∷ point_words t (point_at t b.point))
+abbrev pub named_bit_line : ReportForm → List ℕ → Bit → List ℕ
+named_bit_line form word b = line (word ∷ decimal b.pattern ∷ form.point b.point)
+
+-- the line of the candidate of rank e.0, counted from 1
+abbrev pub named_candidate_line : ReportForm → ℕ × Scored → List ℕ
+named_candidate_line form e = line ((codes "candidate" ∷ decimal e.0 ∷ codes "fault" ∷ decimal e.1.place
+    ∷ codes "tfsf" ∷ decimal e.1.counts.tfsf ∷ codes "tfsp" ∷ decimal e.1.counts.tfsp ∷ codes "tpsf" ∷ decimal e.1.counts.tpsf ∷ [])
+    ++ form.fault e.1.place)
 
 abbrev pub no_fault : Fault
 no_fault = fault.Stem 0 stuck.Zero
 
--- the line of the candidate of rank e.0, counted from 1; its place is one of the list of faults
-abbrev pub candidate_line : List Fault → ScanTest → ℕ × Scored → List ℕ
-candidate_line faults t e = line ((codes "candidate" ∷ decimal e.0 ∷ codes "fault" ∷ decimal e.1.place
-    ∷ codes "tfsf" ∷ decimal e.1.counts.tfsf ∷ codes "tfsp" ∷ decimal e.1.counts.tfsp ∷ codes "tpsf" ∷ decimal e.1.counts.tpsf ∷ [])
-    ++ fault_words t (slice_index_or faults e.1.place no_fault))
+-- the words over the faults of a list
+abbrev pub report_form : List Fault → ScanTest → ReportForm
+report_form faults t = record {
+  title = codes "REPORT";
+  point = λ k. point_words t (point_at t k);
+  fault = λ place. fault_words t (slice_index_or faults place no_fault);
+}
 
--- the bits of a class, by the class of each bit
+abbrev pub bit_line : ScanTest → List ℕ → Bit → List ℕ
+bit_line t word b = named_bit_line (report_form [] t) word b
+
+-- the place of the candidate is one of the list of faults
+abbrev pub candidate_line : List Fault → ScanTest → ℕ × Scored → List ℕ
+candidate_line faults t e = named_candidate_line (report_form faults t) e
+
+-- those of some bits that are in a class, by the class of each
+abbrev pub bits_among : List Bit → (Bit → BitClass) → (BitClass → Bool) → List Bit
+bits_among bits classes is = filter (λ b. is (classes b)) bits
+
 abbrev pub bits_in : ScanTest → (Bit → BitClass) → (BitClass → Bool) → List Bit
-bits_in t classes is = filter (λ b. is (classes b)) (bits_of t)
+bits_in t classes is = bits_among (bits_of t) classes is
 
 abbrev pub bits_that : ScanTest → List LogFacts → (BitClass → Bool) → List Bit
 bits_that t logs is = bits_in t (class t logs) is
 
 -- A report is a list of lines: nine of a head, the Conflict bits, the Masked bits, and the rows in their order, which
--- are places of a list of faults with their counts.
-abbrev pub layout_by_class : List Fault → ScanTest → List ℕ → List ℕ → ℕ → (Bit → BitClass) → List Scored → List (List ℕ)
-layout_by_class faults t design die count classes rows =
-    line (codes "REPORT" ∷ decimal 1 ∷ [])
+-- are places of faults with their counts.
+abbrev pub layout_with : ReportForm → List Bit → List ℕ → List ℕ → ℕ → (Bit → BitClass) → List Scored → List (List ℕ)
+layout_with form bits design die count classes rows =
+    line (form.title ∷ decimal 1 ∷ [])
     ∷ line (codes "design" ∷ design ∷ [])
     ∷ line (codes "die" ∷ die ∷ [])
     ∷ line (codes "logs" ∷ decimal count ∷ [])
-    ∷ line (codes "failing" ∷ decimal (length (bits_in t classes is_failing)) ∷ [])
-    ∷ line (codes "passing" ∷ decimal (length (bits_in t classes is_passing)) ∷ [])
-    ∷ line (codes "conflicts" ∷ decimal (length (bits_in t classes is_conflict)) ∷ [])
-    ∷ line (codes "masked" ∷ decimal (length (bits_in t classes is_masked)) ∷ [])
+    ∷ line (codes "failing" ∷ decimal (length (bits_among bits classes is_failing)) ∷ [])
+    ∷ line (codes "passing" ∷ decimal (length (bits_among bits classes is_passing)) ∷ [])
+    ∷ line (codes "conflicts" ∷ decimal (length (bits_among bits classes is_conflict)) ∷ [])
+    ∷ line (codes "masked" ∷ decimal (length (bits_among bits classes is_masked)) ∷ [])
     ∷ line (codes "candidates" ∷ decimal (length rows) ∷ [])
-    ∷ (map (bit_line t (codes "conflict")) (bits_in t classes is_conflict)
-    ++ map (bit_line t (codes "masked")) (bits_in t classes is_masked)
-    ++ map (candidate_line faults t) (enumerate_from 1 rows))
+    ∷ (map (named_bit_line form (codes "conflict")) (bits_among bits classes is_conflict)
+    ++ map (named_bit_line form (codes "masked")) (bits_among bits classes is_masked)
+    ++ map (named_candidate_line form) (enumerate_from 1 rows))
+
+-- over the bits of the test and the faults of a list
+abbrev pub layout_by_class : List Fault → ScanTest → List ℕ → List ℕ → ℕ → (Bit → BitClass) → List Scored → List (List ℕ)
+layout_by_class faults t design die count classes rows = layout_with (report_form faults t) (bits_of t) design die count classes rows
 
 abbrev pub report_layout : List Fault → ScanTest → List ℕ → List ℕ → ℕ → List LogFacts → List Scored → List (List ℕ)
 report_layout faults t design die count logs rows = layout_by_class faults t design die count (class t logs) rows

@@ -12,7 +12,7 @@ use Rattle.scan_model.specs.Netlist.{Netlist}
 use Rattle.scan_model.specs.Lines.{has_refused_byte}
 use Rattle.scan_model.specs.Words.{words, has_words}
 use Rattle.scan_model.specs.TextFaults.{lowest}
-use Rattle.scan_model.specs.PatternText.{PatternFrame, pattern_limit, pattern_frame, character_value, kind_of, is_dash, have_lengths, has_wrong_words, inputs_fit, has_wrong_length, has_other_value, pattern_rules, input_values, line_pattern, patterns_of}
+use Rattle.scan_model.specs.PatternText.{PatternFrame, pattern_limit, character_value, kind_of, is_dash, have_lengths, has_wrong_words, inputs_fit, has_wrong_length, has_other_value, pattern_rules, input_values, line_pattern, patterns_of}
 use Rattle.scan_model.specs.ScanTest.{FitsPattern, ArePatterns}
 use Rattle.scan_text.proofs.Tables.{none_broken}
 
@@ -24,8 +24,8 @@ pub none_sound : (c : Netlist) (chains : List Chain) → AreSound c chains []
 none_sound c chains = record { each = All-nil (FitsPattern c chains); few = omega arith }
 
 -- what a pattern is for, with so many inputs
-abbrev frame_of : ℕ → List Chain → PatternFrame
-frame_of n chains = record { inputs = n; lengths = map (λ h. length h.cells) chains }
+abbrev frame_of : ℕ → List Chain → List ℕ → Bool → PatternFrame
+frame_of n chains keyword shifts = record { inputs = n; lengths = map (λ h. length h.cells) chains; keyword = keyword; shifts = shifts }
 
 -- ---- one line
 
@@ -56,22 +56,58 @@ is_shift : (a b : Bool) → cond a (Some Capture) (cond b (Some Shift) None) ≡
 is_shift true b e = absurd cc
 is_shift false b e = refl
 
-module _ (c : Netlist) (chains : List Chain) where
-  capture_fits : (ws : List (List ℕ)) → kind_of ws ≡ Some Capture
-      → has_wrong_words (pattern_frame c chains) (Some Capture) ws ≡ false → has_wrong_length (pattern_frame c chains) (Some Capture) ws ≡ false
-      → FitsPattern c chains (line_pattern (pattern_frame c chains) ws)
+no_shift : (a s b : Bool) → s ≡ false → cond a (Some Capture) (cond (s && b) (Some Shift) None) ≡ Some Shift → ⊥
+no_shift true s b never e = cc
+no_shift false true b never e = cc
+no_shift false false b never e = cc
+
+-- ---- where no line only shifts
+
+module _ (frame : PatternFrame) (never : frame.shifts ≡ false) where
+  line_captures : (ws : List (List ℕ)) (o : Option PatternKind) → kind_of frame ws ≡ o → is_some o ≡ true → has_wrong_words frame o ws ≡ false → (line_pattern frame ws).kind ≡ Capture
+  line_captures ws None e some counted = absurd cc
+  line_captures [] (Some kind) e some counted = absurd cc
+  line_captures (keyword ∷ ws) (Some Shift) e some counted = absurd (no_shift (bytes_eq keyword frame.keyword) frame.shifts (bytes_eq keyword (codes "SHIFT")) never e)
+  line_captures (keyword ∷ []) (Some Capture) e some counted = absurd (let n = eqb-true _ _ (not-false _ counted) in omega arith)
+  line_captures (keyword ∷ p ∷ ws) (Some Capture) e some counted = rw (is_capture (bytes_eq keyword frame.keyword) (frame.shifts && bytes_eq keyword (codes "SHIFT")) e) refl
+
+  words_capture : (ps : List Pattern) (ws : List (List ℕ)) (refused long other many : Bool) → All (λ w. w.kind ≡ Capture) ps
+      → None ≡ lowest ((21, refused || (has_words ws && not (is_some (kind_of frame ws)))) ∷ (22, has_wrong_words frame (kind_of frame ws) ws) ∷ (23, long) ∷ (24, other) ∷ (25, many) ∷ [])
+      → (b : Bool) → has_words ws ≡ b → All (λ w. w.kind ≡ Capture) (ps ++ map (line_pattern frame) (cond b (ws ∷ []) []))
+  words_capture ps ws refused long other many all none false e = rw append-nil all
+  words_capture ps ws refused long other many all none true e =
+      let whole = none_broken 21 22 23 24 25 (refused || (has_words ws && not (is_some (kind_of frame ws)))) (has_wrong_words frame (kind_of frame ws) ws) long other many none in
+      let known = or_parts refused (has_words ws && not (is_some (kind_of frame ws))) whole.0 in
+      let keyword : is_some (kind_of frame ws) ≡ true = not-false (is_some (kind_of frame ws)) (sym (ap (λ b. b && not (is_some (kind_of frame ws))) e) ∙ known.1) in
+      All-push (λ w. w.kind ≡ Capture) ps (line_pattern frame ws) all (line_captures ws (kind_of frame ws) refl keyword whole.1)
+
+  -- a line that breaks no rule
+  pub capture_more : (ps : List Pattern) (line : List ℕ) → All (λ w. w.kind ≡ Capture) ps → None ≡ lowest (pattern_rules frame (length ps) line) → All (λ w. w.kind ≡ Capture) (ps ++ patterns_of frame (line ∷ []))
+  capture_more ps line all none =
+      words_capture ps (words line) (has_refused_byte line) (has_wrong_length frame (kind_of frame (words line)) (words line)) (has_other_value frame (kind_of frame (words line)) (words line)) (has_words (words line) && nat_le pattern_limit (length ps))
+      all none (has_words (words line)) refl
+
+-- ---- the patterns of a circuit and its chains
+
+module _ (c : Netlist) (chains : List Chain) (key : List ℕ) (shifts : Bool) where
+  abbrev frame : PatternFrame
+  frame = frame_of (length c.inputs) chains key shifts
+
+  capture_fits : (ws : List (List ℕ)) → kind_of frame ws ≡ Some Capture
+      → has_wrong_words frame (Some Capture) ws ≡ false → has_wrong_length frame (Some Capture) ws ≡ false
+      → FitsPattern c chains (line_pattern frame ws)
   capture_fits [] e counted long = absurd cc
   capture_fits (keyword ∷ []) e counted long = absurd (let n = eqb-true _ _ (not-false _ counted) in omega arith)
   capture_fits (keyword ∷ p ∷ ws) e counted long =
       let lengths = map (λ h. length h.cells) chains in
       let n : length (keyword ∷ p ∷ ws) ≡ 2 + length lengths = eqb-true (length (keyword ∷ p ∷ ws)) (2 + length lengths) (not-false _ counted) in
       let both = and_parts (inputs_fit (length c.inputs) p) (have_lengths lengths ws) (not-false _ long) in
-      let capture = is_capture (bytes_eq keyword (codes "CAPTURE")) (bytes_eq keyword (codes "SHIFT")) e in
+      let capture = is_capture (bytes_eq keyword key) (shifts && bytes_eq keyword (codes "SHIFT")) e in
       rw capture (record { inputs = inputs_length (length c.inputs) p both.0; loads = loads_length lengths ws both.1 (omega arith) })
 
-  shift_fits : (ws : List (List ℕ)) → kind_of ws ≡ Some Shift
-      → has_wrong_words (pattern_frame c chains) (Some Shift) ws ≡ false → has_wrong_length (pattern_frame c chains) (Some Shift) ws ≡ false
-      → FitsPattern c chains (line_pattern (pattern_frame c chains) ws)
+  shift_fits : (ws : List (List ℕ)) → kind_of frame ws ≡ Some Shift
+      → has_wrong_words frame (Some Shift) ws ≡ false → has_wrong_length frame (Some Shift) ws ≡ false
+      → FitsPattern c chains (line_pattern frame ws)
   shift_fits [] e counted long = absurd cc
   shift_fits (keyword ∷ []) e counted long =
       let lengths = map (λ h. length h.cells) chains in
@@ -80,39 +116,38 @@ module _ (c : Netlist) (chains : List Chain) where
   shift_fits (keyword ∷ p ∷ ws) e counted long =
       let lengths = map (λ h. length h.cells) chains in
       let n : length (keyword ∷ p ∷ ws) ≡ 1 + length lengths = eqb-true (length (keyword ∷ p ∷ ws)) (1 + length lengths) (not-false _ counted) in
-      let shift = is_shift (bytes_eq keyword (codes "CAPTURE")) (bytes_eq keyword (codes "SHIFT")) e in
+      let shift = is_shift (bytes_eq keyword key) (shifts && bytes_eq keyword (codes "SHIFT")) e in
       rw shift (record { inputs = refl; loads = loads_length lengths (p ∷ ws) (not-false _ long) (omega arith) })
 
-  line_fits : (ws : List (List ℕ)) (o : Option PatternKind) → kind_of ws ≡ o → is_some o ≡ true
-      → has_wrong_words (pattern_frame c chains) o ws ≡ false → has_wrong_length (pattern_frame c chains) o ws ≡ false
-      → FitsPattern c chains (line_pattern (pattern_frame c chains) ws)
+  line_fits : (ws : List (List ℕ)) (o : Option PatternKind) → kind_of frame ws ≡ o → is_some o ≡ true
+      → has_wrong_words frame o ws ≡ false → has_wrong_length frame o ws ≡ false
+      → FitsPattern c chains (line_pattern frame ws)
   line_fits ws None e some counted long = absurd cc
   line_fits ws (Some Capture) e some counted long = capture_fits ws e counted long
   line_fits ws (Some Shift) e some counted long = shift_fits ws e counted long
 
   -- the words of a line that breaks no rule
   words_more : (ps : List Pattern) (ws : List (List ℕ)) (refused other : Bool) → AreSound c chains ps
-      → None ≡ lowest ((21, refused || (has_words ws && not (is_some (kind_of ws)))) ∷ (22, has_wrong_words (pattern_frame c chains) (kind_of ws) ws) ∷ (23, has_wrong_length (pattern_frame c chains) (kind_of ws) ws) ∷ (24, other) ∷ (25, has_words ws && nat_le pattern_limit (length ps)) ∷ [])
-      → (b : Bool) → has_words ws ≡ b → AreSound c chains (ps ++ map (line_pattern (pattern_frame c chains)) (cond b (ws ∷ []) []))
+      → None ≡ lowest ((21, refused || (has_words ws && not (is_some (kind_of frame ws)))) ∷ (22, has_wrong_words frame (kind_of frame ws) ws) ∷ (23, has_wrong_length frame (kind_of frame ws) ws) ∷ (24, other) ∷ (25, has_words ws && nat_le pattern_limit (length ps)) ∷ [])
+      → (b : Bool) → has_words ws ≡ b → AreSound c chains (ps ++ map (line_pattern frame) (cond b (ws ∷ []) []))
   words_more ps ws refused other sound none false e = rw append-nil sound
   words_more ps ws refused other sound none true e =
-      let frame = pattern_frame c chains in
-      let whole = none_broken 21 22 23 24 25 (refused || (has_words ws && not (is_some (kind_of ws)))) (has_wrong_words frame (kind_of ws) ws) (has_wrong_length frame (kind_of ws) ws) other (has_words ws && nat_le pattern_limit (length ps)) none in
-      let known = or_parts refused (has_words ws && not (is_some (kind_of ws))) whole.0 in
-      let keyword : is_some (kind_of ws) ≡ true = not-false (is_some (kind_of ws)) (sym (ap (λ b. b && not (is_some (kind_of ws))) e) ∙ known.1) in
+      let whole = none_broken 21 22 23 24 25 (refused || (has_words ws && not (is_some (kind_of frame ws)))) (has_wrong_words frame (kind_of frame ws) ws) (has_wrong_length frame (kind_of frame ws) ws) other (has_words ws && nat_le pattern_limit (length ps)) none in
+      let known = or_parts refused (has_words ws && not (is_some (kind_of frame ws))) whole.0 in
+      let keyword : is_some (kind_of frame ws) ≡ true = not-false (is_some (kind_of frame ws)) (sym (ap (λ b. b && not (is_some (kind_of frame ws))) e) ∙ known.1) in
       let room : length ps < 4096 = leb-false 4096 (length ps) (sym (ap (λ b. b && nat_le pattern_limit (length ps)) e) ∙ whole.4) in
       record {
-        each = All-push (FitsPattern c chains) ps (line_pattern frame ws) sound.each (line_fits ws (kind_of ws) refl keyword whole.1 whole.2);
+        each = All-push (FitsPattern c chains) ps (line_pattern frame ws) sound.each (line_fits ws (kind_of frame ws) refl keyword whole.1 whole.2);
         few = omega (arith, length-append ps (line_pattern frame ws ∷ []));
       }
 
   -- a line that breaks no rule
   pub line_more : (ps : List Pattern) (line : List ℕ) → AreSound c chains ps
-      → (n : ℕ) → length c.inputs ≡ n → None ≡ lowest (pattern_rules (frame_of n chains) (length ps) line)
-      → AreSound c chains (ps ++ patterns_of (frame_of n chains) (line ∷ []))
+      → (n : ℕ) → length c.inputs ≡ n → None ≡ lowest (pattern_rules (frame_of n chains key shifts) (length ps) line)
+      → AreSound c chains (ps ++ patterns_of (frame_of n chains key shifts) (line ∷ []))
   line_more ps line sound n same =
-      let P : ℕ → Type 0 = λ m. None ≡ lowest (pattern_rules (frame_of m chains) (length ps) line) → AreSound c chains (ps ++ patterns_of (frame_of m chains) (line ∷ [])) in
-      subst P same (λ none. words_more ps (words line) (has_refused_byte line) (has_other_value (pattern_frame c chains) (kind_of (words line)) (words line)) sound none (has_words (words line)) refl)
+      let P : ℕ → Type 0 = λ m. None ≡ lowest (pattern_rules (frame_of m chains key shifts) (length ps) line) → AreSound c chains (ps ++ patterns_of (frame_of m chains key shifts) (line ∷ [])) in
+      subst P same (λ none. words_more ps (words line) (has_refused_byte line) (has_other_value frame (kind_of frame (words line)) (words line)) sound none (has_words (words line)) refl)
 
   pub are_patterns : (ps : List Pattern) → AreSound c chains ps → 0 < length ps → ArePatterns c chains ps
   are_patterns ps sound some = record { each = sound.each; some = some; few = sound.few }

@@ -5,7 +5,7 @@ use Rattle.scan_model.specs.PatternText.{PatternFrame, pattern_limit, has_wrong_
 use Rattle.scan_text.specs.declared.pattern.Frame.{Frame}
 
 abbrev pub frame_view : Frame → PatternFrame
-frame_view f = record { inputs = f.inputs; lengths = map (λ h. length h.cells) f.chains.now }
+frame_view f = record { inputs = f.inputs; lengths = map (λ h. length h.cells) f.chains.now; keyword = f.keyword.now; shifts = f.shifts }
 
 -- rules 22 to 25 at a line of this kind, after so many patterns
 abbrev pub kind_rules : PatternFrame → ℕ → PatternKind → List (List ℕ) → List (ℕ × Bool)

@@ -7,5 +7,6 @@ mod pattern;
 mod patterns;
 mod scan;
 
-pub use patterns::read_patterns;
+pub use pattern::Frame;
+pub use patterns::{read_framed_patterns, read_patterns};
 pub use scan::{read_scan, read_scan_named};

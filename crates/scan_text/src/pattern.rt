@@ -1,4 +1,4 @@
-ghost use Rattle.std.specs.Prelude.{◌≡◌, length, map, not, IfOk, Some, [], bytes_eq, codes};
+ghost use Rattle.std.specs.Prelude.{◌≡◌, length, map, not, IfOk, Some, []};
 ghost use Rattle.std.specs.List.{list_any, list_all};
 ghost use Rattle.scan_model.specs.declared.parts.PatternKind.TheVariants.{Shift};
 ghost use Rattle.scan_model.specs.PatternText.{is_value, character_value, kind_of, have_lengths, has_wrong_words, inputs_fit, has_wrong_length, has_other_value, input_values, line_pattern};
@@ -8,30 +8,27 @@ ghost use Rattle.scan_text.specs.Frames.{frame_view};
 use scan_model::{Chain, NoMemory, Pattern, PatternKind, Rows, Tri};
 use std::alloc::{AllocError, Global};
 
-/// What a pattern is for: so many inputs, and chains in file order.
+/// What a pattern is for: so many inputs, and chains in file order. A line whose first word is the keyword captures.
 #[derive(Clone, Copy)]
 pub struct Frame<'a> {
     pub inputs: usize,
     pub chains: &'a [Chain],
-}
-
-fn is_capture(word: &[u8]) -> bool
-    ensures { result ≡ bytes_eq word.now (codes "CAPTURE") }
-{
-    word == b"CAPTURE".as_slice()
+    pub keyword: &'a [u8],
+    /// Whether there may be SHIFT lines.
+    pub shifts: bool,
 }
 
 /// The kind of a pattern, by the first word of its line.
-pub fn kind_of(words: &[&[u8]]) -> Option<PatternKind>
-    ensures { result ≡ kind_of (nows words.now) }
+pub fn kind_of(frame: &Frame<'_>, words: &[&[u8]]) -> Option<PatternKind>
+    ensures { result ≡ kind_of (frame_view frame.now) (nows words.now) }
 {
-    let [keyword, ..] = words else {
+    let [word, ..] = words else {
         return None;
     };
-    if is_capture(keyword) {
+    if *word == frame.keyword {
         return Some(PatternKind::Capture);
     }
-    if *keyword == b"SHIFT".as_slice() {
+    if frame.shifts && *word == b"SHIFT".as_slice() {
         return Some(PatternKind::Shift);
     }
     None
@@ -212,7 +209,7 @@ pub fn pattern_of(alloc: Global, frame: &Frame<'_>, words: &[&[u8]]) -> Result<P
         // a SHIFT line where there are no chains
         return shift_pattern(alloc, &[]);
     };
-    if !is_capture(keyword) {
+    if *keyword != frame.keyword {
         return shift_pattern(alloc, &words[1..]);
     }
     Ok(Pattern {

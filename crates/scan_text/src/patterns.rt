@@ -1,4 +1,5 @@
-ghost use Rattle.std.specs.Prelude.{◌≡◌, ◌+◌, length, IfOk, OnOk, Ok, None, [], ◌∷◌, ◌++◌};
+ghost use Rattle.std.specs.Prelude.{◌≡◌, ◌+◌, length, false, All, IfOk, OnOk, Ok, None, [], ◌∷◌, ◌++◌};
+ghost use Rattle.scan_model.specs.declared.parts.PatternKind.TheVariants.{Capture};
 ghost use Rattle.scan_model.specs.Netlist.{Netlist};
 ghost use Rattle.scan_model.specs.Lines.{text_lines};
 ghost use Rattle.scan_model.specs.TextFaults.{HasNoFault, IsFirstFault, lowest, first_fault, refused_or};
@@ -61,7 +62,7 @@ fn take_line<'a>(
     }
     fill_words(words, line)?;
     let words = words.as_slice();
-    match kind_of(words) {
+    match kind_of(frame, words) {
         Some(kind) => take_pattern(alloc, frame, patterns, kind, words),
         None => Ok(if words.is_empty() { None } else { Some(21) }),
     }
@@ -77,6 +78,7 @@ fn take_lines(
     requires none { patterns.old ≡ [] }
     ensures reading { Gives (λ done. patterns.new) result (refused_or (first_fault (pattern_rule (frame_view frame.now) (nows lines.now)) (length (nows lines.now) + 1)) (patterns_of (frame_view frame.now) (nows lines.now))) }
     ensures fits { (c : Netlist) → length c.inputs ≡ frame.now.inputs → OnOk result (ArePatterns c frame.now.chains.now patterns.new) }
+    ensures captures { frame.now.shifts ≡ false → OnOk result (All (λ w. w.kind ≡ Capture) patterns.new) }
 {
     let mut words = Vec::new(alloc);
     for (i, line) in lines.iter().enumerate() {
@@ -92,10 +94,17 @@ fn take_lines(
     Ok(())
 }
 
-// The patterns of a text in a frame.
-fn read_lines(alloc: Global, frame: &Frame<'_>, bytes: &[u8]) -> Result<Rows<Pattern>, ReadFault>
+/// The patterns that a text stands for in a frame, or its first fault by rules 21 to 26.
+pub fn read_framed_patterns(
+    alloc: Global,
+    frame: &Frame<'_>,
+    bytes: &[u8],
+) -> Result<Rows<Pattern>, ReadFault>
     ensures reading { Gives (λ patterns. patterns) result (pattern_reading (frame_view frame.now) bytes.now) }
+    ensures first { IfFault result (IsFirstFault (pattern_breaks (frame_view frame.now) (text_lines bytes.now)) (length (text_lines bytes.now) + 1)) }
+    ensures none { IfOk result (λ patterns. HasNoFault (pattern_breaks (frame_view frame.now) (text_lines bytes.now)) (length (text_lines bytes.now) + 1)) }
     ensures fits { (c : Netlist) → length c.inputs ≡ frame.now.inputs → IfOk result (ArePatterns c frame.now.chains.now) }
+    ensures captures { frame.now.shifts ≡ false → IfOk result (All (λ w. w.kind ≡ Capture)) }
 {
     let lines = lines_of(alloc, bytes)?;
     let mut patterns = Rows::new(alloc);
@@ -118,6 +127,8 @@ pub fn read_patterns(
     let frame = Frame {
         inputs: circuit.inputs().len(),
         chains: chains.as_slice(),
+        keyword: b"CAPTURE",
+        shifts: true,
     };
-    read_lines(alloc, &frame, bytes)
+    read_framed_patterns(alloc, &frame, bytes)
 }

@@ -1,7 +1,7 @@
 use Rattle.std.proofs.Common.{ap, ◌∙◌, sym, refl, Ok, [], get_or}
 use Rattle.text_parts.specs.Views.{nows}
 use Rattle.scan_text.specs.Frames.{frame_view}
-use Rattle.scan_text.proofs.SoundPatterns.{line_more}
+use Rattle.scan_text.proofs.SoundPatterns.{line_more, capture_more}
 use Rattle.scan_text.proofs.PatternLoop.{line_is_faulty, no_fault_more, after_more}
 use Rattle.scan_text.proofs.patterns.take_lines.Goals as goal
 
@@ -19,5 +19,6 @@ loop-i-preserved c =
     record {
       no_fault_yet = no_fault_more frame (nows c.args.lines.now) items c.loop-i.i _ c.loop-i.patterns refl c.loop-i.invariant.no_fault_yet c.loop-i.invariant.after c.loop-i-test.true none;
       after = taken ∙ after_more frame (nows c.args.lines.now) items c.loop-i.i _ c.loop-i.patterns refl c.loop-i.invariant.no_fault_yet c.loop-i.invariant.after c.loop-i-test.true;
-      sound = λ k same. rw taken (line_more k c.args.frame.now.chains.now c.loop-i.patterns line (c.loop-i.invariant.sound k same) c.args.frame.now.inputs same none);
+      captures = λ never. rw taken (capture_more frame never c.loop-i.patterns line (c.loop-i.invariant.captures never) none);
+      sound = λ k same. rw taken (line_more k c.args.frame.now.chains.now c.args.frame.now.keyword.now c.args.frame.now.shifts c.loop-i.patterns line (c.loop-i.invariant.sound k same) c.args.frame.now.inputs same none);
     }

@@ -1,4 +1,6 @@
-use Rattle.std.proofs.Common.{◌≡◌, ◌+◌, ◌-◌, length, take}
+use Rattle.std.proofs.Common.{◌≡◌, ◌+◌, ◌-◌, false, length, take}
+use Rattle.std.specs.Prelude.{All}
+use Rattle.scan_model.specs.declared.parts.PatternKind.TheVariants.{Capture}
 use Rattle.scan_model.specs.Netlist.{Netlist}
 use Rattle.scan_model.specs.TextFaults.{fault_from, first_fault}
 use Rattle.scan_model.specs.PatternText.{pattern_rule, patterns_of}
@@ -15,4 +17,5 @@ invariant-loop-i l =
       no_fault_yet : fault_from (pattern_rule frame ls) l.i ((length ls + 1) - l.i) ≡ first_fault (pattern_rule frame ls) (length ls + 1);
       after : l.patterns ≡ patterns_of frame (take l.i ls);
       sound : (c : Netlist) → length c.inputs ≡ l.frame.inputs → AreSound c l.frame.chains.now l.patterns;
+      captures : l.frame.shifts ≡ false → All (λ w. w.kind ≡ Capture) l.patterns;
     }

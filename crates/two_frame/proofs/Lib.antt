@@ -1,0 +1,3 @@
+pub mod SlowStems
+pub mod SlowOperands
+pub mod SlowPins

@@ -1,0 +1,170 @@
+-- A slow stem is a flip of its net in the second frame, where it changes the transition.
+use Rattle.std.proofs.Common.{◌≡◌, ◌≢◌, ℕ, zero, suc, ◌+◌, ◌<◌, Bool, true, false, cond, eqb, ◌&&◌, List, [], ◌∷◌, length, map, Option, Some, None, refl, sym, ap, subst, ◌∙◌, inl, inr, arith}
+use Rattle.std.specs.Prelude.{Contains}
+use Rattle.std.proofs.lemmas.Bool.{cases_Bool, cases_eq, both_ways, eq-eqb, ne_eqb, eqb-true}
+use Rattle.scan_model.specs.declared.values.Tri.{Tri}
+use Rattle.scan_model.specs.declared.values.Tri.TheVariants.{Zero, One, Unknown}
+use Rattle.scan_model.specs.declared.circuit.Driver.{Driver}
+use Rattle.scan_model.specs.declared.circuit.Driver.TheVariants.{Input, Flop, Gate}
+use Rattle.scan_model.specs.declared.fault.Stuck.{Stuck}
+use Rattle.scan_model.specs.declared.fault.Stuck.TheVariants as stuck
+use Rattle.scan_model.specs.declared.fault.Fault.{Fault}
+use Rattle.scan_model.specs.declared.fault.Fault.TheVariants as fault
+use Rattle.scan_model.specs.declared.parts.Point.{Point}
+use Rattle.scan_model.specs.Values.{are_opposite, tri_not, gate_value}
+use Rattle.scan_model.specs.Netlist.{Netlist, IsNetlist, reads, is_gate, is_gate_driver, driver_of, pin_at, operands}
+use Rattle.scan_model.specs.Walks.{IsEvaluationOrder, along}
+use Rattle.scan_model.specs.Cone.{in_fan_in}
+use Rattle.scan_model.specs.ScanTest.{ScanTest, IsScanTest, IsPoint}
+use Rattle.scan_model.specs.NetValue.{Forced, seen, driven, net_node, values_of, nothing_forced, good_value}
+use Rattle.scan_model.specs.Suspect.{observed_net}
+use Rattle.scan_model.specs.Force.{force}
+use Rattle.scan_model.specs.Masks.{point_pin}
+use Rattle.scan_model.proofs.Along.{IsLocal, settled}
+use Rattle.scan_model.proofs.NetValues.{values_of-is}
+use Rattle.scan_model.proofs.FanSweeps.{reads_in_range}
+use Rattle.scan_model.proofs.Orders.{Contains-cons}
+use Rattle.scan_model.proofs.counting.Valuations.{valuation_is}
+use Rattle.scan_model.proofs.counting.Branches.{no_loop}
+use Rattle.scan_model.proofs.counting.OneSite.{unflipped, force_outside}
+use Rattle.scan_model.proofs.counting.Shown.{point_pin-net, observed_net-in_range}
+use Rattle.two_frame.specs.TwoFrame.{slowed, changes, second_of, second_source, slow_pin, slow_stem, frame_seen, second_driven, second_node, second_value, frame_observed, frame_fails_at, flip_shows_from}
+
+-- ---- one site
+
+-- a transition that is made is a flip
+made_flips : (v : Stuck) (a b : Tri) → changes v a b ≡ true → slowed v a b ≡ tri_not b
+made_flips stuck.Zero Zero One e = refl
+made_flips stuck.Zero Zero Zero e = absurd cc
+made_flips stuck.Zero Zero Unknown e = absurd cc
+made_flips stuck.Zero One b e = absurd cc
+made_flips stuck.Zero Unknown b e = absurd cc
+made_flips stuck.One One Zero e = refl
+made_flips stuck.One One One e = absurd cc
+made_flips stuck.One One Unknown e = absurd cc
+made_flips stuck.One Zero b e = absurd cc
+made_flips stuck.One Unknown b e = absurd cc
+
+-- any other site is not flipped, also where the first frame is X
+pub unmade_stays : (v : Stuck) (a b : Tri) → changes v a b ≡ false → are_opposite b (slowed v a b) ≡ false
+unmade_stays stuck.Zero Zero Zero e = refl
+unmade_stays stuck.Zero Zero One e = absurd cc
+unmade_stays stuck.Zero Zero Unknown e = refl
+unmade_stays stuck.Zero One Zero e = refl
+unmade_stays stuck.Zero One One e = refl
+unmade_stays stuck.Zero One Unknown e = refl
+unmade_stays stuck.Zero Unknown Zero e = refl
+unmade_stays stuck.Zero Unknown One e = refl
+unmade_stays stuck.Zero Unknown Unknown e = refl
+unmade_stays stuck.One Zero Zero e = refl
+unmade_stays stuck.One Zero One e = refl
+unmade_stays stuck.One Zero Unknown e = refl
+unmade_stays stuck.One One Zero e = absurd cc
+unmade_stays stuck.One One One e = refl
+unmade_stays stuck.One One Unknown e = refl
+unmade_stays stuck.One Unknown Zero e = refl
+unmade_stays stuck.One Unknown One e = refl
+unmade_stays stuck.One Unknown Unknown e = refl
+
+-- ---- locality
+
+pins_agree : (h : ℕ → Tri → Tri) (net : ℕ → ℕ) (f g : ℕ → Tri) (ps : List ℕ) → ((m : ℕ) → Contains (map net ps) m → f m ≡ g m) → map (λ p. h p (f (net p))) ps ≡ map (λ p. h p (g (net p))) ps
+pins_agree h net f g [] agree = refl
+pins_agree h net f g (p ∷ ps) agree =
+    let first : f (net p) ≡ g (net p) = agree (net p) (0, omega arith, refl) in
+    let rest = pins_agree h net f g ps (λ m in'. agree m (Contains-cons (net p) (map net ps) m in')) in
+    rw (first, rest) refl
+
+module _ (t : ScanTest) (w : ℕ) where
+  abbrev c : Netlist
+  c = t.netlist
+
+  abbrev s : ℕ → Tri
+  s = second_source t w
+
+  first : ℕ → Tri
+  first = good_value t w
+
+  driven_local : (F : Option Fault) (n : ℕ) (f g : ℕ → Tri) (d : Driver) → ((m : ℕ) → is_gate_driver d ≡ true → Contains (reads t.netlist n) m → f m ≡ g m) → second_driven t F w d f n ≡ second_driven t F w d g n
+  driven_local F n f g Input agree = refl
+  driven_local F n f g Flop agree = refl
+  driven_local F n f g (Gate kind) agree = ap (gate_value kind) (pins_agree (λ p now. slow_pin F p (good_value t w (pin_at t.netlist p).net) now) (λ p. (pin_at t.netlist p).net) f g (operands t.netlist n) (λ m in'. agree m refl in'))
+
+  node_local : (F : Option Fault) → IsLocal t.netlist (second_node t F w)
+  node_local F n f g agree = ap (slow_stem F n (good_value t w n)) (driven_local F n f g (driver_of t.netlist n) agree)
+
+module _ (t : ScanTest) (sound : IsScanTest t) (order : List ℕ) (ordered : IsEvaluationOrder t.netlist order) (w : ℕ) where
+  net_sound : IsNetlist t.netlist
+  net_sound = sound.circuit.netlist
+
+  abbrev good2 : ℕ → Tri
+  good2 = values_of t.netlist (second_source t w) nothing_forced
+
+  pub meets : (F : Option Fault) (n : ℕ) → n < length t.netlist.nets → second_value t F w n ≡ second_node t F w n (second_value t F w)
+  unfolding second_value
+  meets F n lt = settled t.netlist order Unknown (second_node t F w) ordered (node_local t w F) n lt
+
+  -- without a slow pin, what drives a net is as ever
+  none_driven : (n : ℕ) (f : ℕ → Tri) (d : Driver) → driver_of t.netlist n ≡ d → second_driven t None w d f n ≡ driven t.netlist (second_source t w) nothing_forced d f n
+  none_driven n f Input is = refl
+  none_driven n f Flop is = refl
+  none_driven n f (Gate kind) is = refl
+
+  stem_driven : (m : ℕ) (v : Stuck) (x : Tri) (n : ℕ) (f : ℕ → Tri) (d : Driver) → second_driven t (Some (fault.Stem m v)) w d f n ≡ driven t.netlist (second_source t w) (force m x) d f n
+  stem_driven m v x n f Input = refl
+  stem_driven m v x n f Flop = refl
+  stem_driven m v x n f (Gate kind) = refl
+
+  pub none_is : (n : ℕ) → n < length t.netlist.nets → second_value t None w n ≡ good2 n
+  none_is n lt = valuation_is t.netlist order net_sound ordered (second_source t w) nothing_forced (second_value t None w)
+      (λ k in'. meets None k in' ∙ none_driven k (second_value t None w) (driver_of t.netlist k) refl) n lt
+
+  module _ (m : ℕ) (v : Stuck) (m_lt : m < length t.netlist.nets) where
+    abbrev F : Option Fault
+    F = Some (fault.Stem m v)
+
+    abbrev V : ℕ → Tri
+    V = second_value t F w
+
+    -- the values are those with the stem forced to what it has
+    forced_own : (n : ℕ) → n < length t.netlist.nets → V n ≡ values_of t.netlist (second_source t w) (force m (V m)) n
+    forced_own n lt = valuation_is t.netlist order net_sound ordered (second_source t w) (force m (V m)) V (λ k in'. elim (cases_eq k m) [
+      | inl is ↦ rw (eq-eqb k m is) (ap V is)
+      | inr other ↦
+          let at : V k ≡ second_driven t F w (driver_of t.netlist k) V k = meets F k in' ∙ ap (λ (b : Bool). cond b (slowed v (good_value t w k) (second_driven t F w (driver_of t.netlist k) V k)) (second_driven t F w (driver_of t.netlist k) V k)) (ne_eqb k m other) in
+          rw (ne_eqb k m other) (at ∙ stem_driven m v (V m) k V (driver_of t.netlist k))
+    ]) n lt
+
+    -- what drives the stem doesn't feel the fault
+    drives : second_driven t F w (driver_of t.netlist m) V m ≡ good2 m
+    drives =
+        let same : second_driven t F w (driver_of t.netlist m) V m ≡ second_driven t F w (driver_of t.netlist m) good2 m = driven_local t w F m V good2 (driver_of t.netlist m) (λ r gate read.
+            forced_own r (reads_in_range t.netlist m r net_sound m_lt read)
+            ∙ force_outside t.netlist order net_sound ordered (second_source t w) m (V m) r (reads_in_range t.netlist m r net_sound m_lt read) (no_loop t.netlist order net_sound ordered m r m_lt gate read)) in
+        same ∙ stem_driven m v Unknown m good2 (driver_of t.netlist m) ∙ free (driver_of t.netlist m)
+        ∙ sym (values_of-is t.netlist order (second_source t w) nothing_forced ordered m m_lt)
+      where
+        free : (d : Driver) → driven t.netlist (second_source t w) (force m Unknown) d good2 m ≡ driven t.netlist (second_source t w) nothing_forced d good2 m
+        free Input = refl
+        free Flop = refl
+        free (Gate kind) = refl
+
+    V_at : V m ≡ slowed v (good_value t w m) (good2 m)
+    V_at = meets F m m_lt ∙ ap (λ (b : Bool). cond b (slowed v (good_value t w m) (second_driven t F w (driver_of t.netlist m) V m)) (second_driven t F w (driver_of t.netlist m) V m)) (eq-eqb m m refl)
+        ∙ ap (slowed v (good_value t w m)) drives
+
+    V_is : (n : ℕ) → n < length t.netlist.nets → V n ≡ values_of t.netlist (second_source t w) (force m (slowed v (good_value t w m) (good2 m))) n
+    V_is n lt = forced_own n lt ∙ ap (λ (x : Tri). values_of t.netlist (second_source t w) (force m x) n) V_at
+
+    at_net : (o : ℕ) → o < length t.netlist.nets → (b : Bool) → changes v (good_value t w m) (good2 m) ≡ b → are_opposite (good2 o) (V o) ≡ (b && flip_shows_from t.netlist (second_source t w) m o)
+    at_net o lt true made = ap (are_opposite (good2 o)) (V_is o lt ∙ ap (λ (x : Tri). values_of t.netlist (second_source t w) (force m x) o) (made_flips v (good_value t w m) (good2 m) made))
+    at_net o lt false unmade = ap (are_opposite (good2 o)) (V_is o lt) ∙ unflipped t.netlist order net_sound ordered (second_source t w) m (slowed v (good_value t w m) (good2 m)) (unmade_stays v (good_value t w m) (good2 m) unmade) o lt
+
+    pub slow_stem_law : (p : Point) → IsPoint t p → frame_fails_at t (fault.Stem m v) w p ≡ (changes v (good_value t w m) (good2 m) && flip_shows_from t.netlist (second_source t w) m (observed_net t p))
+    slow_stem_law p is_point =
+        let o = observed_net t p in
+        let lt = observed_net-in_range t sound p is_point in
+        let net = point_pin-net t sound p is_point in
+        ap (λ (q : ℕ). are_opposite (second_value t None w q) (V q)) net
+        ∙ ap (λ (x : Tri). are_opposite x (V o)) (none_is o lt)
+        ∙ at_net o lt (changes v (good_value t w m) (good2 m)) refl

@@ -1,0 +1,183 @@
+-- Two-frame patterns: a launch capture, and a second capture that the tester sees. Transition faults, their classes and
+-- counts, the report, and the pattern text. A slow fault is written as the stem or the branch that it slows: stuck at 0 is
+-- slow to rise, stuck at 1 is slow to fall.
+-- Frames: second_source, second_value, frame_seen, frame_observed. Fails: frame_response, frame_value, frame_fails,
+-- makes_transition. Report: transitions, frame_class, frame_counts_of, frame_candidates, slow_words, frame_form,
+-- frame_report. Patterns: launch_frame.
+use Rattle.std.specs.Prelude.{ℕ, suc, List, [], ◌∷◌, ◌++◌, map, filter, length, Option, Some, None, Bool, true, false, cond, ◌==◌, ◌&&◌, codes, slice_index_or}
+use Rattle.std.specs.List.{range_with_len, enumerate_from}
+use Rattle.scan_model.specs.declared.values.Tri.{Tri}
+use Rattle.scan_model.specs.declared.values.Tri.TheVariants.{Unknown}
+use Rattle.scan_model.specs.declared.circuit.Driver.{Driver}
+use Rattle.scan_model.specs.declared.circuit.Driver.TheVariants.{Input, Flop, Gate}
+use Rattle.scan_model.specs.declared.fault.Stuck.{Stuck}
+use Rattle.scan_model.specs.declared.fault.Stuck.TheVariants as stuck
+use Rattle.scan_model.specs.declared.fault.Fault.{Fault}
+use Rattle.scan_model.specs.declared.fault.Fault.TheVariants as fault
+use Rattle.scan_model.specs.declared.parts.Chain.{Chain}
+use Rattle.scan_model.specs.declared.parts.Point.{Point}
+use Rattle.scan_model.specs.declared.logs.Bit.{Bit}
+use Rattle.scan_model.specs.declared.logs.BitClass.{BitClass}
+use Rattle.scan_model.specs.declared.logs.Counts.{Counts}
+use Rattle.scan_model.specs.declared.logs.LogFacts.{LogFacts}
+use Rattle.scan_model.specs.declared.logs.Scored.{Scored}
+use Rattle.scan_model.specs.Values.{is_zero, is_one, are_opposite, tri_and, tri_or, tri_not, gate_value}
+use Rattle.scan_model.specs.Netlist.{Netlist, pin_at, driver_of, operands}
+use Rattle.scan_model.specs.Walks.{along}
+use Rattle.scan_model.specs.ChainShift.{value_at}
+use Rattle.scan_model.specs.ScanTest.{ScanTest, points_of, point_at}
+use Rattle.scan_model.specs.NetValue.{values_of, source_of, nothing_forced, good_value}
+use Rattle.scan_model.specs.Response.{data_pin}
+use Rattle.scan_model.specs.Universe.{stems, branches}
+use Rattle.scan_model.specs.Coverage.{bits_of}
+use Rattle.scan_model.specs.Classes.{class_of}
+use Rattle.scan_model.specs.MatchCounts.{counts_by, is_candidate}
+use Rattle.scan_model.specs.Ranking.{ranked}
+use Rattle.scan_model.specs.ReportText.{ReportForm, point_words, stem_site, branch_site, fault_words, no_fault, layout_with, joined}
+use Rattle.scan_model.specs.PatternText.{PatternFrame}
+use Rattle.scan_model.specs.Force.{force}
+use Rattle.scan_model.specs.Masks.{point_pin}
+
+-- ---- one site
+
+-- what a slow site has, from its value in the first frame and the one that comes
+abbrev pub slowed : Stuck → Tri → Tri → Tri
+slowed stuck.Zero first now = tri_and first now
+slowed stuck.One first now = tri_or first now
+
+-- from this value in the first frame and this one in the second the site would rise, or fall
+abbrev pub changes : Stuck → Tri → Tri → Bool
+changes stuck.Zero first now = is_zero first && is_one now
+changes stuck.One first now = is_one first && is_zero now
+
+-- ---- the frames
+
+-- what drives the second frame: inputs hold, and each flop has what its data pin saw in the first
+abbrev pub second_of : ScanTest → ℕ → Driver → ℕ → Tri
+second_of t w Input n = source_of t None w n
+second_of t w Flop n = good_value t w (pin_at t.netlist (data_pin t.netlist n)).net
+second_of t w (Gate kind) n = Unknown
+
+abbrev pub second_source : ScanTest → ℕ → ℕ → Tri
+second_source t w n = second_of t w (driver_of t.netlist n) n
+
+-- what pin p sees, from the value of its net in the first frame and now
+abbrev pub slow_pin : Option Fault → ℕ → Tri → Tri → Tri
+slow_pin None p first now = now
+slow_pin (Some (fault.Stem m v)) p first now = now
+slow_pin (Some (fault.Branch q v)) p first now = cond (p == q) (slowed v first now) now
+slow_pin (Some (fault.Bridge a b kind)) p first now = now
+slow_pin (Some (fault.Cell h c kind)) p first now = now
+
+-- what net n has, from its value in the first frame and what drives it now
+abbrev pub slow_stem : Option Fault → ℕ → Tri → Tri → Tri
+slow_stem None n first now = now
+slow_stem (Some (fault.Stem m v)) n first now = cond (n == m) (slowed v first now) now
+slow_stem (Some (fault.Branch q v)) n first now = now
+slow_stem (Some (fault.Bridge a b kind)) n first now = now
+slow_stem (Some (fault.Cell h c kind)) n first now = now
+
+-- what pin p sees in the second frame, where the nets have these values
+abbrev pub frame_seen : ScanTest → Option Fault → ℕ → (ℕ → Tri) → ℕ → Tri
+frame_seen t f w value p = slow_pin f p (good_value t w (pin_at t.netlist p).net) (value (pin_at t.netlist p).net)
+
+-- what drives net n: the source at an input and at a flop, and at a gate its value over what its pins see
+abbrev pub second_driven : ScanTest → Option Fault → ℕ → Driver → (ℕ → Tri) → ℕ → Tri
+second_driven t f w Input value n = second_source t w n
+second_driven t f w Flop value n = second_source t w n
+second_driven t f w (Gate kind) value n = gate_value kind (map (frame_seen t f w value) (operands t.netlist n))
+
+-- the value of net n, from those of the nets that it reads
+abbrev pub second_node : ScanTest → Option Fault → ℕ → ℕ → (ℕ → Tri) → Tri
+second_node t f w n value = slow_stem f n (good_value t w n) (second_driven t f w (driver_of t.netlist n) value n)
+
+-- the value of a net in the second frame, with a slow fault or without one
+unfoldable pub second_value : ScanTest → Option Fault → ℕ → ℕ → Tri
+second_value t f w n = along Unknown (second_node t f w) (suc (length t.netlist.nets)) n
+
+-- ---- what the tester sees
+
+abbrev pub frame_observed : ScanTest → Option Fault → ℕ → Point → Tri
+frame_observed t f w p = frame_seen t f w (second_value t f w) (point_pin t p)
+
+-- the expected value is definite and the fault gives the other definite value
+abbrev pub frame_fails_at : ScanTest → Fault → ℕ → Point → Bool
+frame_fails_at t f w p = are_opposite (frame_observed t None w p) (frame_observed t (Some f) w p)
+
+-- a value for each point in test order
+abbrev pub frame_response : ScanTest → Option Fault → ℕ → List Tri
+frame_response t f w = map (frame_observed t f w) (points_of t)
+
+-- the fault-free values of all patterns: a row for each, with a value for each point
+abbrev pub frame_rows : ScanTest → List (List Tri)
+frame_rows t = map (frame_response t None) (range_with_len 0 (length t.patterns))
+
+abbrev pub frame_value : ScanTest → Option Fault → Bit → Tri
+frame_value t f b = value_at (frame_response t f b.pattern) b.point
+
+abbrev pub frame_fails : ScanTest → Fault → Bit → Bool
+frame_fails t f b = are_opposite (frame_value t None b) (frame_value t (Some f) b)
+
+-- the site makes the transition in pattern w
+abbrev pub net_changes : ScanTest → Stuck → ℕ → ℕ → Bool
+net_changes t v w n = changes v (good_value t w n) (second_value t None w n)
+
+abbrev pub makes_transition : ScanTest → Fault → ℕ → Bool
+makes_transition t (fault.Stem n v) w = net_changes t v w n
+makes_transition t (fault.Branch p v) w = net_changes t v w (pin_at t.netlist p).net
+makes_transition t (fault.Bridge a b kind) w = false
+makes_transition t (fault.Cell h c kind) w = false
+
+-- over the values of a circuit under a source, a flip of net n shows at net o
+abbrev pub flip_shows_from : Netlist → (ℕ → Tri) → ℕ → ℕ → Bool
+flip_shows_from c s n o = are_opposite (values_of c s nothing_forced o) (values_of c s (force n (tri_not (values_of c s nothing_forced n))) o)
+
+-- ---- transition faults and their counts
+
+-- stems by net number, then the pins of nets with two or more pins; each slow to rise, then slow to fall
+abbrev pub transitions : ScanTest → List Fault
+transitions t = stems t ++ branches t
+
+abbrev pub frame_class : ScanTest → List LogFacts → Bit → BitClass
+frame_class t logs b = class_of logs (frame_value t None b) b
+
+abbrev pub frame_counts_of : ScanTest → List LogFacts → Fault → Counts
+frame_counts_of t logs f = counts_by (bits_of t) (frame_class t logs) (frame_fails t f)
+
+abbrev pub frame_scored : ScanTest → List LogFacts → ℕ × Fault → Scored
+frame_scored t logs e = record { place = e.0; counts = frame_counts_of t logs e.1 }
+
+-- those that explain at least one failing bit, in the order of their places
+abbrev pub frame_candidates : ScanTest → List LogFacts → List Scored
+frame_candidates t logs = filter is_candidate (map (frame_scored t logs) (enumerate_from 0 (transitions t)))
+
+-- ---- the report
+
+abbrev pub slow_word : Stuck → List ℕ
+slow_word stuck.Zero = codes "slow-rise"
+slow_word stuck.One = codes "slow-fall"
+
+abbrev pub slow_words : ScanTest → Fault → List (List ℕ)
+slow_words t (fault.Stem n v) = stem_site t n ++ slow_word v ∷ []
+slow_words t (fault.Branch p v) = branch_site t p ++ slow_word v ∷ []
+slow_words t (fault.Bridge a b kind) = fault_words t (fault.Bridge a b kind)
+slow_words t (fault.Cell h i kind) = fault_words t (fault.Cell h i kind)
+
+abbrev pub frame_form : ScanTest → ReportForm
+frame_form t = record {
+  title = codes "LOC REPORT";
+  point = λ k. point_words t (point_at t k);
+  fault = λ place. slow_words t (slice_index_or (transitions t) place no_fault);
+}
+
+abbrev pub frame_layout : ScanTest → List ℕ → List ℕ → ℕ → (Bit → BitClass) → List Scored → List (List ℕ)
+frame_layout t design die count classes rows = layout_with (frame_form t) (bits_of t) design die count classes rows
+
+abbrev pub frame_report : ScanTest → List ℕ → List ℕ → List LogFacts → List ℕ
+frame_report t design die logs = joined (frame_layout t design die (length logs) (frame_class t logs) (ranked (frame_candidates t logs)))
+
+-- ---- the pattern text
+
+-- lines `LOC p w1 w2 ..`, and no others
+abbrev pub launch_frame : Netlist → List Chain → PatternFrame
+launch_frame c chains = record { inputs = length c.inputs; lengths = map (λ h. length h.cells) chains; keyword = codes "LOC"; shifts = false }
