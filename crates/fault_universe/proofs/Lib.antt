@@ -1,4 +1,5 @@
 pub mod BitSteps
+pub mod SpacedWords
 pub mod StemPlaces
 pub mod Blocks
 pub mod BranchPlaces

@@ -40,12 +40,20 @@ fn cell_word(kind: CellKind) -> &'static str
     }
 }
 
+/// Adds the words for a stem.
+pub fn push_stem_site(line: &mut Name, parts: &Parts, net: u32) -> Result<(), NoMemory>
+    requires { net < length parts.now.netlist.nets }
+    ensures { OnOk result (line.new ≡ line.old ++ text_of.spaced (text_of.stem_site parts.now net)) }
+{
+    line.append(b"stem")?;
+    push_word(line, net_name(parts, net))
+}
+
 fn push_stem(line: &mut Name, parts: &Parts, net: u32, value: Stuck) -> Result<(), NoMemory>
     requires { net < length parts.now.netlist.nets }
     ensures { OnOk result (line.new ≡ line.old ++ text_of.fault_text parts.now (fault.Stem net value)) }
 {
-    line.append(b"stem")?;
-    push_word(line, net_name(parts, net))?;
+    push_stem_site(line, parts, net)?;
     push_word(line, stuck_word(value).as_bytes())
 }
 
@@ -64,14 +72,22 @@ fn push_branch_end(line: &mut Name, parts: &Parts, place: PinPlace) -> Result<()
     }
 }
 
-fn push_branch(line: &mut Name, parts: &Parts, pin: u32, value: Stuck) -> Result<(), NoMemory>
+/// Adds the words for the branch at a pin.
+pub fn push_branch_site(line: &mut Name, parts: &Parts, pin: u32) -> Result<(), NoMemory>
     requires { pin < length parts.now.netlist.pins }
-    ensures { OnOk result (line.new ≡ line.old ++ text_of.fault_text parts.now (fault.Branch pin value)) }
+    ensures { OnOk result (line.new ≡ line.old ++ text_of.spaced (text_of.branch_site parts.now pin)) }
 {
     let branch = parts.circuit().pins().as_slice()[pin as usize];
     line.append(b"branch")?;
     push_word(line, net_name(parts, branch.net))?;
-    push_branch_end(line, parts, branch.place)?;
+    push_branch_end(line, parts, branch.place)
+}
+
+fn push_branch(line: &mut Name, parts: &Parts, pin: u32, value: Stuck) -> Result<(), NoMemory>
+    requires { pin < length parts.now.netlist.pins }
+    ensures { OnOk result (line.new ≡ line.old ++ text_of.fault_text parts.now (fault.Branch pin value)) }
+{
+    push_branch_site(line, parts, pin)?;
     push_word(line, stuck_word(value).as_bytes())
 }
 

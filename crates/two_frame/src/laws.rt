@@ -1,19 +1,21 @@
-ghost use Rattle.std.specs.Prelude.{◌≡◌, ◌&&◌, ℕ, ◌<◌, None, length, map};
+ghost use Rattle.std.specs.Prelude.{◌≡◌, ◌&&◌, ℕ, ◌<◌, true, None, length, map};
 ghost use Rattle.scan_model.specs.declared.circuit.Driver.TheVariants.{Gate};
 ghost use Rattle.scan_model.specs.declared.circuit.GateKind.{GateKind};
 ghost use Rattle.scan_model.specs.declared.circuit.PinPlace.TheVariants as place;
+ghost use Rattle.scan_model.specs.declared.fault.Fault.{Fault};
 ghost use Rattle.scan_model.specs.declared.fault.Fault.TheVariants as fault;
 ghost use Rattle.scan_model.specs.declared.fault.Stuck.{Stuck};
 ghost use Rattle.scan_model.specs.declared.parts.Point.{Point};
 ghost use Rattle.scan_model.specs.Values.{are_opposite, gate_value};
 ghost use Rattle.scan_model.specs.Netlist.{pin_at, driver_of, operands};
-ghost use Rattle.scan_model.specs.ScanTest.{IsPoint};
+ghost use Rattle.scan_model.specs.ScanTest.{IsPoint, HasSite, points_of};
 ghost use Rattle.scan_model.specs.Faults.{stuck_value};
 ghost use Rattle.scan_model.specs.NetValue.{seen, values_of, nothing_forced, good_value};
+ghost use Rattle.scan_model.specs.Coverage.{bit_of};
 ghost use Rattle.scan_model.specs.Suspect.{observed_net};
 ghost use Rattle.scan_model.specs.Masks.{place_is_point};
 ghost use Rattle.scan_model.proofs.counting.Branches.{force_pin};
-ghost use Rattle.two_frame.specs.TwoFrame.{changes, second_source, second_value, frame_fails_at, flip_shows_from};
+ghost use Rattle.two_frame.specs.TwoFrame.{changes, second_source, second_value, frame_fails_at, frame_fails, makes_transition, flip_shows_from};
 
 use scan_model::Parts;
 
@@ -55,6 +57,14 @@ pub fn slow_pins(parts: &Parts)
     ensures { (q w : ℕ) (v : Stuck) (p : Point) → q < length parts.now.netlist.pins → ((n i : ℕ) (kind : GateKind) → driver_of parts.now.netlist n ≡ Gate kind → (pin_at parts.now.netlist q).place ≡ place.Operand n i → ⊥) → IsPoint parts.now p
         → frame_fails_at parts.now (fault.Branch q v) w p
         ≡ (changes v (good_value parts.now w (pin_at parts.now.netlist q).net) (values_of parts.now.netlist (second_source parts.now w) nothing_forced (pin_at parts.now.netlist q).net) && place_is_point parts.now (pin_at parts.now.netlist q).place p) }
+{
+    let _ = parts.circuit().order();
+}
+
+/// A law, with nothing to run: a fault predicts a fail in a pattern only where its site makes the
+/// transition.
+pub fn only_transitions(parts: &Parts)
+    ensures { (f : Fault) (w k : ℕ) → HasSite parts.now f → k < length (points_of parts.now) → frame_fails parts.now f (bit_of w k) ≡ true → makes_transition parts.now f w ≡ true }
 {
     let _ = parts.circuit().order();
 }

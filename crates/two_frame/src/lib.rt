@@ -11,5 +11,5 @@ mod second;
 pub use expected::frame_expected;
 pub use fails::slow_len;
 pub use frame_good::{FrameGood, FrameScratch};
-pub use laws::{second_frame, slow_operands, slow_pins, slow_stems};
+pub use laws::{only_transitions, second_frame, slow_operands, slow_pins, slow_stems};
 pub use reader::read_two_frame;
