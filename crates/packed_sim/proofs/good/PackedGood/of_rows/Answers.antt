@@ -2,8 +2,8 @@ use Rattle.std.proofs.Common.{◌≡◌, length, ◌∙◌, arith}
 use Rattle.packed_sim.proofs.Observed.{points_are}
 use Rattle.packed_sim.proofs.good.PackedGood.of_rows.Goals as goal
 
-pub make-requires-2 : goal.make-requires-2
-make-requires-2 c = rw (c.circuit-circuit.ensures.value, c.deref.ensures.value) c.in_ok-observed.ensures.in_range
+pub make-requires : goal.make-requires
+make-requires c = rw (c.circuit-circuit.ensures.value, c.deref.ensures.value) c.in_ok-observed.ensures.in_range
 
 pub of-requires-clause-keys : goal.of-requires-clause-keys
 of-requires-clause-keys c =
