@@ -4,3 +4,6 @@ pub mod SlowPins
 pub mod Transitions
 pub mod NextFrame
 pub mod ShownFails
+pub mod ShownRows
+pub mod SlowPlaces
+pub mod BlockReads

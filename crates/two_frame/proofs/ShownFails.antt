@@ -80,3 +80,7 @@ module _ (t : ScanTest) (sound : IsScanTest t) (order : List ℕ) (ordered : IsE
     | inl fails ↦ absurd (both_ways (makes_transition t f w) still (only_transitions_in t sound order ordered w f site k lt fails))
     | inr none ↦ none
   ]
+
+pub and_same : (b x : Bool) → x ≡ true → (b && x) ≡ b
+and_same true x is = is
+and_same false x is = refl

@@ -83,17 +83,23 @@ below One Zero h = absurd (let e : One ≡ Zero = h in cc)
 -- operands of which one is another
 pins_above : (c : Netlist) (q : ℕ) (x : Tri) (f : ℕ → Tri) → IsAtLeast x (f (pin_at c q).net) → (ps : List ℕ) → AreAtLeast (map (seen c (force_pin q x) f) ps) (map (seen c nothing_forced f) ps)
 pins_above c q x f more [] = tt
-pins_above c q x f more (p ∷ ps) = (elim (cases_eq p q) [
-  | inl is ↦ rw (eq-eqb p q is) (subst (λ (k : ℕ). IsAtLeast x (f (pin_at c k).net)) (sym is) more)
-  | inr other ↦ rw (ne_eqb p q other) (IsAtLeast-refl (f (pin_at c p).net))
-], pins_above c q x f more ps)
+pins_above c q x f more (p ∷ ps) = (
+  elim (cases_eq p q) [
+    | inl is ↦ rw (eq-eqb p q is) (subst (λ (k : ℕ). IsAtLeast x (f (pin_at c k).net)) (sym is) more)
+    | inr other ↦ rw (ne_eqb p q other) (IsAtLeast-refl (f (pin_at c p).net))
+  ],
+  pins_above c q x f more ps,
+)
 
 pins_below : (c : Netlist) (q : ℕ) (x : Tri) (f : ℕ → Tri) → IsAtLeast (f (pin_at c q).net) x → (ps : List ℕ) → AreAtLeast (map (seen c nothing_forced f) ps) (map (seen c (force_pin q x) f) ps)
 pins_below c q x f less [] = tt
-pins_below c q x f less (p ∷ ps) = (elim (cases_eq p q) [
-  | inl is ↦ rw (eq-eqb p q is) (subst (λ (k : ℕ). IsAtLeast (f (pin_at c k).net) x) (sym is) less)
-  | inr other ↦ rw (ne_eqb p q other) (IsAtLeast-refl (f (pin_at c p).net))
-], pins_below c q x f less ps)
+pins_below c q x f less (p ∷ ps) = (
+  elim (cases_eq p q) [
+    | inl is ↦ rw (eq-eqb p q is) (subst (λ (k : ℕ). IsAtLeast (f (pin_at c k).net) x) (sym is) less)
+    | inr other ↦ rw (ne_eqb p q other) (IsAtLeast-refl (f (pin_at c p).net))
+  ],
+  pins_below c q x f less ps,
+)
 
 module _ (t : ScanTest) (sound : IsScanTest t) (order : List ℕ) (ordered : IsEvaluationOrder t.netlist order) (w q g i : ℕ) (kind : GateKind) (v : Stuck) (q_lt : q < length t.netlist.pins)
     (at : (pin_at t.netlist q).place ≡ place.Operand g i) (drives : driver_of t.netlist g ≡ Gate kind) where

@@ -139,8 +139,8 @@ module _ (t : ScanTest) (sound : IsScanTest t) (order : List ℕ) (ordered : IsE
     drives : second_driven t F w (driver_of t.netlist m) V m ≡ good2 m
     drives =
         let same : second_driven t F w (driver_of t.netlist m) V m ≡ second_driven t F w (driver_of t.netlist m) good2 m = driven_local t w F m V good2 (driver_of t.netlist m) (λ r gate read.
-            forced_own r (reads_in_range t.netlist m r net_sound m_lt read)
-            ∙ force_outside t.netlist order net_sound ordered (second_source t w) m (V m) r (reads_in_range t.netlist m r net_sound m_lt read) (no_loop t.netlist order net_sound ordered m r m_lt gate read)) in
+        forced_own r (reads_in_range t.netlist m r net_sound m_lt read)
+        ∙ force_outside t.netlist order net_sound ordered (second_source t w) m (V m) r (reads_in_range t.netlist m r net_sound m_lt read) (no_loop t.netlist order net_sound ordered m r m_lt gate read)) in
         same ∙ stem_driven m v Unknown m good2 (driver_of t.netlist m) ∙ free (driver_of t.netlist m)
         ∙ sym (values_of-is t.netlist order (second_source t w) nothing_forced ordered m m_lt)
       where

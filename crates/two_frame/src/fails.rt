@@ -1,5 +1,5 @@
 //! The fails that a transition fault predicts in a pattern.
-ghost use Rattle.std.specs.Prelude.{◌≡◌, ℕ, ◌+◌, ◌<◌, ◌≤◌, ◌/◌, ◌%◌, [], ◌∷◌, ◌&&◌, false, length, slice_index_or};
+ghost use Rattle.std.specs.Prelude.{◌≡◌, ℕ, ◌+◌, ◌<◌, ◌≤◌, ◌/◌, ◌%◌, [], ◌∷◌, ◌==◌, ◌&&◌, false, length, slice_index_or};
 ghost use Rattle.scan_model.specs.declared.circuit.PinPlace.TheVariants as place;
 ghost use Rattle.scan_model.specs.declared.fault.Fault.TheVariants as fault;
 ghost use Rattle.scan_model.specs.Values.{are_opposite};
@@ -29,13 +29,7 @@ pub fn slow_len(parts: &Parts) -> u32
 
 impl FrameGood {
     /// Writes the points whose nets differ in a pattern.
-    fn write_differences(
-        &self,
-        parts: &Parts,
-        scratch: &Scratch,
-        pattern: u32,
-        out: &mut [bool],
-    )
+    fn write_differences(&self, parts: &Parts, scratch: &Scratch, pattern: u32, out: &mut [bool])
         requires good { IsFrameGood parts.now self.now }
         requires scratch { IsScratchIn self.now.second scratch.now }
         requires pattern { pattern < length parts.now.patterns }

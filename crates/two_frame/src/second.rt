@@ -25,11 +25,7 @@ fn next_row(circuit: &Circuit, first: &[Packed], net: u32) -> Packed
 }
 
 /// What drives each net in the second frame.
-fn next_sources(
-    alloc: Global,
-    circuit: &Circuit,
-    first: &[Packed],
-) -> Result<Vec<Packed>, NoMemory>
+fn next_sources(alloc: Global, circuit: &Circuit, first: &[Packed]) -> Result<Vec<Packed>, NoMemory>
     requires { length first.now ≡ length circuit.now.nets }
     ensures len { IfOk result (λ rows. length rows.items ≡ length circuit.now.nets) }
     ensures value { IfOk result (λ rows. (j n : ℕ) → j < 512 → n < length circuit.now.nets → lane_values rows.items j n ≡ next_value circuit.now (lane_values first.now j) n) }
