@@ -8,40 +8,19 @@ use Rattle.std.proofs.Math.Seq.{take-append_seam, drop-append_seam}
 use Rattle.scan_model.specs.declared.fault.Fault.{Fault}
 use Rattle.scan_model.specs.declared.fault.Fault.TheVariants.{Stem, Branch, Bridge, Cell}
 use Rattle.scan_model.specs.ScanTest.{ScanTest}
-use Rattle.scan_model.specs.ReportText.{spaced, joined, fault_words}
-use Rattle.fault_universe.specs.LineWords.{after_spaces}
+use Rattle.scan_model.specs.ReportText.{joined, fault_words}
 use Rattle.fault_universe.proofs.BitSteps.{enumerate_push}
 use Rattle.diag_report.specs.declared.draft.Draft.{Draft}
 use Rattle.diag_report.specs.LineEnds.{ends_from, cut_at, HasLines, AddsLines}
 
 -- ---- words
 
-pub spaced-cons : (w : List ℕ) (ws : List (List ℕ)) → spaced (w ∷ ws) ≡ w ++ after_spaces ws
-spaced-cons w [] = sym (append-nil w)
-spaced-cons w (v ∷ ws) = ap (λ (bs : List ℕ). w ++ 32 ∷ bs) (spaced-cons v ws)
-
-spaced-append : (w : List ℕ) (ws vs : List (List ℕ)) → 0 < length vs → spaced ((w ∷ ws) ++ vs) ≡ spaced (w ∷ ws) ++ 32 ∷ spaced vs
-spaced-append w [] [] there = absurd (omega arith)
-spaced-append w [] (v ∷ vs) there = refl
-spaced-append w (u ∷ ws) vs there = ap (λ (bs : List ℕ). w ++ 32 ∷ bs) (spaced-append u ws vs there) ∙ sym (append_assoc w (32 ∷ spaced (u ∷ ws)) (32 ∷ spaced vs))
-
-words_there : (t : ScanTest) (f : Fault) → 0 < length (fault_words t f)
+-- a fault has words
+pub words_there : (t : ScanTest) (f : Fault) → 0 < length (fault_words t f)
 words_there t (Stem n v) = omega arith
 words_there t (Branch p v) = omega arith
 words_there t (Bridge a b kind) = omega arith
 words_there t (Cell h i kind) = omega arith
-
--- a first word, a second one, and more
-pub words_are : (line w v : List ℕ) (ws : List (List ℕ)) → ((line ++ w) ++ 32 ∷ v) ++ after_spaces ws ≡ line ++ spaced (w ∷ v ∷ ws)
-words_are line w v ws =
-    append_assoc (line ++ w) (32 ∷ v) (after_spaces ws) ∙ append_assoc line w ((32 ∷ v) ++ after_spaces ws)
-    ∙ ap (λ (bs : List ℕ). line ++ bs) (sym (spaced-cons w (v ∷ ws)))
-
--- words, a space and the words of a fault
-pub words_of_fault : (line : List ℕ) (t : ScanTest) (f : Fault) (w : List ℕ) (ws : List (List ℕ)) → ((line ++ spaced (w ∷ ws)) ++ 32 ∷ []) ++ spaced (fault_words t f) ≡ line ++ spaced ((w ∷ ws) ++ fault_words t f)
-words_of_fault line t f w ws =
-    append_assoc (line ++ spaced (w ∷ ws)) (32 ∷ []) (spaced (fault_words t f)) ∙ append_assoc line (spaced (w ∷ ws)) (32 ∷ spaced (fault_words t f))
-    ∙ ap (λ (bs : List ℕ). line ++ bs) (sym (spaced-append w ws (fault_words t f) (words_there t f)))
 
 -- ---- lines
 

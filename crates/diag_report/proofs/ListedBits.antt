@@ -40,7 +40,7 @@ keep P p (x ∷ xs) all = elim (cases_Bool (p x)) [
 ]
 
 pub all_listed : (t : ScanTest) (f : Fault) → AllByRecursion (IsListed t f) (predicted_bits t f)
-all_listed t f = keep (IsWithin t) (predicts_fail t f) _ (each_bit_in t (IsWithin t) (λ w k w_lt k_lt. (w_lt, k_lt)))
+all_listed t f = keep (IsWithin t) (predicts_fail t f) _ (each_bit_in (length t.patterns) (length (points_of t)) (IsWithin t) (λ w k w_lt k_lt. (w_lt, k_lt)))
 
 -- ---- what is observed at a point
 

@@ -4,8 +4,6 @@ use Rattle.std.specs.List.{range_with_len}
 use Rattle.scan_model.specs.declared.logs.Bit.{Bit}
 use Rattle.scan_model.specs.declared.logs.BitClass.{BitClass}
 use Rattle.scan_model.specs.declared.logs.BitClass.TheVariants.{Conflict, Masked, Failing, Passing, Uncounted}
-use Rattle.scan_model.specs.ScanTest.{ScanTest}
-use Rattle.scan_model.specs.Coverage.{bits_of}
 use Rattle.scan_model.specs.Classes.{is_conflict, is_masked, is_failing, is_passing}
 use Rattle.fault_universe.specs.BitRows.{row_bits}
 use Rattle.diag_report.specs.declared.tally.Tally.{Tally}
@@ -18,10 +16,6 @@ tally_over classes bits = record {
   conflict = filter (λ b. is_conflict (classes b)) bits;
   masked = filter (λ b. is_masked (classes b)) bits;
 }
-
--- the tally of all bits
-abbrev pub tally_of : ScanTest → (Bit → BitClass) → Tally
-tally_of t classes = tally_over classes (bits_of t)
 
 -- the bits at the first n points of so many patterns, from one on
 abbrev pub block_bits : ℕ → ℕ → ℕ → List Bit

@@ -14,6 +14,7 @@ ghost use Rattle.diag_report.specs.WordFails.{points_with_fails, word_bits};
 
 use crate::draft::{Draft, end_line, new_draft};
 use crate::lines::{bit_line, name_line};
+use crate::names::PartsNames;
 use fault_universe::{fault_at, push_number};
 use packed_sim::{PackedGood, Scratch};
 use scan_model::{Bit, Fault, Name, NoMemory, Parts, Rows, Steps};
@@ -84,10 +85,11 @@ fn pattern_fails(
     requires pattern { pattern < length parts.now.patterns }
     ensures { OnOk result ((f : Fault) → AreFails parts.now f (pattern / 64) fails.now → AddsLines (log.fail_lines parts.now f (map (bit_of pattern) points.now)) draft.old draft.new) }
 {
+    let names = PartsNames { parts };
     for i in 0..points.len() {
         let point = points[i];
         if has_bit(fails[point as usize], pattern % 64) {
-            bit_line(draft, parts, b"fail", &Bit { pattern, point })?;
+            bit_line(draft, &names, b"fail", &Bit { pattern, point })?;
         }
     }
     Ok(())

@@ -4,6 +4,7 @@
 mod draft;
 mod fails;
 mod lines;
+mod names;
 mod ranking;
 mod report;
 mod summary;
@@ -11,7 +12,8 @@ mod tally;
 mod text;
 
 pub use fails::{fails_text, fails_text_over};
+pub use names::{ReportNames, push_point};
 pub use ranking::rank;
 pub use report::{PastEnd, Report};
 pub use summary::summary_text;
-pub use text::{Head, make_text};
+pub use text::{Head, make_text, make_text_of};

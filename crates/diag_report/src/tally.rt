@@ -1,14 +1,14 @@
 ghost use Rattle.std.specs.Prelude.{◌≡◌, ℕ, ◌+◌, ◌*◌, ◌^◌, ◌<◌, ◌≤◌, List, length, map, filter, All, IfOk, OnOk};
 ghost use Rattle.scan_model.specs.declared.logs.LogFacts.{LogFacts};
-ghost use Rattle.scan_model.specs.ScanTest.{points_of};
-ghost use Rattle.scan_model.specs.Coverage.{bit_of};
+ghost use Rattle.scan_model.specs.PatternText.{pattern_limit};
+ghost use Rattle.scan_model.specs.Coverage.{bit_of, bits_over};
 ghost use Rattle.scan_model.specs.Classes.{class_with, is_failing, is_passing};
 ghost use Rattle.log_join.specs.Joining.{StandsFor, IsJoinedOf, FitsExpected};
 ghost use Rattle.fault_universe.specs.BitRows.{row_bits};
-ghost use Rattle.diag_report.specs.BitTally.{tally_of, word_block, listed, listed_over, HaveSameAside, IsTallyOf};
+ghost use Rattle.diag_report.specs.BitTally.{tally_over, word_block, listed, listed_over, HaveSameAside, IsTallyOf};
 
 use log_join::Joined;
-use scan_model::{Bit, BitClass, Expected, NoMemory, Parts, Rows};
+use scan_model::{Bit, BitClass, Expected, NoMemory, Rows};
 use std::alloc::Global;
 
 /// How many bits are Failing and Passing, and which are Conflict and Masked.
@@ -147,14 +147,13 @@ fn list_word(
 /// Divides all bits into classes, 64 patterns at a time.
 pub(crate) fn tally_bits(
     alloc: Global,
-    parts: &Parts,
     expected: &Expected,
     joined: &Joined,
 ) -> Result<Tally, NoMemory>
     requires expected { FitsExpected expected.now joined.now }
-    requires joined { IsJoinedOf (length parts.now.patterns) (length (points_of parts.now)) joined.now }
-    ensures classes { (logs : List LogFacts) → StandsFor logs joined.now → IfOk result (λ tally. tally ≡ tally_of parts.now (class_with expected.now logs)) }
-    ensures tally { IfOk result (IsTallyOf (length (points_of parts.now)) (2 ^ 62)) }
+    requires patterns { joined.now.patterns ≤ pattern_limit }
+    ensures classes { (logs : List LogFacts) → StandsFor logs joined.now → IfOk result (λ tally. tally ≡ tally_over (class_with expected.now logs) (bits_over joined.now.patterns joined.now.points)) }
+    ensures tally { IfOk result (IsTallyOf joined.now.points (2 ^ 62)) }
 {
     let mut tally = Tally {
         failing: 0,
@@ -162,8 +161,8 @@ pub(crate) fn tally_bits(
         conflict: Rows::new(alloc),
         masked: Rows::new(alloc),
     };
-    let points = parts.points().len() as u32;
-    let patterns = parts.patterns().len() as u32;
+    let points = joined.points();
+    let patterns = joined.patterns();
     for word in 0..(patterns + 63) / 64 {
         tally.failing += count_failing(expected, joined, word, points);
         tally.passing += count_passing(expected, joined, word, points);

@@ -1,7 +1,9 @@
-ghost use Rattle.std.specs.Prelude.{◌≡◌, ◌<◌, [], List, All, map, length, IfOk, OnOk};
+ghost use Rattle.std.specs.Prelude.{◌≡◌, ◌<◌, ◌≤◌, [], List, All, map, length, IfOk, OnOk};
 ghost use Rattle.std.specs.List.{enumerate_from};
 ghost use Rattle.scan_model.specs.declared.logs.LogFacts.{LogFacts};
 ghost use Rattle.scan_model.specs.ScanTest.{points_of};
+ghost use Rattle.scan_model.specs.PatternText.{pattern_limit};
+ghost use Rattle.scan_model.specs.Coverage.{bits_over};
 ghost use Rattle.scan_model.specs.Classes.{class_with};
 ghost use Rattle.scan_model.specs.Universe.{universe};
 ghost use Rattle.scan_model.specs.ReportText as text_of;
@@ -11,6 +13,7 @@ ghost use Rattle.diag_report.specs.Layout.{title_lines, total_lines, layout};
 
 use crate::draft::{Draft, draft_with_room};
 use crate::lines::{bit_line, candidate_line, name_line, number_line};
+use crate::names::{PartsNames, ReportNames};
 use crate::report::{Report, finished};
 use crate::tally::{Tally, tally_bits};
 use log_join::Joined;
@@ -30,10 +33,10 @@ pub struct Head {
     pub logs: u64,
 }
 
-fn title(draft: &mut Draft, head: &Head) -> Result<(), NoMemory>
-    ensures { OnOk result (AddsLines (title_lines head.now.design head.now.die head.now.logs) draft.old draft.new) }
+fn title_lines(draft: &mut Draft, title: &[u8], head: &Head) -> Result<(), NoMemory>
+    ensures { OnOk result (AddsLines (title_lines title.now head.now.design head.now.die head.now.logs) draft.old draft.new) }
 {
-    number_line(draft, b"REPORT", 1)?;
+    number_line(draft, title, 1)?;
     name_line(draft, b"design", head.design.as_slice())?;
     name_line(draft, b"die", head.die.as_slice())?;
     number_line(draft, b"logs", head.logs)
@@ -49,22 +52,31 @@ fn totals(draft: &mut Draft, tally: &Tally, candidates: u64) -> Result<(), NoMem
     number_line(draft, b"candidates", candidates)
 }
 
-fn bit_lines(draft: &mut Draft, parts: &Parts, word: &[u8], bits: &[Bit]) -> Result<(), NoMemory>
-    requires { All (λ b. b.point < length (points_of parts.now)) bits.now }
-    ensures { OnOk result (AddsLines (map (text_of.bit_line parts.now word.now) bits.now) draft.old draft.new) }
+fn bit_lines<N: ReportNames>(
+    draft: &mut Draft,
+    names: &N,
+    word: &[u8],
+    bits: &[Bit],
+) -> Result<(), NoMemory>
+    requires { All (λ b. b.point < N.points names.now) bits.now }
+    ensures { OnOk result (AddsLines (map (text_of.named_bit_line (N.form names.now) word.now) bits.now) draft.old draft.new) }
 {
     for i in 0..bits.len() {
-        bit_line(draft, parts, word, &bits[i])?;
+        bit_line(draft, names, word, &bits[i])?;
     }
     Ok(())
 }
 
-fn candidate_lines(draft: &mut Draft, parts: &Parts, rows: &[Scored]) -> Result<(), NoMemory>
-    requires { All (λ row. row.place < length (universe parts.now)) rows.now }
-    ensures { OnOk result (AddsLines (map (text_of.candidate_line (universe parts.now) parts.now) (enumerate_from 1 rows.now)) draft.old draft.new) }
+fn candidate_lines<N: ReportNames>(
+    draft: &mut Draft,
+    names: &N,
+    rows: &[Scored],
+) -> Result<(), NoMemory>
+    requires { All (λ row. row.place < N.places names.now) rows.now }
+    ensures { OnOk result (AddsLines (map (text_of.named_candidate_line (N.form names.now)) (enumerate_from 1 rows.now)) draft.old draft.new) }
 {
     for i in 0..rows.len() {
-        candidate_line(draft, parts, i as u64 + 1, &rows[i])?;
+        candidate_line(draft, names, i as u64 + 1, &rows[i])?;
     }
     Ok(())
 }
@@ -81,44 +93,65 @@ fn report_draft(alloc: Global, bits: usize, candidates: usize) -> Result<Draft, 
 }
 
 // Writes all lines of a report into a draft that has none.
-fn write_lines(
+fn write_lines<N: ReportNames>(
     draft: &mut Draft,
-    parts: &Parts,
+    names: &N,
     head: &Head,
     tally: &Tally,
     rows: &[Scored],
 ) -> Result<(), NoMemory>
     requires text { draft.old.text ≡ [] }
     requires ends { draft.old.ends ≡ [] }
-    requires conflict { All (λ b. b.point < length (points_of parts.now)) tally.now.conflict }
-    requires masked { All (λ b. b.point < length (points_of parts.now)) tally.now.masked }
-    requires places { All (λ row. row.place < length (universe parts.now)) rows.now }
-    ensures { OnOk result (HasLines (layout (universe parts.now) parts.now head.now.design head.now.die head.now.logs tally.now rows.now) draft.new.text draft.new.ends) }
+    requires conflict { All (λ b. b.point < N.points names.now) tally.now.conflict }
+    requires masked { All (λ b. b.point < N.points names.now) tally.now.masked }
+    requires places { All (λ row. row.place < N.places names.now) rows.now }
+    ensures { OnOk result (HasLines (layout (N.form names.now) head.now.design head.now.die head.now.logs tally.now rows.now) draft.new.text draft.new.ends) }
 {
-    title(draft, head)?;
+    title_lines(draft, names.title(), head)?;
     totals(draft, tally, rows.len() as u64)?;
-    bit_lines(draft, parts, b"conflict", tally.conflict.as_slice())?;
-    bit_lines(draft, parts, b"masked", tally.masked.as_slice())?;
-    candidate_lines(draft, parts, rows)
+    bit_lines(draft, names, b"conflict", tally.conflict.as_slice())?;
+    bit_lines(draft, names, b"masked", tally.masked.as_slice())?;
+    candidate_lines(draft, names, rows)
 }
 
 // The report of these lines.
-fn written(
+fn written<N: ReportNames>(
     alloc: Global,
-    parts: &Parts,
+    names: &N,
     head: &Head,
     tally: &Tally,
     rows: &[Scored],
 ) -> Result<Report, NoMemory>
-    requires conflict { All (λ b. b.point < length (points_of parts.now)) tally.now.conflict }
-    requires masked { All (λ b. b.point < length (points_of parts.now)) tally.now.masked }
-    requires places { All (λ row. row.place < length (universe parts.now)) rows.now }
-    ensures { IfOk result (λ r. r ≡ layout (universe parts.now) parts.now head.now.design head.now.die head.now.logs tally.now rows.now) }
+    requires conflict { All (λ b. b.point < N.points names.now) tally.now.conflict }
+    requires masked { All (λ b. b.point < N.points names.now) tally.now.masked }
+    requires places { All (λ row. row.place < N.places names.now) rows.now }
+    ensures { IfOk result (λ r. r ≡ layout (N.form names.now) head.now.design head.now.die head.now.logs tally.now rows.now) }
 {
     let bits = tally.conflict.len().saturating_add(tally.masked.len());
     let mut draft = report_draft(alloc, bits, rows.len())?;
-    write_lines(&mut draft, parts, head, tally, rows)?;
+    write_lines(&mut draft, names, head, tally, rows)?;
     Ok(finished(draft))
+}
+
+/// A report in given words: its head, the Conflict and the Masked bits in bit order, and its candidates in their order.
+/// The classes are those that the given expected values make.
+/// Takes time linear in the text and in the bits.
+pub fn make_text_of<N: ReportNames>(
+    alloc: Global,
+    names: &N,
+    head: &Head,
+    expected: &Expected,
+    joined: &Joined,
+    ranked: &Rows<Scored>,
+) -> Result<Report, NoMemory>
+    requires expected { FitsExpected expected.now joined.now }
+    requires patterns { joined.now.patterns ≤ pattern_limit }
+    requires points { joined.now.points ≤ N.points names.now }
+    requires places { All (λ row. row.place < N.places names.now) ranked.now }
+    ensures { (logs : List LogFacts) → StandsFor logs joined.now → IfOk result (λ r. r ≡ text_of.layout_with (N.form names.now) (bits_over joined.now.patterns joined.now.points) head.now.design head.now.die head.now.logs (class_with expected.now logs) ranked.now) }
+{
+    let tally = tally_bits(alloc, expected, joined)?;
+    written(alloc, names, head, &tally, ranked.as_slice())
 }
 
 /// The report of a die: its head, the Conflict and the Masked bits in bit order, and its candidates in their order. The
@@ -137,6 +170,7 @@ pub fn make_text(
     requires places { All (λ row. row.place < length (universe parts.now)) ranked.now }
     ensures { (logs : List LogFacts) → StandsFor logs joined.now → IfOk result (λ r. r ≡ text_of.layout_by_class (universe parts.now) parts.now head.now.design head.now.die head.now.logs (class_with expected.now logs) ranked.now) }
 {
-    let tally = tally_bits(alloc, parts, expected, joined)?;
-    written(alloc, parts, head, &tally, ranked.as_slice())
+    let _ = parts.patterns();
+    let names = PartsNames { parts };
+    make_text_of(alloc, &names, head, expected, joined, ranked)
 }

@@ -58,6 +58,20 @@ impl Joined {
         })
     }
 
+    /// The number of patterns.
+    pub fn patterns(&self) -> u32
+        ensures { result ≡ self.now.patterns }
+    {
+        self.patterns
+    }
+
+    /// The number of points.
+    pub fn points(&self) -> u32
+        ensures { result ≡ self.now.points }
+    {
+        self.points
+    }
+
     /// Joins one more log. The result stands for the logs in any order and with any repeats.
     pub fn add(&mut self, facts: &LogFacts)
         requires { FitsLog self.old.patterns self.old.points facts.now }

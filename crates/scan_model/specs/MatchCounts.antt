@@ -22,19 +22,26 @@ counts_by bits classes fails = record {
   tpsf = count_by (λ b. is_passing (classes b) && fails b) bits;
 }
 
-abbrev pub counts_of : ScanTest → List LogFacts → Fault → Counts
-counts_of t logs f = counts_by (bits_of t) (class t logs) (predicts_fail t f)
-
-abbrev pub scored : ScanTest → List LogFacts → ℕ × Fault → Scored
-scored t logs e = record { place = e.0; counts = counts_of t logs e.1 }
+abbrev pub scored_by : List Bit → (Bit → BitClass) → (Fault → Bit → Bool) → ℕ × Fault → Scored
+scored_by bits classes fails e = record { place = e.0; counts = counts_by bits classes (fails e.1) }
 
 -- it explains at least one failing bit
 abbrev pub is_candidate : Scored → Bool
 is_candidate s = nat_le 1 s.counts.tfsf
 
 -- the faults of a list that explain at least one failing bit, in the order of their places in it
+abbrev pub candidates_by : List Fault → List Bit → (Bit → BitClass) → (Fault → Bit → Bool) → List Scored
+candidates_by faults bits classes fails = filter is_candidate (map (scored_by bits classes fails) (enumerate_from 0 faults))
+
+-- over the bits of a test, their classes by its expected values and the fails that its faults predict
+abbrev pub counts_of : ScanTest → List LogFacts → Fault → Counts
+counts_of t logs f = counts_by (bits_of t) (class t logs) (predicts_fail t f)
+
+abbrev pub scored : ScanTest → List LogFacts → ℕ × Fault → Scored
+scored t logs e = scored_by (bits_of t) (class t logs) (predicts_fail t) e
+
 abbrev pub candidates_among : List Fault → ScanTest → List LogFacts → List Scored
-candidates_among faults t logs = filter is_candidate (map (scored t logs) (enumerate_from 0 faults))
+candidates_among faults t logs = candidates_by faults (bits_of t) (class t logs) (predicts_fail t)
 
 -- those of the universe
 abbrev pub candidates : ScanTest → List LogFacts → List Scored

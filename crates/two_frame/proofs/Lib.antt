@@ -5,5 +5,7 @@ pub mod Transitions
 pub mod NextFrame
 pub mod ShownFails
 pub mod ShownRows
-pub mod SlowPlaces
+pub mod TransitionPlaces
 pub mod BlockReads
+pub mod SlowPlaces
+pub mod FrameLayout

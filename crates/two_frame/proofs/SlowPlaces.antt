@@ -1,50 +1,21 @@
--- The transition fault at a place, in the list of all modelled faults.
-use Rattle.std.proofs.Common.{◌≡◌, ℕ, ◌<◌, ◌++◌, List, length, get_or, Some, None, sym, ◌∙◌, inl, inr, arith}
-use Rattle.std.specs.Prelude.{Contains, filter, slice_get}
-use Rattle.std.proofs.lemmas.List.{length-append}
-use Rattle.std.proofs.lemmas.List.Elements.{Contains-append_cases}
-use Rattle.std.proofs.lemmas.Option.{get_or_from_slice_get, slice_get-get_or}
-use Rattle.scan_model.specs.declared.fault.BridgeKind.{BridgeKind}
-use Rattle.scan_model.specs.declared.fault.CellKind.{CellKind}
+-- The transition faults are the first of all modelled faults, and each has words.
+use Rattle.std.proofs.Common.{◌≡◌, ℕ, ◌+◌, ◌<◌, ◌≤◌, ◌++◌, length, get_or, sym, ◌∙◌, arith}
+use Rattle.std.proofs.lemmas.List.{length-append, get_or_append_left}
 use Rattle.scan_model.specs.declared.fault.Fault.{Fault}
-use Rattle.scan_model.specs.declared.fault.Fault.TheVariants as fault
-use Rattle.scan_model.specs.Netlist.{is_branch, pin_numbers}
+use Rattle.scan_model.specs.declared.fault.Fault.TheVariants.{Stem, Branch, Bridge, Cell}
 use Rattle.scan_model.specs.ScanTest.{ScanTest}
-use Rattle.scan_model.specs.Universe.{universe, stems, branches, bridges, cells}
-use Rattle.scan_model.specs.ReportText.{no_fault}
-use Rattle.fault_universe.proofs.Blocks.{slice_get-left, Contains-at}
-use Rattle.fault_universe.proofs.StemPlaces.{only_stems}
-use Rattle.fault_universe.proofs.BranchPlaces.{branch_owner}
-use Rattle.two_frame.specs.TwoFrame.{transitions}
-use Rattle.two_frame.specs.FrameRows.{transition_at}
+use Rattle.scan_model.specs.Universe.{bridges, cells, universe}
+use Rattle.two_frame.specs.TwoFrame.{transitions, slow_words}
 
--- the list begins the list of all
-pub in_front : (t : ScanTest) (place : ℕ) → place < length (transitions t) → slice_get (universe t) place ≡ slice_get (transitions t) place
-in_front t place lt =
-    slice_get-left (transitions t ++ bridges t) (cells t) place (omega (arith, length-append (transitions t) (bridges t)))
-    ∙ slice_get-left (transitions t) (bridges t) place lt
+pub slow_at : (t : ScanTest) (place : ℕ) (d : Fault) → place < length (transitions t) → get_or (transitions t) place d ≡ get_or (universe t) place d
+slow_at t place d lt =
+    sym (get_or_append_left (transitions t ++ bridges t) (cells t) d place (omega (arith, length-append (transitions t) (bridges t))) ∙ get_or_append_left (transitions t) (bridges t) d place lt)
 
-pub transition_is : (t : ScanTest) (place : ℕ) (f : Fault) → place < length (transitions t) → Some f ≡ slice_get (universe t) place → transition_at t place ≡ f
-transition_is t place f lt is = get_or_from_slice_get (transitions t) place f no_fault (sym (in_front t place lt) ∙ sym is)
+pub slow_in_range : (t : ScanTest) → length (transitions t) ≤ length (universe t)
+slow_in_range t = omega (arith, length-append (transitions t ++ bridges t) (cells t), length-append (transitions t) (bridges t))
 
--- a place below its length is one of the list of all
-pub not_past : (t : ScanTest) (place : ℕ) → place < length (transitions t) → None ≡ slice_get (universe t) place → ⊥
-not_past t place lt is =
-    let apart : None ≡ Some (get_or (transitions t) place no_fault) = is ∙ in_front t place lt ∙ slice_get-get_or (transitions t) place no_fault lt in
-    cc
-
--- it has stems and branches alone
-one_of : (t : ScanTest) (f : Fault) (place : ℕ) → place < length (transitions t) → Some f ≡ slice_get (universe t) place → Contains (transitions t) f
-one_of t f place lt is = Contains-at (transitions t) place f (sym (in_front t place lt) ∙ sym is)
-
-pub no_bridge : (t : ScanTest) (a b : ℕ) (kind : BridgeKind) (place : ℕ) → place < length (transitions t) → Some (fault.Bridge a b kind) ≡ slice_get (universe t) place → ⊥
-no_bridge t a b kind place lt is = elim (Contains-append_cases (stems t) (branches t) (fault.Bridge a b kind) (one_of t (fault.Bridge a b kind) place lt is)) [
-  | inl stem ↦ only_stems t (fault.Bridge a b kind) stem
-  | inr branch ↦ (branch_owner (filter (is_branch t.netlist) (pin_numbers t.netlist)) (fault.Bridge a b kind) branch).2
-]
-
-pub no_cell : (t : ScanTest) (h i : ℕ) (kind : CellKind) (place : ℕ) → place < length (transitions t) → Some (fault.Cell h i kind) ≡ slice_get (universe t) place → ⊥
-no_cell t h i kind place lt is = elim (Contains-append_cases (stems t) (branches t) (fault.Cell h i kind) (one_of t (fault.Cell h i kind) place lt is)) [
-  | inl stem ↦ only_stems t (fault.Cell h i kind) stem
-  | inr branch ↦ (branch_owner (filter (is_branch t.netlist) (pin_numbers t.netlist)) (fault.Cell h i kind) branch).2
-]
+pub words_there : (t : ScanTest) (f : Fault) → 0 < length (slow_words t f)
+words_there t (Stem n v) = omega arith
+words_there t (Branch p v) = omega arith
+words_there t (Bridge a b kind) = omega arith
+words_there t (Cell h i kind) = omega arith

@@ -4,8 +4,8 @@
 -- Frames: second_source, second_value, frame_seen, frame_observed. Fails: frame_response, frame_value, frame_fails,
 -- makes_transition. Report: transitions, frame_class, frame_counts_of, frame_candidates, slow_words, frame_form,
 -- frame_report. Patterns: launch_frame.
-use Rattle.std.specs.Prelude.{ℕ, suc, List, [], ◌∷◌, ◌++◌, map, filter, length, Option, Some, None, Bool, true, false, cond, ◌==◌, ◌&&◌, codes, slice_index_or}
-use Rattle.std.specs.List.{range_with_len, enumerate_from}
+use Rattle.std.specs.Prelude.{ℕ, suc, List, [], ◌∷◌, ◌++◌, map, length, Option, Some, None, Bool, true, false, cond, ◌==◌, ◌&&◌, codes, slice_index_or}
+use Rattle.std.specs.List.{range_with_len}
 use Rattle.scan_model.specs.declared.values.Tri.{Tri}
 use Rattle.scan_model.specs.declared.values.Tri.TheVariants.{Unknown}
 use Rattle.scan_model.specs.declared.circuit.Driver.{Driver}
@@ -31,7 +31,7 @@ use Rattle.scan_model.specs.Response.{data_pin}
 use Rattle.scan_model.specs.Universe.{stems, branches}
 use Rattle.scan_model.specs.Coverage.{bits_of}
 use Rattle.scan_model.specs.Classes.{class_of}
-use Rattle.scan_model.specs.MatchCounts.{counts_by, is_candidate}
+use Rattle.scan_model.specs.MatchCounts.{counts_by, candidates_by}
 use Rattle.scan_model.specs.Ranking.{ranked}
 use Rattle.scan_model.specs.ReportText.{ReportForm, point_words, stem_site, branch_site, fault_words, no_fault, layout_with, joined}
 use Rattle.scan_model.specs.PatternText.{PatternFrame}
@@ -139,12 +139,9 @@ frame_class t logs b = class_of logs (frame_value t None b) b
 abbrev pub frame_counts_of : ScanTest → List LogFacts → Fault → Counts
 frame_counts_of t logs f = counts_by (bits_of t) (frame_class t logs) (frame_fails t f)
 
-abbrev pub frame_scored : ScanTest → List LogFacts → ℕ × Fault → Scored
-frame_scored t logs e = record { place = e.0; counts = frame_counts_of t logs e.1 }
-
 -- those that explain at least one failing bit, in the order of their places
 abbrev pub frame_candidates : ScanTest → List LogFacts → List Scored
-frame_candidates t logs = filter is_candidate (map (frame_scored t logs) (enumerate_from 0 (transitions t)))
+frame_candidates t logs = candidates_by (transitions t) (bits_of t) (frame_class t logs) (frame_fails t)
 
 -- ---- the report
 

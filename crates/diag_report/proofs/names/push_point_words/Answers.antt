@@ -2,7 +2,7 @@ use Rattle.std.proofs.Common.{subst}
 use Rattle.scan_model.specs.declared.parts.Point.{Point}
 use Rattle.scan_model.specs.ScanTest.{IsPoint}
 use Rattle.scan_model.proofs.Outputs.{output_in_range}
-use Rattle.diag_report.proofs.lines.push_point.Goals as goal
+use Rattle.diag_report.proofs.names.push_point_words.Goals as goal
 
 pub net_name-requires : goal.net_name-requires
 net_name-requires c =

@@ -1,4 +1,4 @@
-use Rattle.std.proofs.Common.{◌≡◌, ◌≤◌, ℕ, length, sym, subst, arith}
+use Rattle.std.proofs.Common.{◌≤◌, length, sym, subst, arith}
 use Rattle.scan_model.specs.declared.parts.Pair.{Pair}
 use Rattle.std.specs.Prelude.{List}
 use Rattle.fault_universe.proofs.BridgePlaces.{length-bridges_of, few_bridges}

@@ -19,7 +19,7 @@ returns c =
     let there : pin ≡ pin_at t.netlist c.args.pin = get_or_default t.netlist.pins c.args.pin past no_pin c.requires in
     on_ok_weaker c.push_branch_end.result
     (λ done.
-        done
-        ∙ rw (c.in_ok-push_word.ensures, c.in_ok-append.ensures.ok, c.net_name.ensures, c.as_slice.ensures, c.pins.ensures.value, c.circuit.ensures.value)
-        (words_are line (codes "branch") (name_of t pin.net) (branch_words t pin.place) ∙ ap (λ (p : Pin). line ++ spaced (codes "branch" ∷ name_of t p.net ∷ branch_words t p.place)) there))
+    done
+    ∙ rw (c.in_ok-push_word.ensures, c.in_ok-append.ensures.ok, c.net_name.ensures, c.as_slice.ensures, c.pins.ensures.value, c.circuit.ensures.value)
+    (words_are line (codes "branch") (name_of t pin.net) (branch_words t pin.place) ∙ ap (λ (p : Pin). line ++ spaced (codes "branch" ∷ name_of t p.net ∷ branch_words t p.place)) there))
     c.push_branch_end.ensures

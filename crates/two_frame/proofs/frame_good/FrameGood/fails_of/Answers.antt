@@ -8,7 +8,7 @@ use Rattle.scan_model.specs.Coverage.{bit_of}
 use Rattle.packed_sim.specs.Belongs.{cone_gates}
 use Rattle.two_frame.specs.TwoFrame.{frame_fails, makes_transition}
 use Rattle.two_frame.specs.FrameRows.{transition_at}
-use Rattle.two_frame.proofs.SlowPlaces.{transition_is, not_past, no_bridge, no_cell}
+use Rattle.two_frame.proofs.TransitionPlaces.{transition_is, not_past, no_bridge, no_cell}
 use Rattle.two_frame.proofs.ShownFails.{unlaunched}
 use Rattle.two_frame.proofs.frame_good.FrameGood.fails_of.Goals as goal
 
