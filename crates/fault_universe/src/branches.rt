@@ -32,7 +32,7 @@ pub(crate) fn push_branches(faults: &mut Rows<Fault>, parts: &Parts) -> Result<(
 }
 
 /// The number of branch faults.
-pub(crate) fn branch_count(parts: &Parts) -> u32
+pub fn branch_count(parts: &Parts) -> u32
     ensures count { result ≡ length (branches parts.now) }
     ensures few { length (branches parts.now) ≤ 524288 }
 {

@@ -25,7 +25,7 @@ pub(crate) fn push_stems(faults: &mut Rows<Fault>, parts: &Parts) -> Result<(), 
 }
 
 /// The number of stem faults.
-pub(crate) fn stem_count(parts: &Parts) -> u32
+pub fn stem_count(parts: &Parts) -> u32
     ensures count { result ≡ length (stems parts.now) }
     ensures few { length (stems parts.now) ≤ 131072 }
     ensures fits { IsScanTest parts.now }

@@ -67,7 +67,7 @@ fn is_pin_of(parts: &Parts, pin: u32, point: Point) -> bool
 }
 
 /// Whether a pin is the one that point k sees.
-fn is_pin_at(parts: &Parts, pin: u32, k: usize) -> bool
+pub fn is_pin_at(parts: &Parts, pin: u32, k: usize) -> bool
     requires pin { pin < length parts.now.netlist.pins }
     requires point { k < length (points_of parts.now) }
     ensures { result ≡ place_is_point parts.now (pin_at parts.now.netlist pin).place (point_at parts.now k) }

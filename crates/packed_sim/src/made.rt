@@ -43,7 +43,7 @@ pub(crate) fn point_of(parts: &Parts, k: usize) -> Point
 }
 
 /// The net that the data pin of a cell sees.
-pub(crate) fn data_net(circuit: &Circuit, cell: u32) -> u32
+pub fn data_net(circuit: &Circuit, cell: u32) -> u32
     requires cell { cell < length circuit.now.nets }
     requires flop { IsFlop (driver_of circuit.now cell) }
     ensures value { result ≡ (pin_at circuit.now (data_pin circuit.now cell)).net }

@@ -81,7 +81,8 @@ fn sensed(circuit: &Circuit, values: &[Packed], kind: GateKind, gate: u32, row: 
     none.or(one.and(in_the_way(kind, row)))
 }
 
-pub(crate) fn net_of_pin(circuit: &Circuit, pin: u32) -> u32
+/// The net that a pin sees.
+pub fn net_of_pin(circuit: &Circuit, pin: u32) -> u32
     requires { pin < length circuit.now.pins }
     ensures value { result ≡ (pin_at circuit.now pin).net }
     ensures in_range { result < length circuit.now.nets }
@@ -90,7 +91,7 @@ pub(crate) fn net_of_pin(circuit: &Circuit, pin: u32) -> u32
 }
 
 /// The gate of which a pin is an operand, with its kind.
-pub(crate) fn gate_of_pin(circuit: &Circuit, pin: u32) -> Option<(u32, GateKind)>
+pub fn gate_of_pin(circuit: &Circuit, pin: u32) -> Option<(u32, GateKind)>
     requires { pin < length circuit.now.pins }
     ensures { MatchOption result ((n i : ℕ) → (pin_at circuit.now pin).place ≡ place.Operand n i → is_gate circuit.now n ≡ false) (λ g. IsGateOfPin circuit.now pin g.0 g.1) }
 {

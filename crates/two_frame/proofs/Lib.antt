@@ -2,5 +2,10 @@ pub mod SlowStems
 pub mod SlowOperands
 pub mod SlowPins
 pub mod Transitions
+pub mod NextFrame
+pub mod ShownFails
+pub mod ShownRows
+pub mod TransitionPlaces
+pub mod BlockReads
 pub mod SlowPlaces
 pub mod FrameLayout

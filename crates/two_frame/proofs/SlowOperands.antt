@@ -2,7 +2,7 @@
 use mathlib.Core.Path.{fun_ext}
 use Rattle.std.proofs.Common.{◌≡◌, ◌≢◌, ◌⊎◌, ℕ, ◌+◌, ◌<◌, Bool, true, false, cond, eqb, ◌&&◌, List, [], ◌∷◌, length, map, Option, Some, None, refl, sym, ap, subst, ◌∙◌, inl, inr, arith}
 use Rattle.std.specs.Prelude.{Contains, unwrap_or}
-use Rattle.std.proofs.lemmas.Bool.{cases_Bool, cases_eq, both_ways, eq-eqb, ne_eqb}
+use Rattle.std.proofs.lemmas.Bool.{cases_eq, both_ways, eq-eqb, ne_eqb}
 use Rattle.scan_model.specs.declared.values.Tri.{Tri}
 use Rattle.scan_model.specs.declared.values.Tri.TheVariants.{Zero, One, Unknown}
 use Rattle.scan_model.specs.declared.circuit.Driver.{Driver}
@@ -15,7 +15,7 @@ use Rattle.scan_model.specs.declared.fault.Stuck.TheVariants as stuck
 use Rattle.scan_model.specs.declared.fault.Fault.{Fault}
 use Rattle.scan_model.specs.declared.fault.Fault.TheVariants as fault
 use Rattle.scan_model.specs.declared.parts.Point.{Point}
-use Rattle.scan_model.specs.Values.{IsAtLeast, AreAtLeast, are_opposite, tri_not, gate_value}
+use Rattle.scan_model.specs.Values.{IsAtLeast, AreAtLeast, are_opposite, gate_value}
 use Rattle.scan_model.specs.Netlist.{Netlist, IsNetlist, IsPlacedAt, reads, is_gate, is_gate_driver, driver_of, net_at, pin_at, operands}
 use Rattle.scan_model.specs.Walks.{IsEvaluationOrder}
 use Rattle.scan_model.specs.Cone.{in_fan_in}
@@ -24,15 +24,16 @@ use Rattle.scan_model.specs.Faults.{stuck_value}
 use Rattle.scan_model.specs.NetValue.{Forced, seen, driven, net_node, values_of, nothing_forced, good_value}
 use Rattle.scan_model.specs.Suspect.{observed_net}
 use Rattle.scan_model.specs.Force.{force}
-use Rattle.scan_model.specs.Masks.{point_pin, operand_is_point, place_is_point}
+use Rattle.scan_model.specs.Masks.{point_pin, operand_is_point, place_is_point, flip_shows_from}
 use Rattle.scan_model.proofs.NetValues.{values_of-is}
 use Rattle.scan_model.proofs.Definite.{IsAtLeast-refl, gate-at_least}
 use Rattle.scan_model.proofs.FanSweeps.{is_read, reads_in_range}
 use Rattle.scan_model.proofs.counting.Valuations.{valuation_is}
 use Rattle.scan_model.proofs.counting.Branches.{force_pin, branch_is_force, no_loop}
-use Rattle.scan_model.proofs.counting.OneSite.{opposite_is_not, unflipped, force_outside}
+use Rattle.scan_model.proofs.counting.OneSite.{unflipped, force_outside}
+use Rattle.scan_model.proofs.counting.Flips.{force_shows_from}
 use Rattle.scan_model.proofs.counting.Shown.{point_pin-net, observed_net-in_range, place_is_point-is}
-use Rattle.two_frame.specs.TwoFrame.{slowed, changes, second_source, frame_seen, second_driven, second_node, second_value, frame_fails_at, flip_shows_from}
+use Rattle.two_frame.specs.TwoFrame.{slowed, changes, second_source, frame_seen, second_driven, second_node, second_value, frame_fails_at}
 use Rattle.two_frame.proofs.SlowStems.{unmade_stays, meets, none_is}
 
 -- a transition that is made has the first value
@@ -160,13 +161,6 @@ module _ (t : ScanTest) (sound : IsScanTest t) (order : List ℕ) (ordered : IsE
   V_is : (n : ℕ) → n < length t.netlist.nets → V n ≡ values_of t.netlist (second_source t w) (force g (output (slowed v (good_value t w m) (good2 m)))) n
   V_is n lt = forced_own (slowed v (good_value t w m) (good2 m)) (ap (slowed v (good_value t w m)) (sym m_is)) n lt ∙ as_gate (slowed v (good_value t w m) (good2 m)) n lt
 
-  -- an output that is forced shows where it is the other value and its flip shows
-  force_shows : (y : Tri) (o : ℕ) → o < length t.netlist.nets → are_opposite (good2 o) (values_of t.netlist (second_source t w) (force g y) o) ≡ (are_opposite (good2 g) y && flip_shows_from t.netlist (second_source t w) g o)
-  force_shows y o lt = elim (cases_Bool (are_opposite (good2 g) y)) [
-    | inl flips ↦ rw flips (ap (λ (z : Tri). are_opposite (good2 o) (values_of t.netlist (second_source t w) (force g z) o)) (opposite_is_not (good2 g) y flips))
-    | inr miss ↦ rw miss (unflipped t.netlist order net_sound ordered (second_source t w) g y miss o lt)
-  ]
-
   good_gate : good2 g ≡ gate_value kind (map (seen t.netlist nothing_forced good2) (operands t.netlist g))
   good_gate = values_of-is t.netlist order (second_source t w) nothing_forced ordered g stands.0 ∙ ap (λ (d : Driver). driven t.netlist (second_source t w) nothing_forced d good2 g) drives
 
@@ -180,7 +174,7 @@ module _ (t : ScanTest) (sound : IsScanTest t) (order : List ℕ) (ordered : IsE
   ]
 
   at_net : (o : ℕ) → o < length t.netlist.nets → (b : Bool) → changes v (good_value t w m) (good2 m) ≡ b → are_opposite (good2 o) (V o) ≡ (b && (are_opposite (good2 g) (output (stuck_value v)) && flip_shows_from t.netlist (second_source t w) g o))
-  at_net o lt true made = ap (are_opposite (good2 o)) (V_is o lt ∙ ap (λ (x : Tri). values_of t.netlist (second_source t w) (force g (output x)) o) (made_stuck v (good_value t w m) (good2 m) made)) ∙ force_shows (output (stuck_value v)) o lt
+  at_net o lt true made = ap (are_opposite (good2 o)) (V_is o lt ∙ ap (λ (x : Tri). values_of t.netlist (second_source t w) (force g (output x)) o) (made_stuck v (good_value t w m) (good2 m) made)) ∙ force_shows_from t.netlist order net_sound ordered (second_source t w) g (output (stuck_value v)) o lt
   at_net o lt false unmade =
       let x : Tri = slowed v (good_value t w m) (good2 m) in
       ap (are_opposite (good2 o)) (V_is o lt) ∙ unflipped t.netlist order net_sound ordered (second_source t w) g (output x) (output_stays x (unmade_stays v (good_value t w m) (good2 m) unmade)) o lt

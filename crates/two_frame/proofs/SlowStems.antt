@@ -19,7 +19,7 @@ use Rattle.scan_model.specs.ScanTest.{ScanTest, IsScanTest, IsPoint}
 use Rattle.scan_model.specs.NetValue.{Forced, seen, driven, net_node, values_of, nothing_forced, good_value}
 use Rattle.scan_model.specs.Suspect.{observed_net}
 use Rattle.scan_model.specs.Force.{force}
-use Rattle.scan_model.specs.Masks.{point_pin}
+use Rattle.scan_model.specs.Masks.{point_pin, flip_shows_from}
 use Rattle.scan_model.proofs.Along.{IsLocal, settled}
 use Rattle.scan_model.proofs.NetValues.{values_of-is}
 use Rattle.scan_model.proofs.FanSweeps.{reads_in_range}
@@ -28,7 +28,7 @@ use Rattle.scan_model.proofs.counting.Valuations.{valuation_is}
 use Rattle.scan_model.proofs.counting.Branches.{no_loop}
 use Rattle.scan_model.proofs.counting.OneSite.{unflipped, force_outside}
 use Rattle.scan_model.proofs.counting.Shown.{point_pin-net, observed_net-in_range}
-use Rattle.two_frame.specs.TwoFrame.{slowed, changes, second_of, second_source, slow_pin, slow_stem, frame_seen, second_driven, second_node, second_value, frame_observed, frame_fails_at, flip_shows_from}
+use Rattle.two_frame.specs.TwoFrame.{slowed, changes, second_of, second_source, slow_pin, slow_stem, frame_seen, second_driven, second_node, second_value, frame_observed, frame_fails_at}
 
 -- ---- one site
 

@@ -21,12 +21,12 @@ use Rattle.scan_model.specs.declared.logs.BitClass.{BitClass}
 use Rattle.scan_model.specs.declared.logs.Counts.{Counts}
 use Rattle.scan_model.specs.declared.logs.LogFacts.{LogFacts}
 use Rattle.scan_model.specs.declared.logs.Scored.{Scored}
-use Rattle.scan_model.specs.Values.{is_zero, is_one, are_opposite, tri_and, tri_or, tri_not, gate_value}
+use Rattle.scan_model.specs.Values.{is_zero, is_one, are_opposite, tri_and, tri_or, gate_value}
 use Rattle.scan_model.specs.Netlist.{Netlist, pin_at, driver_of, operands}
 use Rattle.scan_model.specs.Walks.{along}
 use Rattle.scan_model.specs.ChainShift.{value_at}
 use Rattle.scan_model.specs.ScanTest.{ScanTest, points_of, point_at}
-use Rattle.scan_model.specs.NetValue.{values_of, source_of, nothing_forced, good_value}
+use Rattle.scan_model.specs.NetValue.{source_of, good_value}
 use Rattle.scan_model.specs.Response.{data_pin}
 use Rattle.scan_model.specs.Universe.{stems, branches}
 use Rattle.scan_model.specs.Coverage.{bits_of}
@@ -35,7 +35,6 @@ use Rattle.scan_model.specs.MatchCounts.{counts_by, candidates_by}
 use Rattle.scan_model.specs.Ranking.{ranked}
 use Rattle.scan_model.specs.ReportText.{ReportForm, point_words, stem_site, branch_site, fault_words, no_fault, layout_with, joined}
 use Rattle.scan_model.specs.PatternText.{PatternFrame}
-use Rattle.scan_model.specs.Force.{force}
 use Rattle.scan_model.specs.Masks.{point_pin}
 
 -- ---- one site
@@ -127,10 +126,6 @@ makes_transition t (fault.Stem n v) w = net_changes t v w n
 makes_transition t (fault.Branch p v) w = net_changes t v w (pin_at t.netlist p).net
 makes_transition t (fault.Bridge a b kind) w = false
 makes_transition t (fault.Cell h c kind) w = false
-
--- over the values of a circuit under a source, a flip of net n shows at net o
-abbrev pub flip_shows_from : Netlist → (ℕ → Tri) → ℕ → ℕ → Bool
-flip_shows_from c s n o = are_opposite (values_of c s nothing_forced o) (values_of c s (force n (tri_not (values_of c s nothing_forced n))) o)
 
 -- ---- transition faults and their counts
 

@@ -13,9 +13,9 @@ ghost use Rattle.scan_model.specs.Faults.{stuck_value};
 ghost use Rattle.scan_model.specs.NetValue.{seen, values_of, nothing_forced, good_value};
 ghost use Rattle.scan_model.specs.Coverage.{bit_of};
 ghost use Rattle.scan_model.specs.Suspect.{observed_net};
-ghost use Rattle.scan_model.specs.Masks.{place_is_point};
+ghost use Rattle.scan_model.specs.Masks.{flip_shows_from, place_is_point};
 ghost use Rattle.scan_model.proofs.counting.Branches.{force_pin};
-ghost use Rattle.two_frame.specs.TwoFrame.{changes, second_source, second_value, frame_fails_at, frame_fails, makes_transition, flip_shows_from};
+ghost use Rattle.two_frame.specs.TwoFrame.{changes, second_source, second_value, frame_fails_at, frame_fails, makes_transition};
 
 use scan_model::Parts;
 

@@ -1,11 +1,18 @@
 //! Two-frame patterns and transition faults.
 #![tactic(auto)]
 
+mod expected;
+mod fails;
+mod frame_good;
 mod laws;
 mod names;
 mod reader;
+mod second;
 mod text;
 
+pub use expected::frame_expected;
+pub use fails::slow_len;
+pub use frame_good::{FrameGood, FrameScratch};
 pub use laws::{only_transitions, second_frame, slow_operands, slow_pins, slow_stems};
 pub use reader::read_two_frame;
 pub use text::frame_text;
