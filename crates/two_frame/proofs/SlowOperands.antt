@@ -1,8 +1,8 @@
 -- A slow operand of a gate is the operand stuck at the first value in the second frame, where its net changes the transition.
 use mathlib.Core.Path.{fun_ext}
-use Rattle.std.proofs.Common.{◌≡◌, ◌≢◌, ◌⊎◌, ℕ, ◌+◌, ◌<◌, Bool, true, false, cond, eqb, ◌&&◌, List, [], ◌∷◌, length, map, Option, Some, None, refl, sym, ap, subst, ◌∙◌, inl, inr, arith}
-use Rattle.std.specs.Prelude.{Contains, unwrap_or}
-use Rattle.std.proofs.lemmas.Bool.{cases_Bool, cases_eq, both_ways, eq-eqb, ne_eqb}
+use Rattle.std.proofs.Common.{◌≡◌, ◌⊎◌, ℕ, ◌+◌, ◌<◌, Bool, true, false, eqb, ◌&&◌, List, [], ◌∷◌, length, map, Option, Some, None, refl, sym, ap, subst, ◌∙◌, inl, inr}
+use Rattle.std.specs.Prelude.{Contains}
+use Rattle.std.proofs.lemmas.Bool.{cases_Bool, cases_eq, eq-eqb, ne_eqb}
 use Rattle.scan_model.specs.declared.values.Tri.{Tri}
 use Rattle.scan_model.specs.declared.values.Tri.TheVariants.{Zero, One, Unknown}
 use Rattle.scan_model.specs.declared.circuit.Driver.{Driver}
@@ -15,13 +15,12 @@ use Rattle.scan_model.specs.declared.fault.Stuck.TheVariants as stuck
 use Rattle.scan_model.specs.declared.fault.Fault.{Fault}
 use Rattle.scan_model.specs.declared.fault.Fault.TheVariants as fault
 use Rattle.scan_model.specs.declared.parts.Point.{Point}
-use Rattle.scan_model.specs.Values.{IsAtLeast, AreAtLeast, are_opposite, tri_not, gate_value}
+use Rattle.scan_model.specs.Values.{IsAtLeast, AreAtLeast, are_opposite, gate_value}
 use Rattle.scan_model.specs.Netlist.{Netlist, IsNetlist, IsPlacedAt, reads, is_gate, is_gate_driver, driver_of, net_at, pin_at, operands}
 use Rattle.scan_model.specs.Walks.{IsEvaluationOrder}
-use Rattle.scan_model.specs.Cone.{in_fan_in}
 use Rattle.scan_model.specs.ScanTest.{ScanTest, IsScanTest, IsPoint}
 use Rattle.scan_model.specs.Faults.{stuck_value}
-use Rattle.scan_model.specs.NetValue.{Forced, seen, driven, net_node, values_of, nothing_forced, good_value}
+use Rattle.scan_model.specs.NetValue.{seen, driven, values_of, nothing_forced, good_value}
 use Rattle.scan_model.specs.Suspect.{observed_net}
 use Rattle.scan_model.specs.Force.{force}
 use Rattle.scan_model.specs.Masks.{point_pin, operand_is_point, place_is_point}
@@ -32,7 +31,7 @@ use Rattle.scan_model.proofs.counting.Valuations.{valuation_is}
 use Rattle.scan_model.proofs.counting.Branches.{force_pin, branch_is_force, no_loop}
 use Rattle.scan_model.proofs.counting.OneSite.{opposite_is_not, unflipped, force_outside}
 use Rattle.scan_model.proofs.counting.Shown.{point_pin-net, observed_net-in_range, place_is_point-is}
-use Rattle.two_frame.specs.TwoFrame.{slowed, changes, second_source, frame_seen, second_driven, second_node, second_value, frame_fails_at, flip_shows_from}
+use Rattle.two_frame.specs.TwoFrame.{slowed, changes, second_source, frame_seen, second_driven, second_value, frame_fails_at, flip_shows_from}
 use Rattle.two_frame.proofs.SlowStems.{unmade_stays, meets, none_is}
 
 -- a transition that is made has the first value
@@ -82,17 +81,23 @@ below One Zero h = absurd (let e : One ≡ Zero = h in cc)
 -- operands of which one is another
 pins_above : (c : Netlist) (q : ℕ) (x : Tri) (f : ℕ → Tri) → IsAtLeast x (f (pin_at c q).net) → (ps : List ℕ) → AreAtLeast (map (seen c (force_pin q x) f) ps) (map (seen c nothing_forced f) ps)
 pins_above c q x f more [] = tt
-pins_above c q x f more (p ∷ ps) = (elim (cases_eq p q) [
-  | inl is ↦ rw (eq-eqb p q is) (subst (λ (k : ℕ). IsAtLeast x (f (pin_at c k).net)) (sym is) more)
-  | inr other ↦ rw (ne_eqb p q other) (IsAtLeast-refl (f (pin_at c p).net))
-], pins_above c q x f more ps)
+pins_above c q x f more (p ∷ ps) = (
+  elim (cases_eq p q) [
+    | inl is ↦ rw (eq-eqb p q is) (subst (λ (k : ℕ). IsAtLeast x (f (pin_at c k).net)) (sym is) more)
+    | inr other ↦ rw (ne_eqb p q other) (IsAtLeast-refl (f (pin_at c p).net))
+  ],
+  pins_above c q x f more ps,
+)
 
 pins_below : (c : Netlist) (q : ℕ) (x : Tri) (f : ℕ → Tri) → IsAtLeast (f (pin_at c q).net) x → (ps : List ℕ) → AreAtLeast (map (seen c nothing_forced f) ps) (map (seen c (force_pin q x) f) ps)
 pins_below c q x f less [] = tt
-pins_below c q x f less (p ∷ ps) = (elim (cases_eq p q) [
-  | inl is ↦ rw (eq-eqb p q is) (subst (λ (k : ℕ). IsAtLeast (f (pin_at c k).net) x) (sym is) less)
-  | inr other ↦ rw (ne_eqb p q other) (IsAtLeast-refl (f (pin_at c p).net))
-], pins_below c q x f less ps)
+pins_below c q x f less (p ∷ ps) = (
+  elim (cases_eq p q) [
+    | inl is ↦ rw (eq-eqb p q is) (subst (λ (k : ℕ). IsAtLeast (f (pin_at c k).net) x) (sym is) less)
+    | inr other ↦ rw (ne_eqb p q other) (IsAtLeast-refl (f (pin_at c p).net))
+  ],
+  pins_below c q x f less ps,
+)
 
 module _ (t : ScanTest) (sound : IsScanTest t) (order : List ℕ) (ordered : IsEvaluationOrder t.netlist order) (w q g i : ℕ) (kind : GateKind) (v : Stuck) (q_lt : q < length t.netlist.pins)
     (at : (pin_at t.netlist q).place ≡ place.Operand g i) (drives : driver_of t.netlist g ≡ Gate kind) where

@@ -1,7 +1,7 @@
 -- A slow stem is a flip of its net in the second frame, where it changes the transition.
-use Rattle.std.proofs.Common.{◌≡◌, ◌≢◌, ℕ, zero, suc, ◌+◌, ◌<◌, Bool, true, false, cond, eqb, ◌&&◌, List, [], ◌∷◌, length, map, Option, Some, None, refl, sym, ap, subst, ◌∙◌, inl, inr, arith}
+use Rattle.std.proofs.Common.{◌≡◌, ℕ, ◌<◌, Bool, true, false, cond, ◌&&◌, List, [], ◌∷◌, length, map, Option, Some, None, refl, sym, ap, ◌∙◌, inl, inr, arith}
 use Rattle.std.specs.Prelude.{Contains}
-use Rattle.std.proofs.lemmas.Bool.{cases_Bool, cases_eq, both_ways, eq-eqb, ne_eqb, eqb-true}
+use Rattle.std.proofs.lemmas.Bool.{cases_eq, eq-eqb, ne_eqb}
 use Rattle.scan_model.specs.declared.values.Tri.{Tri}
 use Rattle.scan_model.specs.declared.values.Tri.TheVariants.{Zero, One, Unknown}
 use Rattle.scan_model.specs.declared.circuit.Driver.{Driver}
@@ -12,14 +12,12 @@ use Rattle.scan_model.specs.declared.fault.Fault.{Fault}
 use Rattle.scan_model.specs.declared.fault.Fault.TheVariants as fault
 use Rattle.scan_model.specs.declared.parts.Point.{Point}
 use Rattle.scan_model.specs.Values.{are_opposite, tri_not, gate_value}
-use Rattle.scan_model.specs.Netlist.{Netlist, IsNetlist, reads, is_gate, is_gate_driver, driver_of, pin_at, operands}
-use Rattle.scan_model.specs.Walks.{IsEvaluationOrder, along}
-use Rattle.scan_model.specs.Cone.{in_fan_in}
+use Rattle.scan_model.specs.Netlist.{Netlist, IsNetlist, reads, is_gate_driver, driver_of, pin_at, operands}
+use Rattle.scan_model.specs.Walks.{IsEvaluationOrder}
 use Rattle.scan_model.specs.ScanTest.{ScanTest, IsScanTest, IsPoint}
-use Rattle.scan_model.specs.NetValue.{Forced, seen, driven, net_node, values_of, nothing_forced, good_value}
+use Rattle.scan_model.specs.NetValue.{driven, values_of, nothing_forced, good_value}
 use Rattle.scan_model.specs.Suspect.{observed_net}
 use Rattle.scan_model.specs.Force.{force}
-use Rattle.scan_model.specs.Masks.{point_pin}
 use Rattle.scan_model.proofs.Along.{IsLocal, settled}
 use Rattle.scan_model.proofs.NetValues.{values_of-is}
 use Rattle.scan_model.proofs.FanSweeps.{reads_in_range}
@@ -28,7 +26,7 @@ use Rattle.scan_model.proofs.counting.Valuations.{valuation_is}
 use Rattle.scan_model.proofs.counting.Branches.{no_loop}
 use Rattle.scan_model.proofs.counting.OneSite.{unflipped, force_outside}
 use Rattle.scan_model.proofs.counting.Shown.{point_pin-net, observed_net-in_range}
-use Rattle.two_frame.specs.TwoFrame.{slowed, changes, second_of, second_source, slow_pin, slow_stem, frame_seen, second_driven, second_node, second_value, frame_observed, frame_fails_at, flip_shows_from}
+use Rattle.two_frame.specs.TwoFrame.{slowed, changes, second_source, slow_pin, slow_stem, second_driven, second_node, second_value, frame_fails_at, flip_shows_from}
 
 -- ---- one site
 
@@ -139,8 +137,8 @@ module _ (t : ScanTest) (sound : IsScanTest t) (order : List ℕ) (ordered : IsE
     drives : second_driven t F w (driver_of t.netlist m) V m ≡ good2 m
     drives =
         let same : second_driven t F w (driver_of t.netlist m) V m ≡ second_driven t F w (driver_of t.netlist m) good2 m = driven_local t w F m V good2 (driver_of t.netlist m) (λ r gate read.
-            forced_own r (reads_in_range t.netlist m r net_sound m_lt read)
-            ∙ force_outside t.netlist order net_sound ordered (second_source t w) m (V m) r (reads_in_range t.netlist m r net_sound m_lt read) (no_loop t.netlist order net_sound ordered m r m_lt gate read)) in
+        forced_own r (reads_in_range t.netlist m r net_sound m_lt read)
+        ∙ force_outside t.netlist order net_sound ordered (second_source t w) m (V m) r (reads_in_range t.netlist m r net_sound m_lt read) (no_loop t.netlist order net_sound ordered m r m_lt gate read)) in
         same ∙ stem_driven m v Unknown m good2 (driver_of t.netlist m) ∙ free (driver_of t.netlist m)
         ∙ sym (values_of-is t.netlist order (second_source t w) nothing_forced ordered m m_lt)
       where
