@@ -220,10 +220,5 @@ pub fn compact_expected(
 {
     let rows = GoodRows::make(alloc, parts)?;
     let ShownWords { known, ones } = shown_words(alloc, parts, compact, &rows)?;
-    Ok(Expected::of_words(
-        parts.patterns().len() as u32,
-        compact.points(),
-        known,
-        ones,
-    ))
+    Ok(Expected::of_words(parts.patterns().len() as u32, compact.points(), known, ones))
 }

@@ -124,26 +124,33 @@ module _ (t : ScanTest) (sound : IsScanTest t) (order : List ℕ) (ordered : IsE
     -- where both nets take the value it is the fault-free one of one of them
     both_take : ((y z : Bool) → takes kind y z ≡ (y || z)) → (x ≡ good a) ⊎ (x ≡ good b) → (n : ℕ) × IsForceOf (fault.Bridge a b kind) n x
     both_take same (inl is) =
-        let off : A ≡ false = ap (are_opposite (good a)) is ∙ not_opposite_itself (good a) in
-        (b, record {
-          values = λ o lt. values_as (λ y z. y || z) same o ∙ one_of_two t.netlist order net_sound ordered s a b x site.0 is free.0 o lt;
-          masks = λ shows. rw (same (eqb a a) (eqb a b), same (eqb b a) (eqb b b), eq-eqb a a refl, eq-eqb b b refl, or_true (eqb b a), off) (or_false (B && shows b));
-        })
+        let off : A ≡ false = ap (are_opposite (good a)) is ∙ not_opposite_itself (good a) in (
+          b,
+          record {
+            values = λ o lt. values_as (λ y z. y || z) same o ∙ one_of_two t.netlist order net_sound ordered s a b x site.0 is free.0 o lt;
+            masks = λ shows. rw (same (eqb a a) (eqb a b), same (eqb b a) (eqb b b), eq-eqb a a refl, eq-eqb b b refl, or_true (eqb b a), off) (or_false (B && shows b));
+          },
+        )
     both_take same (inr is) =
-        let off : B ≡ false = ap (are_opposite (good b)) is ∙ not_opposite_itself (good b) in
-        (a, record {
-          values = λ o lt. values_as (λ y z. y || z) same o ∙ ap (λ (F : Forced). values_of t.netlist s F o) (bridge_other a b x) ∙ one_of_two t.netlist order net_sound ordered s b a x site.1 is free.1 o lt;
-          masks = λ shows. rw (same (eqb a a) (eqb a b), same (eqb b a) (eqb b b), eq-eqb a a refl, eq-eqb b b refl, or_true (eqb b a), off) (or_false (A && shows a));
-        })
+        let off : B ≡ false = ap (are_opposite (good b)) is ∙ not_opposite_itself (good b) in (
+          a,
+          record {
+            values = λ o lt. values_as (λ y z. y || z) same o ∙ ap (λ (F : Forced). values_of t.netlist s F o) (bridge_other a b x) ∙ one_of_two t.netlist order net_sound ordered s b a x site.1 is free.1 o lt;
+            masks = λ shows. rw (same (eqb a a) (eqb a b), same (eqb b a) (eqb b b), eq-eqb a a refl, eq-eqb b b refl, or_true (eqb b a), off) (or_false (A && shows a));
+          },
+        )
 
     apart : a ≢ b
     apart same = both_ways (in_fan_in t.netlist b a) free.0 (ap (in_fan_in t.netlist b) same ∙ in_own t.netlist b)
 
     second_takes : ((y z : Bool) → takes kind y z ≡ z) → (n : ℕ) × IsForceOf (fault.Bridge a b kind) n x
-    second_takes same = (b, record {
-      values = λ o lt. values_as (λ y z. z) same o;
-      masks = λ shows. rw (same (eqb a a) (eqb a b), same (eqb b a) (eqb b b), ne_eqb a b apart, eq-eqb b b refl) (or_false (B && shows b));
-    })
+    second_takes same = (
+      b,
+      record {
+        values = λ o lt. values_as (λ y z. z) same o;
+        masks = λ shows. rw (same (eqb a a) (eqb a b), same (eqb b a) (eqb b b), ne_eqb a b apart, eq-eqb b b refl) (or_false (B && shows b));
+      },
+    )
 
     bridge_by : (k : BridgeKind) → k ≡ kind → (n : ℕ) × IsForceOf (fault.Bridge a b kind) n x
     bridge_by Dominant is = both_take (λ y z. ap (λ (k : BridgeKind). takes k y z) (sym is)) (one_site kind (good a) (good b))
