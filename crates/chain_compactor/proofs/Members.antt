@@ -1,11 +1,11 @@
 -- What stands behind a compact point.
-use Rattle.std.proofs.Common.{◌≡◌, ℕ, ◌+◌, ◌-◌, ◌<◌, Bool, true, false, ltb, List, [], ◌∷◌, ◌++◌, length, take, map, get_or, Option, Some, None, refl, sym, ap, subst, ◌∙◌, inl, inr, arith, append-nil}
-use Rattle.std.specs.Prelude.{All, Contains, flat_map}
-use Rattle.std.specs.List.{list_any, AllByRecursion}
+use Rattle.std.proofs.Common.{◌≡◌, ℕ, ◌+◌, ◌-◌, ◌<◌, true, false, ltb, List, [], ◌∷◌, ◌++◌, length, take, map, get_or, Option, Some, None, refl, sym, ap, subst, ◌∙◌, inl, inr, arith, append-nil}
+use Rattle.std.specs.Prelude.{All, Contains}
+use Rattle.std.specs.List.{AllByRecursion}
 use Rattle.std.proofs.lemmas.Bool.{cases_Bool, ltb-true}
 use Rattle.std.proofs.lemmas.List.{length-map, get_or-map, get_or_default, take_more}
 use Rattle.std.proofs.lemmas.List.Concat.{flat_map-append}
-use Rattle.std.proofs.lemmas.List.Elements.{All-nil, All-cons, All-append, All-get_or, All-contains, recursion_from_All}
+use Rattle.std.proofs.lemmas.List.Elements.{All-nil, All-cons, All-append, All-get_or, recursion_from_All}
 use Rattle.std.proofs.lemmas.List.Folds.{Any-from_list_any}
 use Rattle.scan_model.specs.declared.values.Tri.{Tri}
 use Rattle.scan_model.specs.declared.values.Tri.TheVariants.{Unknown}
@@ -13,13 +13,12 @@ use Rattle.scan_model.specs.declared.fault.Fault.{Fault}
 use Rattle.scan_model.specs.declared.parts.Point.{Point}
 use Rattle.scan_model.specs.declared.parts.Point.TheVariants.{Output, Cell}
 use Rattle.scan_model.specs.Values.{are_opposite, xor_of}
-use Rattle.scan_model.specs.ScanTest.{ScanTest, IsScanTest, IsPoint, chain_at, points_of, point_at}
+use Rattle.scan_model.specs.ScanTest.{ScanTest, IsScanTest, IsPoint, points_of, point_at}
 use Rattle.scan_model.specs.Coverage.{bit_of}
 use Rattle.scan_model.specs.Response.{observed, predicts_fail}
 use Rattle.scan_model.proofs.counting.Shown.{not_opposite_itself, predicts_fail-is}
 use Rattle.fail_logs.specs.IsFrame.{IsPointOf, point_among}
 use Rattle.fail_logs.proofs.TestOrder.{contains_here, contains_later, output_stands, cell_stands}
-use Rattle.chain_compactor.specs.declared.compactor.Channel.{Channel}
 use Rattle.chain_compactor.specs.Channels.{Compactor, IsCompactorOf, no_channel, channel_at, chain_length, cycles_of}
 use Rattle.chain_compactor.specs.Compaction.{cell_shown, cells_shown, members, compact_value, predicts_compact_fail}
 use Rattle.chain_compactor.specs.Flips.{members_at}

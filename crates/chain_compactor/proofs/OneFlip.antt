@@ -3,7 +3,7 @@
 use Rattle.std.proofs.Common.{◌≡◌, ℕ, ◌<◌, Bool, true, false, cond, eqb, ◌&&◌, ◌||◌, List, [], ◌∷◌, length, map, Some, None, refl, sym, ap, subst, ◌∙◌, inl, inr}
 use Rattle.std.specs.Prelude.{Contains}
 use Rattle.std.specs.List.{list_any, AllByRecursion}
-use Rattle.std.proofs.lemmas.Bool.{cases_Bool, cases_eq, eq-eqb, ne_eqb}
+use Rattle.std.proofs.lemmas.Bool.{cases_Bool, eq-eqb}
 use Rattle.scan_model.specs.declared.values.Tri.{Tri}
 use Rattle.scan_model.specs.declared.circuit.Driver.{Driver}
 use Rattle.scan_model.specs.declared.circuit.Driver.TheVariants.{Input, Flop, Gate}
@@ -16,7 +16,7 @@ use Rattle.scan_model.specs.declared.fault.Fault.{Fault}
 use Rattle.scan_model.specs.declared.fault.Fault.TheVariants as fault
 use Rattle.scan_model.specs.declared.parts.Point.{Point}
 use Rattle.scan_model.specs.declared.parts.PatternKind.TheVariants.{Capture, Shift}
-use Rattle.scan_model.specs.Values.{IsAtLeast, are_opposite, tri_not, xor_of}
+use Rattle.scan_model.specs.Values.{IsAtLeast, are_opposite, xor_of}
 use Rattle.scan_model.specs.Netlist.{IsNetlist, IsPlacedAt, is_gate, is_gate_driver, pin_at, driver_of}
 use Rattle.scan_model.specs.Walks.{IsEvaluationOrder}
 use Rattle.scan_model.specs.ScanTest.{ScanTest, IsScanTest, IsPoint, HasSite, pattern_at}
@@ -26,7 +26,7 @@ use Rattle.scan_model.specs.Universe.{universe}
 use Rattle.scan_model.specs.Response.{observed}
 use Rattle.scan_model.specs.Suspect.{observed_net}
 use Rattle.scan_model.specs.Force.{force}
-use Rattle.scan_model.specs.Masks.{point_pin, flipped, is_operand_of, forced_output, mask, operand_is_point, place_is_point, place_nets, touched_nets, IsLogic}
+use Rattle.scan_model.specs.Masks.{point_pin, is_operand_of, forced_output, mask, operand_is_point, place_is_point, place_nets, touched_nets, IsLogic}
 use Rattle.scan_model.proofs.Definite.{xor-at_least}
 use Rattle.scan_model.proofs.Sites.{site_of}
 use Rattle.scan_model.proofs.counting.Valuations.{own_force, force-at_least}

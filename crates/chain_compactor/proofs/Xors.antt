@@ -1,11 +1,10 @@
 -- When the XOR of several values is the opposite of that of others.
-use Rattle.std.proofs.Common.{◌≡◌, ℕ, Bool, true, false, cond, ◌||◌, List, [], ◌∷◌, map, refl, sym, ap, ◌∙◌, inl, inr}
-use Rattle.std.specs.Prelude.{◌==◌, ◌%◌, count_by}
+use Rattle.std.proofs.Common.{◌≡◌, true, false, List, [], ◌∷◌, map, refl, sym, ap, ◌∙◌, inl, inr}
 use Rattle.std.specs.List.{list_any, AllByRecursion}
 use Rattle.std.proofs.lemmas.Bool.{cases_Bool, or_parts}
 use Rattle.scan_model.specs.declared.values.Tri.{Tri}
 use Rattle.scan_model.specs.declared.values.Tri.TheVariants.{Zero, One, Unknown}
-use Rattle.scan_model.specs.Values.{IsAtLeast, AreAtLeast, is_unknown, is_one, are_opposite, xor_of}
+use Rattle.scan_model.specs.Values.{IsAtLeast, AreAtLeast, is_unknown, are_opposite, xor_of}
 use Rattle.scan_model.proofs.counting.Shown.{not_opposite_itself}
 
 pub xor_one : (x : Tri) → xor_of (x ∷ []) ≡ x

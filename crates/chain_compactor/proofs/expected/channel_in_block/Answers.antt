@@ -1,6 +1,5 @@
-use Rattle.std.proofs.Common.{◌≡◌, ℕ, ◌++◌, List, map, take, get_or, None, sym, ap, ◌∙◌}
+use Rattle.std.proofs.Common.{ℕ, List, map, take, get_or, None, sym, ap, ◌∙◌}
 use Rattle.std.proofs.lemmas.List.{take_all, map-append}
-use Rattle.scan_model.specs.declared.parts.Point.{Point}
 use Rattle.scan_model.specs.Values.{xor_of}
 use Rattle.scan_model.specs.Response.{observed}
 use Rattle.lane_rows.specs.GoodRows.{pattern_of}

@@ -1,8 +1,8 @@
-use Rattle.std.proofs.Common.{◌≡◌, ◌-◌, ◌<◌, ◌≤◌, true, false, ltb, [], ◌∷◌, ◌++◌, map, None, ap, sym, ◌∙◌, arith, append-nil}
+use Rattle.std.proofs.Common.{◌≡◌, ◌-◌, true, false, ltb, None, ap, sym, ◌∙◌, arith, append-nil}
 use Rattle.std.proofs.lemmas.Bool.Decides.{nat_tests}
 use Rattle.scan_model.specs.declared.values.Tri.{Tri}
 use Rattle.scan_model.specs.declared.parts.Point.TheVariants.{Cell}
-use Rattle.scan_model.specs.Values.{xor_of, tri_xor}
+use Rattle.scan_model.specs.Values.{tri_xor}
 use Rattle.scan_model.specs.Response.{observed}
 use Rattle.scan_model.proofs.Folds.{xor_of-push}
 use Rattle.lane_rows.specs.Planes.{held}
