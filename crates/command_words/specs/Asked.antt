@@ -6,7 +6,7 @@ use Rattle.scan_model.specs.declared.fault.Profile.{Profile}
 use Rattle.command_words.specs.declared.argument.Argument.{Argument}
 use Rattle.command_words.specs.declared.argument.Argument.TheVariants as argument
 use Rattle.command_words.specs.declared.table.Product.{Product}
-use Rattle.command_words.specs.declared.table.Product.TheVariants.{Summary, Bundle, Report}
+use Rattle.command_words.specs.declared.table.Product.TheVariants.{Summary, Bundle}
 use Rattle.command_words.specs.declared.table.Task.{Task}
 use Rattle.command_words.specs.declared.table.Task.TheVariants as task
 use Rattle.command_words.specs.Words.{word_at}
@@ -122,11 +122,11 @@ is_serve words = serves (asked words)
 
 -- ---- what right words promise
 
--- it is made for a die of a design
+-- all is made for a die of a design, but for these
 abbrev pub is_of_die : Product → Bool
 is_of_die Summary = false
 is_of_die Bundle = false
-is_of_die Report = true
+is_of_die _ = true
 
 abbrev pub IsSound : Asked → Type 0
 IsSound (making product request) = is_of_die product ≡ true → (is_tag request.design ≡ true) × (is_tag request.die ≡ true)

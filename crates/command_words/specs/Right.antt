@@ -1,5 +1,5 @@
 -- Which words are right.
-use Rattle.std.specs.Prelude.{ℕ, ◌+◌, Bool, true, false, ◌&&◌, ◌==◌, nat_le, if◌then◌else◌, List, [], ◌∷◌, length, find, Option, None, Some, is_some}
+use Rattle.std.specs.Prelude.{ℕ, ◌+◌, Bool, true, false, ◌&&◌, ◌==◌, nat_le, if◌then◌else◌, List, [], ◌∷◌, length, find, Option, None, Some}
 use Rattle.scan_model.specs.Words.{is_tag, number_of}
 use Rattle.command_words.specs.declared.argument.Argument.{Argument}
 use Rattle.command_words.specs.declared.argument.Kind.{Kind}
@@ -33,7 +33,3 @@ fits form words = fits_count form (length words) && (begins form.word words && a
 -- the command that the words name, none where they are no command's
 abbrev pub form_named : List (List ℕ) → Option Form
 form_named words = find (λ form. fits form words) commands
-
--- they are those of a command
-abbrev pub are_right_words : List (List ℕ) → Bool
-are_right_words words = is_some (form_named words)

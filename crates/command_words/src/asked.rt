@@ -89,7 +89,7 @@ fn command_in<'a>(
     ensures { IfOk result (IsCommandFor (asked_in (rows_of (found_of matches.now)) task)) }
 {
     match task {
-        Task::Make { product, profile } => {
+        Task::Make(product, profile) => {
             let order = order_in(alloc, profile, matches)?;
             Ok(Some(Command::Make { product, order }))
         }

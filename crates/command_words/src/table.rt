@@ -17,7 +17,7 @@ pub enum Product {
 #[derive(Clone, Copy)]
 pub enum Task {
     /// Makes this of files, with the design in this profile.
-    Make { product: Product, profile: Profile },
+    Make(Product, Profile),
     /// Makes a design, puts a fault into it and finds it.
     Demo,
     /// Serves the connections of a port over a store.
@@ -67,55 +67,37 @@ const SERVED: &[Argument] = &[
 pub const COMMANDS: [Form; 8] = [
     Form {
         word: "check",
-        task: Task::Make {
-            product: Product::Summary,
-            profile: Profile::One,
-        },
+        task: Task::Make(Product::Summary, Profile::One),
         arguments: DESIGN,
         has_logs: false,
     },
     Form {
         word: "check2",
-        task: Task::Make {
-            product: Product::Summary,
-            profile: Profile::Two,
-        },
+        task: Task::Make(Product::Summary, Profile::Two),
         arguments: DESIGN,
         has_logs: false,
     },
     Form {
         word: "pack",
-        task: Task::Make {
-            product: Product::Bundle,
-            profile: Profile::One,
-        },
+        task: Task::Make(Product::Bundle, Profile::One),
         arguments: DESIGN,
         has_logs: false,
     },
     Form {
         word: "pack2",
-        task: Task::Make {
-            product: Product::Bundle,
-            profile: Profile::Two,
-        },
+        task: Task::Make(Product::Bundle, Profile::Two),
         arguments: DESIGN,
         has_logs: false,
     },
     Form {
         word: "diagnose",
-        task: Task::Make {
-            product: Product::Report,
-            profile: Profile::One,
-        },
+        task: Task::Make(Product::Report, Profile::One),
         arguments: DIE,
         has_logs: true,
     },
     Form {
         word: "diagnose2",
-        task: Task::Make {
-            product: Product::Report,
-            profile: Profile::Two,
-        },
+        task: Task::Make(Product::Report, Profile::Two),
         arguments: DIE,
         has_logs: true,
     },
