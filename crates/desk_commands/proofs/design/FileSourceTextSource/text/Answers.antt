@@ -1,5 +1,5 @@
 use Rattle.desk_commands.proofs.FilePlaces.{design_had}
-use Rattle.desk_commands.proofs.design.DesignFilesTextSource.text.Goals as goal
+use Rattle.desk_commands.proofs.design.FileSourceTextSource.text.Goals as goal
 
 pub returns-clause-had : goal.returns-clause-had
 returns-clause-had g c = λ source tells.
