@@ -331,6 +331,12 @@ the_day_over_http() {
     "$top/examples/http.sh" "$program" || wrong=$((wrong + 1))
 }
 
+# The commands of docs/formats.md are those of the program's table.
+the_commands() {
+    runs=$((runs + 1))
+    "$top/examples/commands.sh" || wrong=$((wrong + 1))
+}
+
 # The sentences of the page are those of docs/formats.md.
 the_sentences() {
     runs=$((runs + 1))
@@ -345,6 +351,7 @@ the_day_in_a_browser() {
 
 the_day
 the_day_over_http
+the_commands
 the_sentences
 the_day_in_a_browser
 the_rules

@@ -8,14 +8,14 @@ use Rattle.diagnosis.specs.declared.section.DesignText.TheVariants.{Netlist, Sca
 use Rattle.diagnosis.specs.Texts.{Place, Source}
 use Rattle.diagnosis.specs.Halts.{IsHad, HaltsAt, place_of}
 use Rattle.diagnosis.specs.Reading.{four}
-use Rattle.desk_commands.specs.declared.command.DesignFiles.{DesignFiles}
+use Rattle.desk_commands.specs.declared.design.FileSource.{FileSource}
 use Rattle.desk_commands.specs.declared.files.Refusal.{Refusal}
 use Rattle.desk_commands.specs.declared.files.Refusal.TheVariants.{Absent, TooLong, Rule}
 use Rattle.desk_commands.specs.declared.files.Stop.{Stop}
 use Rattle.desk_commands.specs.declared.files.Stop.TheVariants.{Refused, Fault, NoMemory}
-use Rattle.desk_commands.specs.Words.{DesignNames}
+use Rattle.command_words.specs.Asked.{DesignNames}
 use Rattle.desk_commands.specs.Reading.{file_limit, served, file_place, files_source, name_of}
-use Rattle.desk_commands.specs.Requests.{named_files}
+use Rattle.command_words.specs.Shown.{shown_files}
 use Rattle.desk_commands.specs.Stops.{StopsAt, halt_of}
 use Rattle.desk_commands.specs.Designs.{AreFilesOf}
 use Rattle.scan_model.specs.declared.fault.Profile.{Profile}
@@ -52,11 +52,11 @@ place_is files names Scan = refl
 place_is files names Patterns = refl
 place_is files names Neighbours = refl
 
-module _ (files : DesignFiles) (part : DesignText) (seen : Option (List File)) (source : Source (List ℕ) Refusal) (tells : AreFilesOf files seen source)
-    (name : List ℕ) (named : name ≡ name_of (named_files files) part) where
+module _ (files : FileSource) (part : DesignText) (seen : Option (List File)) (source : Source (List ℕ) Refusal) (tells : AreFilesOf files seen source)
+    (name : List ℕ) (named : name ≡ name_of (shown_files files.names) part) where
   file_of_design : place_of source part ≡ file_place tells.0 name
   file_of_design =
-      ap (λ (s : Source (List ℕ) Refusal). place_of s part) tells.2 ∙ place_is tells.0 (named_files files) part ∙ ap (file_place tells.0) (sym named)
+      ap (λ (s : Source (List ℕ) Refusal). place_of s part) tells.2 ∙ place_is tells.0 (shown_files files.names) part ∙ ap (file_place tells.0) (sym named)
 
   pub design_had : (result : Result (List ℕ) Stop) → ((held : List File) → seen ≡ Some held → IfOk result (λ text. text_of held name ≡ Some text))
       → IfOk result (λ text. length text ≤ file_limit) → ((held : List File) → seen ≡ Some held → IfErr result (StopsAt (text_of held name) name))

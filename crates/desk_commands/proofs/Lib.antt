@@ -1,8 +1,5 @@
 pub mod FilePlaces
 pub mod DemoOutput
 pub mod Pages
-pub mod WordFacts
-pub mod PlainWords
-pub mod Assigned
-pub mod Requests
+pub mod NoPage
 pub mod ReadLogs

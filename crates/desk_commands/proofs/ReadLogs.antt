@@ -22,7 +22,7 @@ use Rattle.diagnosis.specs.Designs.{ReadLogFacts, HaveSameTexts, texts_of}
 use Rattle.diagnosis.specs.Cases.{CaseFacts, AddedAmong, IsTextAdded, log_in, with_logs}
 use Rattle.desk_commands.specs.declared.files.Stop.{Stop}
 use Rattle.desk_commands.specs.declared.files.Stop.TheVariants.{Refused, Fault, NoMemory}
-use Rattle.desk_commands.specs.Words.{Request}
+use Rattle.command_words.specs.Asked.{Request}
 use Rattle.desk_commands.specs.Reading.{Reading, file_limit, file_place, for_fault}
 use Rattle.desk_commands.specs.Stops.{Follows, StopsAt, StopsFor, IsNamed, halt_of}
 use Rattle.desk_commands.specs.Work.{in_place_of, log_file, logs_after, logs_reading, with_design}

@@ -1,5 +1,6 @@
 -- What is due at the end of a command.
-use Rattle.std.specs.Prelude.{◌≡◌, ◌≢◌, ◌⊎◌, ℕ, List, ◌++◌, codes, Contains}
+use Rattle.std.specs.Prelude.{◌≡◌, ◌⊎◌, ◌==◌, ℕ, Bool, List, [], ◌∷◌, ◌++◌, codes, Contains}
+use Rattle.std.specs.List.{list_any}
 use Rattle.desk_commands.specs.Work.{Output}
 
 -- the shelf failed at a file that is then read, and its count rose
@@ -14,6 +15,9 @@ pub record FaultIsDue (output : Output) (rose : Type 0) (status : ℕ) (text : L
 abbrev pub IsDueOf : Output → Type 0 → ℕ → List ℕ → Type 0
 IsDueOf output rose status text = ((status ≡ output.status) × (text ≡ output.text)) ⊎ FaultIsDue output rose status text
 
--- a status that is none of those of `serve` alone
-abbrev pub IsOfPage : ℕ → Type 0
-IsOfPage status = (status ≢ 7) × (status ≢ 9) × (status ≢ 10)
+abbrev pub is_one_of : List ℕ → ℕ → Bool
+is_one_of statuses status = list_any (λ s. s == status) statuses
+
+-- the statuses of pages
+abbrev pub page_statuses : List ℕ
+page_statuses = 0 ∷ 3 ∷ 4 ∷ 5 ∷ 11 ∷ []

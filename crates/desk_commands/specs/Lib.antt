@@ -1,11 +1,8 @@
-pub mod Words
 pub mod Reading
 pub mod Work
 pub mod Demo
 pub mod Commands
-pub mod Requests
 pub mod Stops
 pub mod Ending
 pub mod Logs
 pub mod Designs
-pub mod Assigned

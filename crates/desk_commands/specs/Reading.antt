@@ -7,8 +7,7 @@ use Rattle.diagnosis.specs.declared.section.DesignText.TheVariants.{Netlist, Sca
 use Rattle.diagnosis.specs.Texts as texts
 use Rattle.desk_commands.specs.declared.files.Refusal.{Refusal}
 use Rattle.desk_commands.specs.declared.files.Refusal.TheVariants.{Absent, TooLong, Rule}
-use Rattle.desk_commands.specs.Words.{DesignNames}
-use Rattle.scan_model.specs.declared.fault.Profile.TheVariants.{One}
+use Rattle.command_words.specs.Asked.{DesignNames}
 
 -- the longest file that is read, in bytes
 abbrev pub file_limit : ℕ
@@ -30,10 +29,10 @@ file_place files name = record { name = name; text = served (text_of files name)
 abbrev pub for_fault : ℕ × ℕ → Refusal
 for_fault fault = Rule (record { line = fault.0; rule = fault.1 })
 
--- the files of a design, which the commands read in profile 1
+-- the files of a design, in its profile
 abbrev pub files_source : List File → DesignNames → texts.Source (List ℕ) Refusal
 files_source files names = record {
-  profile = One;
+  profile = names.profile;
   netlist = file_place files names.netlist;
   scan = file_place files names.scan;
   patterns = file_place files names.patterns;

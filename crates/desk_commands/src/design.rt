@@ -7,12 +7,12 @@ ghost use Rattle.diagnosis.specs.Reading.{four};
 ghost use Rattle.diagnosis.specs.Halts.{ComesTo};
 ghost use Rattle.desk_commands.specs.Designs.{shown_design};
 ghost use Rattle.desk_commands.specs.Reading.{name_of};
-ghost use Rattle.desk_commands.specs.Requests.{named_files};
+ghost use Rattle.command_words.specs.Shown.{shown_files};
 ghost use Rattle.desk_commands.specs.Stops.{halt_of, ends_by_fault};
 ghost use Rattle.desk_commands.specs.Work.{design_reading};
 
-use crate::command::DesignFiles;
 use crate::files::{Refusal, Stop, read_text};
+use command_words::DesignFiles;
 use desk_outside::{File, Shelf};
 use diagnosis::{DesignText, ReadDesign, TextSource, read_from};
 use scan_model::{Name, Profile, Rows};
@@ -21,7 +21,7 @@ use text_parts::TextFault;
 
 // The name of one of the files.
 fn name_of<'a>(files: &DesignFiles<'a>, part: DesignText) -> &'a str
-    ensures { result.now ≡ name_of (named_files files.now) part }
+    ensures { result.now ≡ name_of (shown_files files.now) part }
 {
     match part {
         DesignText::Netlist => files.netlist,
@@ -31,7 +31,13 @@ fn name_of<'a>(files: &DesignFiles<'a>, part: DesignText) -> &'a str
     }
 }
 
-impl<'a, F: Shelf> TextSource<F> for DesignFiles<'a> {
+/// The files of a design as a source of its texts.
+#[derive(Clone, Copy)]
+pub struct FileSource<'a> {
+    pub names: DesignFiles<'a>,
+}
+
+impl<'a, F: Shelf> TextSource<F> for FileSource<'a> {
     type Text = Name;
 
     type Stop = Stop<'a>;
@@ -56,11 +62,11 @@ impl<'a, F: Shelf> TextSource<F> for DesignFiles<'a> {
     ghost tells = { AreFilesOf };
 
     fn profile(&self) -> Profile {
-        Profile::One
+        self.names.profile
     }
 
     fn text(&self, alloc: Global, shelf: &mut F, part: DesignText) -> Result<Name, Stop<'a>> {
-        read_text(alloc, shelf, name_of(self, part))
+        read_text(alloc, shelf, name_of(&self.names, part))
     }
 
     fn bytes<'t>(&self, text: &'t Name) -> &'t [u8] {
@@ -69,7 +75,7 @@ impl<'a, F: Shelf> TextSource<F> for DesignFiles<'a> {
 
     fn stop(&self, part: DesignText, fault: TextFault) -> Stop<'a> {
         Stop::Refused {
-            name: name_of(self, part),
+            name: name_of(&self.names, part),
             refusal: Refusal::Rule(fault),
         }
     }
@@ -85,11 +91,11 @@ pub fn read_design<'a, F: Shelf>(
     shelf: &mut F,
     files: &DesignFiles<'a>,
 ) -> Result<ReadDesign<Name>, Stop<'a>>
-    ensures told { (held : List File) → F.files shelf.old ≡ Some held → ComesTo halt_of shown_design result (design_reading held (named_files files.now)) }
+    ensures told { (held : List File) → F.files shelf.old ≡ Some held → ComesTo halt_of shown_design result (design_reading held (shown_files files.now)) }
     ensures stands { IfOk result (λ d. texts_reading (four d.parts.profile d.netlist d.scan d.patterns d.neighbours) ≡ Ok d.parts) }
     ensures fault { ends_by_fault result ≡ true → Rose (F.faults shelf.old) (F.faults shelf.new) }
     ensures same { F.files shelf.new ≡ F.files shelf.old }
     ensures later { F.faults shelf.old ≤ F.faults shelf.new }
 {
-    read_from(alloc, files, shelf)
+    read_from(alloc, &FileSource { names: *files }, shelf)
 }

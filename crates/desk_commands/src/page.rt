@@ -2,7 +2,7 @@
 ghost use Rattle.std.specs.Prelude.{◌≡◌, ◌≢◌, ◌++◌, codes, IfOk, string_bytes, true};
 ghost use Rattle.desk_commands.specs.Work.{refusal_status, refusal_line};
 ghost use Rattle.desk_commands.specs.Stops.{IsPageOf, is_fault};
-ghost use Rattle.desk_commands.specs.Ending.{IsOfPage};
+ghost use Rattle.desk_commands.specs.Ending.{is_one_of, page_statuses};
 
 use crate::files::{Refusal, Stop};
 use scan_model::{NoMemory, Rows};
@@ -44,11 +44,8 @@ fn fault_line(alloc: Global, name: &str) -> Result<String, NoMemory>
 
 fn status_of(refusal: Refusal) -> u8
     ensures value { result ≡ refusal_status refusal }
-    ensures not_wrong { result ≢ 2 }
-    ensures not_fault { result ≢ 5 }
-    ensures not_sink { result ≢ 6 }
-    ensures not_memory { result ≢ 8 }
-    ensures not_serving { IsOfPage result }
+    ensures statuses { is_one_of page_statuses result ≡ true }
+    ensures no_fault { result ≢ 5 }
 {
     match refusal {
         Refusal::Rule(_) => 3,
@@ -69,10 +66,7 @@ pub fn line_page(alloc: Global, status: u8, line: &str) -> Result<Page, NoMemory
 pub fn page_of(alloc: Global, stop: &Stop<'_>) -> Result<Page, NoMemory>
     ensures page { IfOk result (λ page. IsPageOf stop.now page.status page.text) }
     ensures fault { IfOk result (λ page. page.status ≡ 5 → is_fault stop.now ≡ true) }
-    ensures not_wrong { IfOk result (λ page. page.status ≢ 2) }
-    ensures not_sink { IfOk result (λ page. page.status ≢ 6) }
-    ensures not_memory { IfOk result (λ page. page.status ≢ 8) }
-    ensures not_serving { IfOk result (λ page. IsOfPage page.status) }
+    ensures statuses { IfOk result (λ page. is_one_of page_statuses page.status ≡ true) }
 {
     match *stop {
         Stop::Refused { name, refusal } => {

@@ -1,3 +1,2 @@
-pub mod Assigned
 pub mod Runs
 pub mod Served

@@ -1,13 +1,12 @@
 -- What is due at the end of a run.
-use Rattle.std.proofs.Common.{List, ℕ, subst}
+use Rattle.std.proofs.Common.{◌≡◌, Some, List, ℕ, ap, subst, sym}
 use Rattle.desk_outside.specs.declared.shelf.File.{File}
-use Rattle.desk_commands.specs.declared.command.Command.{Command}
-use Rattle.desk_commands.specs.Commands.{work}
-use Rattle.desk_commands.specs.Requests.{Says, command_output}
+use Rattle.command_words.specs.Asked.{Asked, asked}
+use Rattle.desk_commands.specs.Work.{Output}
+use Rattle.desk_commands.specs.Commands.{output_for, work}
 use Rattle.desk_commands.specs.Ending.{IsDueOf}
-use Rattle.desk_commands.proofs.Requests.{said_work}
 
--- what is due of a command is due of the words that say it
-pub said_due : (words : List (List ℕ)) (files : List File) (c : Command) (rose : Type 0) (status : ℕ) (text : List ℕ) → Says words c
-    → IsDueOf (command_output files c) rose status text → IsDueOf (work words files) rose status text
-said_due words files c rose status text says is = subst (λ output. IsDueOf output rose status text) (said_work words files c says) is
+-- what is due of what is asked for is due of the words that ask for it
+pub asked_due : (words : List (List ℕ)) (files : List File) (a : Asked) (rose : Type 0) (status : ℕ) (text : List ℕ) → asked words ≡ Some a
+    → IsDueOf (output_for files (Some a)) rose status text → IsDueOf (work words files) rose status text
+asked_due words files a rose status text says is = subst (λ (output : Output). IsDueOf output rose status text) (sym (ap (output_for files) says)) is

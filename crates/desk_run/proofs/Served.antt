@@ -1,18 +1,18 @@
--- What a run of `serve` says by its exit status.
-use Rattle.std.proofs.Common.{◌≡◌, ◌≢◌, ◌≤◌, ◌∙◌, ℕ, Bool, true, false, List, Option, Some, None, ◌==◌, codes, length, eqb-true, refl, sym, ap, subst, inl, inr, arith, true≢false}
-use Rattle.std.specs.Prelude.{◌&&◌, nat_le}
-use Rattle.std.specs.List.{list_all}
-use Rattle.std.proofs.lemmas.Bool.{leb-true}
-use Rattle.scan_model.specs.Words.{number_of}
+-- What a run says by its exit status.
+use Rattle.std.proofs.Common.{◌≡◌, ◌≢◌, ◌≤◌, ◌∙◌, ◌==◌, ℕ, Bool, true, false, List, Option, Some, None, refl, sym, ap, inl, inr, arith, true≢false}
+use Rattle.std.specs.Prelude.{◌||◌, is_some}
 use Rattle.desk_outside.specs.Faults.{Rose}
 use Rattle.desk_serve.specs.declared.ending.Ending.{Ending}
 use Rattle.desk_serve.specs.declared.ending.Ending.TheVariants.{Done, SinkFault, StoreFault, NoMemory, Spoiled, StreetFault}
 use Rattle.desk_serve.specs.Lines.{status_of}
 use Rattle.desk_serve.specs.Runs.{Asked, Outside, HasEnded, HasRun, IsWritten}
-use Rattle.desk_commands.specs.Ending.{IsOfPage}
-use Rattle.desk_commands.specs.Words.{begins, is_count_to, is_plain_word, names_page, number_at, word_at}
-use Rattle.desk_run.specs.Ending.{Ends}
-use Rattle.desk_run.specs.Words.{are_right, is_serve}
+use Rattle.command_words.specs.declared.command.Command.{Command}
+use Rattle.command_words.specs.declared.command.Command.TheVariants.{Make, Demo}
+use Rattle.command_words.specs.Asked as words
+use Rattle.command_words.specs.Shown.{shown}
+use Rattle.desk_commands.specs.Ending.{is_one_of, page_statuses}
+use Rattle.desk_run.specs.Ending.{Ends, statuses_of}
+use Rattle.desk_run.specs.Words.{are_right}
 
 -- the statuses of files and words are none of `serve`
 other_status : (ending : Ending) → (status_of ending ≢ 2) × (status_of ending ≢ 5)
@@ -79,48 +79,81 @@ module _ (asked : Asked) (old new : Outside) (untouched : Type 0) (status : ℕ)
   pub street_rose : HasRun asked old new untouched status → status ≡ 10 → Rose old.street_faults new.street_faults
   street_rose (ending, is, ended) e = at_10 ending (sym is ∙ e) (not_cut ending 10 (omega arith) (sym is ∙ e) ended)
 
+  pub serve_listed : HasRun asked old new untouched status → is_one_of (statuses_of true) status ≡ true
+  serve_listed (ending, is, ended) = ap (is_one_of (statuses_of true)) is ∙ listed ending
+    where
+      listed : (e : Ending) → is_one_of (statuses_of true) (status_of e) ≡ true
+      listed (Done sessions deeds) = refl
+      listed SinkFault = refl
+      listed StoreFault = refl
+      listed NoMemory = refl
+      listed (Spoiled row) = refl
+      listed StreetFault = refl
+
 -- ---- which words are right
 
-pub serve_is_right : (words : List (List ℕ)) → is_serve words ≡ true → are_right words ≡ true
-serve_is_right words e = rw e refl
+right_of_serve : (a : Option words.Asked) → words.serves a ≡ true → is_some a ≡ true
+right_of_serve (Some a) e = refl
+right_of_serve None e = absurd (true≢false (sym e))
 
-pub page_is_right : (words : List (List ℕ)) → is_serve words ≡ false → are_right words ≡ names_page words
-page_is_right words e = rw e refl
+pub serve_is_right : (ws : List (List ℕ)) → words.is_serve ws ≡ true → are_right ws ≡ true
+serve_is_right ws e = right_of_serve (words.asked ws) e
 
--- ---- the words of `serve`
+right_of_page : (a : Option words.Asked) → words.serves a ≡ false → is_some a ≡ words.comes_to_page a
+right_of_page None e = refl
+right_of_page (Some (words.making product request)) e = refl
+right_of_page (Some (words.trying seed blocks)) e = refl
+right_of_page (Some (words.serving service)) e = absurd (true≢false e)
 
-both : (a b : Bool) → (a && b) ≡ true → (a ≡ true) × (b ≡ true)
-both true b e = (refl, e)
-both false b e = absurd (true≢false (sym e))
+pub page_is_right : (ws : List (List ℕ)) → words.is_serve ws ≡ false → are_right ws ≡ words.comes_to_page (words.asked ws)
+page_is_right ws e = right_of_page (words.asked ws) e
 
-pub serve_count : (words : List (List ℕ)) → is_serve words ≡ true → length words ≡ 5
-serve_count words e = eqb-true (length words) 5 (both _ _ e).0
+-- ---- what the words of `serve` ask for
 
-pub serve_plain : (words : List (List ℕ)) → is_serve words ≡ true → list_all is_plain_word words ≡ true
-serve_plain words e = (both _ _ (both _ _ (both _ _ e).1).0).0
+pub service_asked : (a : Option words.Asked) → words.serves a ≡ true → (s : words.Service) × (a ≡ Some (words.serving s))
+service_asked None e = absurd (true≢false (sym e))
+service_asked (Some (words.making product request)) e = absurd (true≢false (sym e))
+service_asked (Some (words.trying seed blocks)) e = absurd (true≢false (sym e))
+service_asked (Some (words.serving s)) e = (s, refl)
 
-count_of : (words : List (List ℕ)) (place most : ℕ) → is_count_to most (number_of (word_at words place)) ≡ true → (1 ≤ number_at words place) × (number_at words place ≤ most)
-count_of words place most is = go (number_of (word_at words place)) refl is
-  where
-    go : (o : Option ℕ) → number_of (word_at words place) ≡ o → is_count_to most o ≡ true → (1 ≤ number_at words place) × (number_at words place ≤ most)
-    go None named e = absurd (true≢false (sym e))
-    go (Some n) named e = let ends = both (nat_le 1 n) (nat_le n most) e in rw named (leb-true 1 n ends.0, leb-true n most ends.1)
+service_or : words.Service → Option words.Asked → words.Service
+service_or other (Some (words.serving s)) = s
+service_or other None = other
+service_or other (Some (words.making product request)) = other
+service_or other (Some (words.trying seed blocks)) = other
 
-pub serve_workers : (words : List (List ℕ)) → is_serve words ≡ true → (1 ≤ number_at words 2) × (number_at words 2 ≤ 64)
-serve_workers words e =
-    let counts = both (begins (codes "serve") words) _ (both (length words == 5) _ e).1 in
-    let others = both (is_count_to 65535 (number_of (word_at words 1))) _ counts.1 in
-    count_of words 2 64 (both (is_count_to 64 (number_of (word_at words 2))) _ others.1).0
+pub same_service : (a : Option words.Asked) (s s' : words.Service) → a ≡ Some (words.serving s) → a ≡ Some (words.serving s') → s ≡ s'
+unfolding service_or
+same_service a s s' is is' = ap (service_or s) (sym is ∙ is')
 
 -- ---- a page
 
--- the status of a page stays one, or is that of a sink that failed
-pub ends_of_page : (status : ℕ) (text : List ℕ) (result : ℕ) (old new : Option (List ℕ)) (rose : Type 0) → IsOfPage status → Ends status text result old new rose → IsOfPage result
-ends_of_page status text result old new rose of_page (inl (is, wrote)) = subst IsOfPage (sym is) of_page
-ends_of_page status text result old new rose of_page (inr (is, part, cause)) = subst IsOfPage (sym is) (omega arith, omega arith, omega arith)
+pub page_asked : (c : Command) → words.comes_to_page (Some (shown c)) ≡ true
+page_asked (Make product order) = refl
+page_asked (Demo demo) = refl
 
-pub of_2 : IsOfPage 2
-of_2 = (omega arith, omega arith, omega arith)
+-- a status that is one of these is no other
+pub not_among : (statuses : List ℕ) (other status : ℕ) → is_one_of statuses other ≡ false → is_one_of statuses status ≡ true → status ≢ other
+not_among statuses other status out is e = true≢false (sym is ∙ ap (is_one_of statuses) e ∙ out)
 
-pub of_8 : IsOfPage 8
-of_8 = (omega arith, omega arith, omega arith)
+after_others : (a b c d : Bool) → d ≡ true → (a || (b || (c || d))) ≡ true
+after_others true b c d e = refl
+after_others false true c d e = refl
+after_others false false true d e = refl
+after_others false false false d e = e
+
+pub page_listed : (status : ℕ) → is_one_of page_statuses status ≡ true → is_one_of (statuses_of false) status ≡ true
+page_listed status is = after_others (2 == status) (6 == status) (8 == status) (is_one_of page_statuses status) is
+
+module _ (status : ℕ) (text : List ℕ) (result : ℕ) (old new : Option (List ℕ)) (rose : Type 0) where
+  pub ends_never : (other : ℕ) → other ≢ 6 → status ≢ other → Ends status text result old new rose → result ≢ other
+  ends_never other six no (inl (is, wrote)) e = no (sym is ∙ e)
+  ends_never other six no (inr (is, part, cause)) e = six (sym e ∙ is)
+
+  pub sink_failed : status ≢ 6 → Ends status text result old new rose → result ≡ 6 → rose
+  sink_failed no (inl (is, wrote)) e = absurd (no (sym is ∙ e))
+  sink_failed no (inr (is, part, cause)) e = cause
+
+  pub ends_listed : is_one_of (statuses_of false) status ≡ true → Ends status text result old new rose → is_one_of (statuses_of false) result ≡ true
+  ends_listed listed (inl (is, wrote)) = ap (is_one_of (statuses_of false)) is ∙ listed
+  ends_listed listed (inr (is, part, cause)) = ap (is_one_of (statuses_of false)) is

@@ -1,9 +1,14 @@
 -- How a run may end.
-use Rattle.std.specs.Prelude.{◌≡◌, ◌⊎◌, ℕ, List, codes, Option}
+use Rattle.std.specs.Prelude.{◌≡◌, ◌⊎◌, ℕ, Bool, true, false, List, [], ◌∷◌, codes, Option}
 use Rattle.std.specs.Io.KnownBytes.{append_known}
 use Rattle.desk_outside.specs.Bytes.{AddsPart}
 use Rattle.desk_commands.specs.Work.{Output}
-use Rattle.desk_commands.specs.Ending.{IsDueOf}
+use Rattle.desk_commands.specs.Ending.{IsDueOf, page_statuses}
+
+-- the statuses with which a run may end: of `serve`, and of all else, which are those of pages, 2, 6 and 8
+abbrev pub statuses_of : Bool → List ℕ
+statuses_of true = 0 ∷ 6 ∷ 7 ∷ 8 ∷ 9 ∷ 10 ∷ []
+statuses_of false = 2 ∷ 6 ∷ 8 ∷ page_statuses
 
 -- all the bytes were added; or the sink's count rose, and bytes from their front were added
 abbrev pub Ends : ℕ → List ℕ → ℕ → Option (List ℕ) → Option (List ℕ) → Type 0 → Type 0

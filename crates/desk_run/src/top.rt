@@ -3,15 +3,16 @@ ghost use Rattle.std.specs.Prelude.{◌≡◌, ◌≤◌, ◌⊎◌, List, false
 ghost use Rattle.desk_outside.specs.declared.shelf.File.{File};
 ghost use Rattle.std.specs.Io.KnownBytes.{append_known};
 ghost use Rattle.desk_outside.specs.Faults.{Rose};
+ghost use Rattle.command_words.specs.Asked.{Service, asked, comes_to_page, is_serve, serving};
 ghost use Rattle.desk_serve.specs.Runs.{HasRun};
-ghost use Rattle.desk_commands.specs.Words.{names_page};
 ghost use Rattle.desk_commands.specs.Commands.{work};
-ghost use Rattle.desk_commands.specs.Ending.{IsOfPage};
-ghost use Rattle.desk_run.specs.Words.{are_right, is_serve, asked_by};
-ghost use Rattle.desk_run.specs.Ending.{Ran, Ends};
+ghost use Rattle.desk_commands.specs.Ending.{is_one_of};
+ghost use Rattle.desk_run.specs.Words.{are_right, run_for};
+ghost use Rattle.desk_run.specs.Ending.{Ends, Ran, statuses_of};
 
-use crate::words::{is_serve, serving_of};
-use desk_commands::{command_of, page_of_command};
+use crate::words::serving_of;
+use command_words::{command_of, is_serve, service_of};
+use desk_commands::page_of_command;
 use desk_outside::{Cabinet, Failed, Shelf, Sink, Street, write_all};
 use desk_serve::{Ending, ended, serve};
 use scan_model::NoMemory;
@@ -43,7 +44,7 @@ where
     S::D: Send,
     C::K: Send,
     requires { is_serve (map string_bytes words.now) ≡ true }
-    ensures served { HasRun (asked_by (map string_bytes words.now))
+    ensures served { (service : Service) → asked (map string_bytes words.now) ≡ Some (serving service) → HasRun (run_for service)
         (record { written = O.written out.old; street = S.told street.old; cabinet = C.told cabinet.old; sink_faults = O.faults out.old; street_faults = S.faults street.old; cabinet_faults = C.faults cabinet.old })
         (record { written = O.written out.new; street = S.told street.new; cabinet = C.told cabinet.new; sink_faults = O.faults out.new; street_faults = S.faults street.new; cabinet_faults = C.faults cabinet.new })
         (street.new ≡ street.old) result }
@@ -51,8 +52,8 @@ where
     ensures street_later { S.faults street.old ≤ S.faults street.new }
     ensures cabinet_later { C.faults cabinet.old ≤ C.faults cabinet.new }
 {
-    match serving_of(alloc, words) {
-        Ok(asked) => serve(rt, alloc, &asked, out, street, cabinet).status(),
+    match service_of(alloc, words) {
+        Ok(service) => serve(rt, alloc, &serving_of(service), out, street, cabinet).status(),
         Err(NoMemory) => ended(out, Ending::NoMemory).status(),
     }
 }
@@ -68,13 +69,13 @@ fn run_page<R: Threads + Sync, F: Shelf, O: Sink>(
     ensures told { (held : List File) → F.files shelf.old ≡ Some held
         → Ran (work (map string_bytes words.now) held) (Rose (F.faults shelf.old) (F.faults shelf.new)) (Rose (O.faults out.old) (O.faults out.new))
         result (O.written out.old) (O.written out.new) }
-    ensures wrong { names_page (map string_bytes words.now) ≡ false → (result ≡ 2) ⊎ (result ≡ 6) }
-    ensures right { result ≡ 2 → names_page (map string_bytes words.now) ≡ false }
+    ensures wrong { comes_to_page (asked (map string_bytes words.now)) ≡ false → (result ≡ 2) ⊎ (result ≡ 6) }
+    ensures right { result ≡ 2 → comes_to_page (asked (map string_bytes words.now)) ≡ false }
     ensures shelf_fault { result ≡ 5 → Rose (F.faults shelf.old) (F.faults shelf.new) }
     ensures sink_fault { result ≡ 6 → Rose (O.faults out.old) (O.faults out.new) }
     ensures memory { result ≡ 8 → O.written out.new ≡ append_known (O.written out.old) (codes "memory\n") }
     ensures misunderstood { result ≡ 2 → O.written out.new ≡ append_known (O.written out.old) (codes "words not understood\n") }
-    ensures not_serving { IsOfPage result }
+    ensures statuses { is_one_of (statuses_of false) result ≡ true }
     ensures shelf_later { F.faults shelf.old ≤ F.faults shelf.new }
     ensures sink_later { O.faults out.old ≤ O.faults out.new }
 {
@@ -110,7 +111,7 @@ where
         result (O.written out.old) (O.written out.new) }
 
     // How `serve` ends.
-    ensures served { is_serve (map string_bytes words.now) ≡ true → HasRun (asked_by (map string_bytes words.now))
+    ensures served { (service : Service) → asked (map string_bytes words.now) ≡ Some (serving service) → HasRun (run_for service)
         (record { written = O.written out.old; street = S.told street.old; cabinet = C.told cabinet.old; sink_faults = O.faults out.old; street_faults = S.faults street.old; cabinet_faults = C.faults cabinet.old })
         (record { written = O.written out.new; street = S.told street.new; cabinet = C.told cabinet.new; sink_faults = O.faults out.new; street_faults = S.faults street.new; cabinet_faults = C.faults cabinet.new })
         (street.new ≡ street.old) result }
@@ -120,6 +121,7 @@ where
     ensures no_files { is_serve (map string_bytes words.now) ≡ true → shelf.new ≡ shelf.old }
 
     // What each status stands for, whatever the shelf, the sink, the street and the cabinet tell.
+    ensures statuses { is_one_of (statuses_of (is_serve (map string_bytes words.now))) result ≡ true }
     ensures wrong { are_right (map string_bytes words.now) ≡ false → (result ≡ 2) ⊎ (result ≡ 6) }
     ensures right { result ≡ 2 → are_right (map string_bytes words.now) ≡ false }
     ensures shelf_fault { result ≡ 5 → Rose (F.faults shelf.old) (F.faults shelf.new) }

@@ -5,12 +5,12 @@ ghost use Rattle.desk_outside.specs.Faults.{Rose};
 ghost use Rattle.diag_report.specs.Summary.{summary_text};
 ghost use Rattle.diagnosis.specs.Texts.{value};
 ghost use Rattle.desk_commands.specs.Work.{check_reading};
-ghost use Rattle.desk_commands.specs.Requests.{named_files};
+ghost use Rattle.command_words.specs.Shown.{shown_files};
 ghost use Rattle.desk_commands.specs.Stops.{Follows, ends_by_fault};
 
-use crate::command::DesignFiles;
 use crate::design::read_design;
 use crate::files::Stop;
+use command_words::DesignFiles;
 use desk_outside::Shelf;
 use diag_report::summary_text;
 use diagnosis::ReadDesign;
@@ -30,7 +30,7 @@ pub fn summary_of<'a, F: Shelf>(
     shelf: &mut F,
     files: &DesignFiles<'a>,
 ) -> Result<Name, Stop<'a>>
-    ensures told { (held : List File) → F.files shelf.old ≡ Some held → Follows result (check_reading held (named_files files.now)) }
+    ensures told { (held : List File) → F.files shelf.old ≡ Some held → Follows result (check_reading held (shown_files files.now)) }
     ensures fault { ends_by_fault result ≡ true → Rose (F.faults shelf.old) (F.faults shelf.new) }
     ensures later { F.faults shelf.old ≤ F.faults shelf.new }
 {

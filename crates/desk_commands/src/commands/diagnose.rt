@@ -7,15 +7,15 @@ ghost use Rattle.desk_outside.specs.Faults.{Rose};
 ghost use Rattle.scan_model.specs.Words.{is_tag};
 ghost use Rattle.diagnosis.specs.Texts.{ReadTexts};
 ghost use Rattle.desk_commands.specs.Designs.{shown_design};
-ghost use Rattle.desk_commands.specs.Words.{Request};
+ghost use Rattle.command_words.specs.Asked.{Request};
 ghost use Rattle.desk_commands.specs.Work.{with_design, report_reading};
-ghost use Rattle.desk_commands.specs.Requests.{said};
+ghost use Rattle.command_words.specs.Shown.{shown_order};
 ghost use Rattle.desk_commands.specs.Stops.{Follows, ends_by_fault};
 
-use crate::command::Diagnose;
 use crate::commands::diagnose::logs::add_logs;
 use crate::design::read_design;
 use crate::files::Stop;
+use command_words::Order;
 use desk_outside::Shelf;
 use diagnosis::{Case, ReadDesign, case_report};
 use scan_model::Name;
@@ -41,23 +41,23 @@ fn report_of_case<'a, R: Threads + Sync, F: Shelf>(
     Ok(report.into_text())
 }
 
-// The report of the logs of a command, over its design.
+// The report of the logs of an order, over its design.
 fn report_over<'a, R: Threads + Sync, F: Shelf>(
     rt: &R,
     alloc: Global,
     shelf: &mut F,
-    command: &Diagnose<'a>,
+    order: &Order<'a>,
     read: ReadDesign<Name>,
 ) -> Result<Name, Stop<'a>>
-    requires design { is_tag command.now.design.now ≡ true }
-    requires die { is_tag command.now.die.now ≡ true }
-    ensures told { (held : List File) → F.files shelf.old ≡ Some held → Follows result (with_design held (said command.now) (shown_design read)) }
+    requires design { is_tag order.now.design.now ≡ true }
+    requires die { is_tag order.now.die.now ≡ true }
+    ensures told { (held : List File) → F.files shelf.old ≡ Some held → Follows result (with_design held (shown_order order.now) (shown_design read)) }
     ensures fault { ends_by_fault result ≡ true → Rose (F.faults shelf.old) (F.faults shelf.new) }
     ensures later { F.faults shelf.old ≤ F.faults shelf.new }
 {
-    let (design, die) = (command.design.as_bytes(), command.die.as_bytes());
+    let (design, die) = (order.design.as_bytes(), order.die.as_bytes());
     let mut case = Case::make(alloc, design, die, read.into_parts())?;
-    report_of_case(rt, alloc, shelf, &mut case, command.logs.as_slice())
+    report_of_case(rt, alloc, shelf, &mut case, order.logs.as_slice())
 }
 
 /// The report of the files of these names.
@@ -65,14 +65,14 @@ pub fn report_of<'a, R: Threads + Sync, F: Shelf>(
     rt: &R,
     alloc: Global,
     shelf: &mut F,
-    command: &Diagnose<'a>,
+    order: &Order<'a>,
 ) -> Result<Name, Stop<'a>>
-    requires design { is_tag command.now.design.now ≡ true }
-    requires die { is_tag command.now.die.now ≡ true }
-    ensures told { (held : List File) → F.files shelf.old ≡ Some held → Follows result (report_reading held (said command.now)) }
+    requires design { is_tag order.now.design.now ≡ true }
+    requires die { is_tag order.now.die.now ≡ true }
+    ensures told { (held : List File) → F.files shelf.old ≡ Some held → Follows result (report_reading held (shown_order order.now)) }
     ensures fault { ends_by_fault result ≡ true → Rose (F.faults shelf.old) (F.faults shelf.new) }
     ensures later { F.faults shelf.old ≤ F.faults shelf.new }
 {
-    let read = read_design(alloc, shelf, &command.files)?;
-    report_over(rt, alloc, shelf, command, read)
+    let read = read_design(alloc, shelf, &order.files)?;
+    report_over(rt, alloc, shelf, order, read)
 }

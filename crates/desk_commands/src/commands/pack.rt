@@ -6,12 +6,12 @@ ghost use Rattle.diagnosis.specs.Texts.{value};
 ghost use Rattle.diagnosis.specs.Bundle.{bundle_text};
 ghost use Rattle.desk_commands.specs.Designs.{shown_design};
 ghost use Rattle.desk_commands.specs.Work.{pack_reading};
-ghost use Rattle.desk_commands.specs.Requests.{named_files};
+ghost use Rattle.command_words.specs.Shown.{shown_files};
 ghost use Rattle.desk_commands.specs.Stops.{Follows, ends_by_fault};
 
-use crate::command::DesignFiles;
 use crate::design::read_design;
 use crate::files::Stop;
+use command_words::DesignFiles;
 use desk_outside::Shelf;
 use diagnosis::{ReadDesign, Sections, bundle_text};
 use scan_model::Name;
@@ -37,7 +37,7 @@ pub fn bundle_of<'a, F: Shelf>(
     shelf: &mut F,
     files: &DesignFiles<'a>,
 ) -> Result<Name, Stop<'a>>
-    ensures told { (held : List File) → F.files shelf.old ≡ Some held → Follows result (pack_reading held (named_files files.now)) }
+    ensures told { (held : List File) → F.files shelf.old ≡ Some held → Follows result (pack_reading held (shown_files files.now)) }
     ensures fault { ends_by_fault result ≡ true → Rose (F.faults shelf.old) (F.faults shelf.new) }
     ensures later { F.faults shelf.old ≤ F.faults shelf.new }
 {

@@ -1,7 +1,7 @@
 use Rattle.std.proofs.Common.{refl}
 use Rattle.desk_commands.specs.Reading.{files_source}
-use Rattle.desk_commands.specs.Requests.{named_files}
+use Rattle.command_words.specs.Shown.{shown_files}
 use Rattle.desk_commands.proofs.design.read_design.Goals as goal
 
 pub returns-clause-told : goal.returns-clause-told
-returns-clause-told g c = λ held e. c.read_from.ensures.told (files_source held (named_files c.args.files.now)) (held, e, refl)
+returns-clause-told g c = λ held e. c.read_from.ensures.told (files_source held (shown_files c.args.files.now)) (held, e, refl)

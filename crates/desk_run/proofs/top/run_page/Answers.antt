@@ -1,13 +1,16 @@
-use Rattle.std.proofs.Common.{map, string_bytes, codes, inl, inr, refl}
-use Rattle.desk_commands.proofs.Requests.{wrong_work, said_sound}
-use Rattle.desk_run.proofs.Runs.{said_due}
-use Rattle.desk_run.proofs.Served.{ends_of_page, of_2, of_8}
+use Rattle.std.proofs.Common.{◌≡◌, ◌≢◌, ◌∙◌, map, string_bytes, codes, inl, inr, refl, sym, ap, arith, true≢false}
+use Rattle.command_words.specs.Asked.{comes_to_page}
+use Rattle.command_words.specs.Shown.{shown}
+use Rattle.desk_commands.specs.Ending.{page_statuses}
+use Rattle.desk_commands.proofs.NoPage.{no_page}
+use Rattle.desk_run.proofs.Runs.{asked_due}
+use Rattle.desk_run.proofs.Served.{ends_listed, ends_never, not_among, page_asked, page_listed, sink_failed}
 use Rattle.desk_run.proofs.top.run_page.Goals as goal
 
 pub returns-in-Ok-None-clause-told : goal.returns-in-Ok-None-clause-told
 returns-in-Ok-None-clause-told g c = λ held e.
     let wrong = rw c.in-Ok-None.field-0-is at c.in-Ok-None.ensures.taken in
-    rw (wrong_work (map string_bytes c.args.words.now) held wrong)
+    rw (no_page (map string_bytes c.args.words.now) held wrong)
     (record { status = 2; text = codes "words not understood\n"; due = inl (inl (refl, refl)); ends = c.finish.ensures.ends })
 
 pub returns-in-Err-clause-told : goal.returns-in-Err-clause-told
@@ -16,7 +19,8 @@ returns-in-Err-clause-told g c = λ held e.
 
 pub page_of_command-requires-clause-sound : goal.page_of_command-requires-clause-sound
 page_of_command-requires-clause-sound g c κs within =
-    said_sound (map string_bytes c.args.words.now) c.in-Ok-Some.command (rw c.in-Ok-Some.field-0-is at c.in-Ok-Some.ensures.taken)
+    let says = rw c.in-Ok-Some.field-0-is at c.in-Ok-Some.ensures.taken in
+    says.1
 
 pub returns-in-Ok-clause-told : goal.returns-in-Ok-clause-told
 returns-in-Ok-clause-told g c = λ held e.
@@ -25,7 +29,7 @@ returns-in-Ok-clause-told g c = λ held e.
     record {
       status = page.status;
       text = page.text;
-      due = inl (said_due (map string_bytes c.args.words.now) held c.in-Ok-Some.command _ page.status page.text says (c.in-Ok.ensures.told held e));
+      due = inl (asked_due (map string_bytes c.args.words.now) held (shown c.in-Ok-Some.command) _ page.status page.text says.0 (c.in-Ok.ensures.told held e));
       ends = rw c.as_slice.ensures at c.finish-in-Ok.ensures.ends;
     }
 
@@ -33,14 +37,39 @@ pub returns-clause-told : goal.returns-clause-told
 returns-clause-told g c = λ held e.
     record { status = 8; text = codes "memory\n"; due = inr (refl, refl); ends = c.finish-in-Err-page_of_command.ensures.ends }
 
-pub returns-in-Ok-None-clause-not_serving : goal.returns-in-Ok-None-clause-not_serving
-returns-in-Ok-None-clause-not_serving g c = ends_of_page _ _ _ _ _ _ of_2 c.finish.ensures.ends
+pub returns-in-Ok-clause-wrong : goal.returns-in-Ok-clause-wrong
+returns-in-Ok-clause-wrong g c = λ wrong.
+    let says = rw c.in-Ok-Some.field-0-is at c.in-Ok-Some.ensures.taken in
+    absurd (true≢false (sym (ap comes_to_page says.0 ∙ page_asked c.in-Ok-Some.command) ∙ wrong))
 
-pub returns-in-Err-clause-not_serving : goal.returns-in-Err-clause-not_serving
-returns-in-Err-clause-not_serving g c = ends_of_page _ _ _ _ _ _ of_8 c.finish-in-Err.ensures.ends
+pub returns-clause-wrong : goal.returns-clause-wrong
+returns-clause-wrong g c = λ wrong.
+    let says = rw c.in-Ok-Some.field-0-is at c.in-Ok-Some.ensures.taken in
+    absurd (true≢false (sym (ap comes_to_page says.0 ∙ page_asked c.in-Ok-Some.command) ∙ wrong))
 
-pub returns-in-Ok-clause-not_serving : goal.returns-in-Ok-clause-not_serving
-returns-in-Ok-clause-not_serving g c = ends_of_page _ _ _ _ _ _ c.in-Ok.ensures.not_serving c.finish-in-Ok.ensures.ends
+pub returns-in-Ok-clause-right : goal.returns-in-Ok-clause-right
+returns-in-Ok-clause-right g c = λ two.
+    absurd (ends_never _ _ _ _ _ _ 2 (omega arith) (not_among page_statuses 2 _ refl c.in-Ok.ensures.statuses) c.finish-in-Ok.ensures.ends two)
 
-pub returns-clause-not_serving : goal.returns-clause-not_serving
-returns-clause-not_serving g c = ends_of_page _ _ _ _ _ _ of_8 c.finish-in-Err-page_of_command.ensures.ends
+pub returns-in-Ok-clause-misunderstood : goal.returns-in-Ok-clause-misunderstood
+returns-in-Ok-clause-misunderstood g c = λ two.
+    absurd (ends_never _ _ _ _ _ _ 2 (omega arith) (not_among page_statuses 2 _ refl c.in-Ok.ensures.statuses) c.finish-in-Ok.ensures.ends two)
+
+pub returns-in-Ok-clause-memory : goal.returns-in-Ok-clause-memory
+returns-in-Ok-clause-memory g c = λ eight.
+    absurd (ends_never _ _ _ _ _ _ 8 (omega arith) (not_among page_statuses 8 _ refl c.in-Ok.ensures.statuses) c.finish-in-Ok.ensures.ends eight)
+
+pub returns-in-Ok-clause-sink_fault : goal.returns-in-Ok-clause-sink_fault
+returns-in-Ok-clause-sink_fault g c = sink_failed _ _ _ _ _ _ (not_among page_statuses 6 _ refl c.in-Ok.ensures.statuses) c.finish-in-Ok.ensures.ends
+
+pub returns-in-Ok-None-clause-statuses : goal.returns-in-Ok-None-clause-statuses
+returns-in-Ok-None-clause-statuses g c = ends_listed _ _ _ _ _ _ refl c.finish.ensures.ends
+
+pub returns-in-Err-clause-statuses : goal.returns-in-Err-clause-statuses
+returns-in-Err-clause-statuses g c = ends_listed _ _ _ _ _ _ refl c.finish-in-Err.ensures.ends
+
+pub returns-in-Ok-clause-statuses : goal.returns-in-Ok-clause-statuses
+returns-in-Ok-clause-statuses g c = ends_listed _ _ _ _ _ _ (page_listed _ c.in-Ok.ensures.statuses) c.finish-in-Ok.ensures.ends
+
+pub returns-clause-statuses : goal.returns-clause-statuses
+returns-clause-statuses g c = ends_listed _ _ _ _ _ _ refl c.finish-in-Err-page_of_command.ensures.ends

@@ -2,12 +2,12 @@ use Rattle.diagnosis.specs.Texts.{value}
 use Rattle.diagnosis.proofs.Halting.{comes_after}
 use Rattle.diag_report.specs.Summary.{summary_text}
 use Rattle.desk_commands.specs.Designs.{shown_design}
-use Rattle.desk_commands.specs.Requests.{named_files}
+use Rattle.command_words.specs.Shown.{shown_files}
 use Rattle.desk_commands.specs.Work.{design_reading}
 use Rattle.desk_commands.specs.Stops.{halt_of}
 use Rattle.desk_commands.proofs.commands.check.summary_of.Goals as goal
 
 pub returns-clause-told : goal.returns-clause-told
 returns-clause-told g c = λ held e.
-    comes_after (design_reading held (named_files c.args.files.now)) (λ d. value (summary_text d.test)) halt_of (λ x. x) (shown_design c.in_ok-design.design) c.summary_over.result
+    comes_after (design_reading held (shown_files c.args.files.now)) (λ d. value (summary_text d.test)) halt_of (λ x. x) (shown_design c.in_ok-design.design) c.summary_over.result
     (c.in_ok-design.ensures.told held e) c.summary_over.ensures.told

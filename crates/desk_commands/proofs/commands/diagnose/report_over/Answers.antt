@@ -1,7 +1,7 @@
 use Rattle.std.proofs.Common.{◌∙◌, map, ap}
 use Rattle.diagnosis.specs.Cases.{CaseFacts}
 use Rattle.desk_commands.specs.Designs.{shown_design}
-use Rattle.desk_commands.specs.Requests.{said}
+use Rattle.command_words.specs.Shown.{shown_order}
 use Rattle.desk_commands.proofs.commands.diagnose.report_over.Goals as goal
 
 pub returns-clause-told : goal.returns-clause-told
@@ -10,4 +10,4 @@ returns-clause-told g c = λ held e.
     let design = ap (λ (k : CaseFacts). k.design) c.in_ok-case.ensures ∙ c.as_bytes-design.ensures.value in
     let die = ap (λ (k : CaseFacts). k.die) c.in_ok-case.ensures ∙ c.as_bytes-die.ensures.value in
     let logs = ap (map (λ name. name.now)) c.as_slice.ensures.value in
-    c.report_of_case.ensures.told held (said c.args.command.now) (shown_design c.args.read) test design die logs e
+    c.report_of_case.ensures.told held (shown_order c.args.order.now) (shown_design c.args.read) test design die logs e

@@ -1,0 +1,7 @@
+pub mod Words
+pub mod Arguments
+pub mod Table
+pub mod Right
+pub mod Asked
+pub mod Shown
+pub mod Assigned

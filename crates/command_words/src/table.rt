@@ -1,0 +1,116 @@
+//! The table of the commands.
+use crate::argument::Argument;
+use scan_model::Profile;
+
+/// What is made of the files of a design.
+#[derive(Clone, Copy)]
+pub enum Product {
+    /// The summary of the design.
+    Summary,
+    /// Its bundle.
+    Bundle,
+    /// The report of a die.
+    Report,
+}
+
+/// What a command does.
+#[derive(Clone, Copy)]
+pub enum Task {
+    /// Makes this of files, with the design in this profile.
+    Make(Product, Profile),
+    /// Makes a design, puts a fault into it and finds it.
+    Demo,
+    /// Serves the connections of a port over a store.
+    Serve,
+}
+
+/// A row of the table.
+#[derive(Clone, Copy)]
+pub struct Form {
+    /// The command's own word, the first.
+    pub word: &'static str,
+    pub task: Task,
+    /// What each of the next words is for.
+    pub arguments: &'static [Argument],
+    /// Whether one word or more are left after them, the names of logs.
+    pub has_logs: bool,
+}
+
+// The files of a design.
+const DESIGN: &[Argument] = &[
+    Argument::Netlist,
+    Argument::Scan,
+    Argument::Patterns,
+    Argument::Neighbours,
+];
+
+// The tags of a design and a die, and the files of the design.
+const DIE: &[Argument] = &[
+    Argument::Design,
+    Argument::Die,
+    Argument::Netlist,
+    Argument::Scan,
+    Argument::Patterns,
+    Argument::Neighbours,
+];
+
+const MADE: &[Argument] = &[Argument::Seed, Argument::Blocks];
+
+const SERVED: &[Argument] = &[
+    Argument::Port,
+    Argument::Workers,
+    Argument::Sessions,
+    Argument::Store,
+];
+
+/// The commands.
+pub const COMMANDS: [Form; 8] = [
+    Form {
+        word: "check",
+        task: Task::Make(Product::Summary, Profile::One),
+        arguments: DESIGN,
+        has_logs: false,
+    },
+    Form {
+        word: "check2",
+        task: Task::Make(Product::Summary, Profile::Two),
+        arguments: DESIGN,
+        has_logs: false,
+    },
+    Form {
+        word: "pack",
+        task: Task::Make(Product::Bundle, Profile::One),
+        arguments: DESIGN,
+        has_logs: false,
+    },
+    Form {
+        word: "pack2",
+        task: Task::Make(Product::Bundle, Profile::Two),
+        arguments: DESIGN,
+        has_logs: false,
+    },
+    Form {
+        word: "diagnose",
+        task: Task::Make(Product::Report, Profile::One),
+        arguments: DIE,
+        has_logs: true,
+    },
+    Form {
+        word: "diagnose2",
+        task: Task::Make(Product::Report, Profile::Two),
+        arguments: DIE,
+        has_logs: true,
+    },
+    Form {
+        word: "demo",
+        task: Task::Demo,
+        arguments: MADE,
+        has_logs: false,
+    },
+    Form {
+        word: "serve",
+        task: Task::Serve,
+        arguments: SERVED,
+        has_logs: false,
+    },
+];
