@@ -77,7 +77,7 @@ module _ (words : List (List ℕ)) (f : Form) (named : form_named words ≡ Some
   sound_by (Make product profile) is = λ of_die.
       let does : makes_for_die f.task ≡ true = ap makes_for_die is ∙ of_die in
       (taken_right makes_for_die argument.Design Tag takes_design does, taken_right makes_for_die argument.Die Tag takes_die does)
-  sound_by Demo is = (bounds 1 200 (number_of (word_for f words argument.Blocks)) (taken_right tries argument.Blocks (Number 1 200) takes_blocks (ap tries is))).1
+  sound_by Demo is = bounds 1 200 (number_of (word_for f words argument.Blocks)) (taken_right tries argument.Blocks (Number 1 200) takes_blocks (ap tries is))
   sound_by Serve is = bounds 1 64 (number_of (word_for f words argument.Workers)) (taken_right serves argument.Workers (Number 1 64) takes_workers (ap serves is))
 
   pub sound : IsSound (asked_of words f)

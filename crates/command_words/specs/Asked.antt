@@ -130,5 +130,5 @@ is_of_die _ = true
 
 abbrev pub IsSound : Asked → Type 0
 IsSound (making product request) = is_of_die product ≡ true → (is_tag request.design ≡ true) × (is_tag request.die ≡ true)
-IsSound (trying seed blocks) = blocks ≤ 200
+IsSound (trying seed blocks) = (1 ≤ blocks) × (blocks ≤ 200)
 IsSound (serving service) = (1 ≤ service.workers) × (service.workers ≤ 64)
