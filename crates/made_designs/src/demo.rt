@@ -3,7 +3,7 @@ mod diagnosed;
 mod injected;
 mod lines;
 
-ghost use Rattle.std.specs.Prelude.{◌≡◌, ◌≤◌, ◌<◌, ◌++◌, ◌∷◌, [], Some, Ok, IfOk, OnOk, IfSome, length, codes, decimal};
+ghost use Rattle.std.specs.Prelude.{◌≡◌, ◌≤◌, ◌<◌, ◌++◌, ◌∷◌, [], Some, Ok, IfOk, IfErr, OnOk, IfSome, length, codes, decimal};
 ghost use Rattle.hex.specs.Hex.{encode_lower};
 ghost use Rattle.sha2.specs.Sha256.{sha256};
 ghost use Rattle.scan_model.specs.Universe.{universe};
@@ -11,6 +11,7 @@ ghost use Rattle.scan_model.specs.ReportText as text_of;
 ghost use Rattle.diag_report.specs.PredictedLog.{HasWordNames, fault_of};
 ghost use Rattle.diag_report.specs.Summary.{count_line};
 ghost use Rattle.diagnosis.specs.Bundle.{texts_reading};
+ghost use Rattle.diagnosis.specs.Reading.{RefusedBy};
 ghost use Rattle.made_designs.specs.Demo.{demo_written, injected_lines, rank_lines};
 ghost use Rattle.made_designs.specs.Made.{BreakNoRule};
 ghost use Rattle.made_designs.specs.Injected.{IsDemoCase, IsFound, IsAfterTexts, IsText, place_of, texts_of};
@@ -143,20 +144,28 @@ fn text_of_design<R: Threads + Sync>(
 }
 
 // The scan test of the texts that were made.
-fn read_made(alloc: Global, made: &Made) -> Result<Parts, NoMemory>
-    requires { BreakNoRule (texts_of made.now) }
+fn read_made(alloc: Global, made: &Made) -> Result<Parts, BundleFault>
     ensures stands { IfOk result (λ parts. texts_reading (texts_of made.now) ≡ Ok parts) }
     ensures names { IfOk result HasWordNames }
+    ensures fault { IfErr result (RefusedBy (texts_reading (texts_of made.now))) }
 {
-    let read = parts_of(
+    parts_of(
         alloc,
         Profile::One,
         made.netlist.as_slice(),
         made.scan.as_slice(),
         made.patterns.as_slice(),
         made.neighbours.as_slice(),
-    );
-    match read {
+    )
+}
+
+// The same of texts that break no rule.
+fn parts_of_made(alloc: Global, made: &Made) -> Result<Parts, NoMemory>
+    requires { BreakNoRule (texts_of made.now) }
+    ensures stands { IfOk result (λ parts. texts_reading (texts_of made.now) ≡ Ok parts) }
+    ensures names { IfOk result HasWordNames }
+{
+    match read_made(alloc, made) {
         Ok(parts) => Ok(parts),
         Err(BundleFault::Text { .. }) => unreachable!(),
         Err(BundleFault::NoMemory) => Err(NoMemory),
@@ -170,6 +179,6 @@ pub fn demo_text<R: Threads + Sync>(rt: &R, alloc: Global, demo: Demo) -> Result
     ensures { IfOk result (λ text. text ≡ demo_written demo.seed demo.blocks) }
 {
     let mut made = made_design(alloc, demo.seed, demo.blocks)?;
-    let parts = read_made(alloc, &made)?;
+    let parts = parts_of_made(alloc, &made)?;
     text_of_design(rt, alloc, demo, parts, &mut made.draws)
 }
