@@ -7,8 +7,8 @@ mod FailSteps
 mod Bools
 mod BitRanges
 mod OwnLog
-mod PlainWords
-mod NumberWords
+pub mod PlainWords
+pub mod NumberWords
 mod LogForms
 mod LogRules
 mod ListedBits

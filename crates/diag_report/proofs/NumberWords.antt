@@ -29,6 +29,9 @@ folds = record { empty = λ n. refl; more = λ n c cs range. refl }
 model : IsNumeralModel AreDigits digits_number
 model = numerals_by_fold AreDigits tells (λ n ds. fold (λ m b. m * 10 + (b - 48)) n ds) folds
 
+pub decimal_digits : (n : ℕ) → n < 2 ^ 64 → list_all is_digit (decimal n) ≡ true
+decimal_digits n wide = digits_decimal model n wide
+
 decimal_zero : decimal 0 ≡ 48 ∷ []
 unfolding digits
 decimal_zero = refl

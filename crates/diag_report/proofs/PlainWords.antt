@@ -97,7 +97,7 @@ parts_cons : (x : List ℕ) (parts : List (List ℕ)) → 0 < length parts → l
 parts_cons x [] l = absurd (omega arith)
 parts_cons x (y ∷ more) l = refl
 
-first_line : (bs rest : List ℕ) → Lacks (λ b. eqb b 10) bs → Lacks (λ b. eqb b 13) bs → lines (bs ++ 10 ∷ rest) ≡ bs ∷ lines rest
+pub first_line : (bs rest : List ℕ) → Lacks (λ b. eqb b 10) bs → Lacks (λ b. eqb b 13) bs → lines (bs ++ 10 ∷ rest) ≡ bs ∷ lines rest
 first_line bs rest no_feed no_return =
     ap lines_of_parts (slice_split_at (λ b. eqb b 10) bs 10 rest no_feed refl) ∙ parts_cons bs (slice_split (λ b. eqb b 10) rest) (omega (arith, length-slice_split (λ b. eqb b 10) rest))
     ∙ ap (λ (l : List ℕ). l ∷ lines rest) (not_stripped bs no_return)

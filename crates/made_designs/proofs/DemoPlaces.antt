@@ -6,7 +6,7 @@ use Rattle.std.proofs.lemmas.Bool.Decides.{nat_tests}
 use Rattle.scan_model.specs.ScanTest.{ScanTest}
 use Rattle.scan_model.specs.Universe.{universe}
 use Rattle.diagnosis.specs.Designs.{ReadLogFacts}
-use Rattle.made_designs.specs.Draws.{next_state, state_after, upper, draw}
+use Rattle.made_laws.specs.Draws.{next_state, state_after, upper, draw}
 use Rattle.made_designs.specs.Made.{text_draws}
 use Rattle.made_designs.specs.Demo.{tried_places, predicts_some, injected_from, drawn_place}
 use Rattle.made_designs.specs.Injected.{IsOwnLog, IsFirst, IsAfterTexts, IsDrawn}

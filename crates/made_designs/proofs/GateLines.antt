@@ -2,8 +2,8 @@
 use Rattle.std.proofs.Common.{◌≡◌, ℕ, ◌+◌, ◌%◌, List, ◌++◌, refl, ap, ◌∙◌, add-one, arith}
 use Rattle.std.specs.Prelude.{flat_map}
 use Rattle.std.specs.List.{range_with_len}
-use Rattle.made_designs.specs.Draws.{next_state, state_after, upper, draw}
-use Rattle.made_designs.specs.MadeNetlist.{gate_line, gate_draw, drawn_gate, block_gates}
+use Rattle.made_laws.specs.Draws.{next_state, state_after, upper, draw}
+use Rattle.made_laws.specs.MadeNetlist.{gate_line, gate_draw, drawn_gate, block_gates}
 
 -- a number drawn, and the state after it
 pub drawn : (seed i j m before after number : ℕ) → i + 1 ≡ j → before ≡ state_after seed i → after ≡ next_state before → number ≡ upper after % m

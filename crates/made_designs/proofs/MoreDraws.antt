@@ -1,8 +1,8 @@
 -- One more draw: the state after it, and the digit that it gives.
 use Rattle.std.proofs.Common.{◌≡◌, ◌∙◌, ap, sym, refl, ℕ, suc, ◌+◌, ◌%◌, List, [], ◌∷◌, ◌++◌, append_assoc, arith}
 use Rattle.std.proofs.lemmas.List.FromFn.{map-range_with_len_more}
-use Rattle.made_designs.specs.Draws.{state_after, next_state, upper, draw}
-use Rattle.made_designs.specs.MadePatterns.{drawn_digits}
+use Rattle.made_laws.specs.Draws.{state_after, next_state, upper, draw}
+use Rattle.made_laws.specs.MadePatterns.{drawn_digits}
 
 -- after one draw more than n from the state after i draws
 pub state_more : (seed i n now next : ℕ) → now ≡ state_after seed (i + n) → next ≡ next_state now → next ≡ state_after seed (i + (n + 1))

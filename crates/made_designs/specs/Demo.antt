@@ -15,7 +15,7 @@ use Rattle.diag_report.specs.PredictedLog.{fault_of, predicted_bits, predicted_l
 use Rattle.diag_report.specs.Summary.{count_line}
 use Rattle.diagnosis.specs.declared.section.Section.{Section}
 use Rattle.diagnosis.specs.Bundle.{texts_reading}
-use Rattle.made_designs.specs.Draws.{draw}
+use Rattle.made_laws.specs.Draws.{draw}
 use Rattle.made_designs.specs.Made.{made_texts, text_draws}
 
 -- the name of the design and of the die

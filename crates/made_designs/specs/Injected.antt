@@ -13,7 +13,7 @@ use Rattle.diagnosis.specs.Designs.{ReadLogFacts, StandsOver}
 use Rattle.diagnosis.specs.Cases.{CaseFacts}
 use Rattle.made_designs.specs.declared.design.Made.{Made}
 use Rattle.made_designs.specs.declared.demo.injected.Injected.{Injected}
-use Rattle.made_designs.specs.Draws.{state_after}
+use Rattle.made_laws.specs.Draws.{state_after}
 use Rattle.made_designs.specs.Made.{text_draws}
 use Rattle.made_designs.specs.Demo.{demo_name, injected_from, drawn_place, demo_lines}
 

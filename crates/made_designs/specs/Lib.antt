@@ -1,8 +1,3 @@
-pub mod Draws
-pub mod MadeNetlist
-pub mod MadeScan
-pub mod MadePatterns
-pub mod MadePairs
 pub mod Made
 pub mod Demo
 pub mod Injected

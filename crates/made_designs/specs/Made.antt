@@ -2,10 +2,10 @@
 use Rattle.std.specs.Prelude.{ℕ}
 use Rattle.diagnosis.specs.Texts.{FourTexts}
 use Rattle.scan_model.specs.declared.fault.Profile.TheVariants.{One}
-use Rattle.made_designs.specs.MadeNetlist.{made_netlist}
-use Rattle.made_designs.specs.MadeScan.{made_scan}
-use Rattle.made_designs.specs.MadePatterns.{made_patterns, first_draw}
-use Rattle.made_designs.specs.MadePairs.{made_pairs}
+use Rattle.made_laws.specs.MadeNetlist.{made_netlist}
+use Rattle.made_laws.specs.MadeScan.{made_scan}
+use Rattle.made_laws.specs.MadePatterns.{made_patterns, first_draw}
+use Rattle.made_laws.specs.MadePairs.{made_pairs}
 
 abbrev pub made_texts : ℕ → ℕ → FourTexts
 made_texts seed blocks = record {

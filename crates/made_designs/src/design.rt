@@ -1,6 +1,6 @@
 //! The generator: the four texts of a design of so many blocks, drawn from a seed.
 ghost use Rattle.std.specs.Prelude.{◌≡◌, ◌≤◌, IfOk};
-ghost use Rattle.made_designs.specs.Draws.{state_after};
+ghost use Rattle.made_laws.specs.Draws.{state_after};
 ghost use Rattle.made_designs.specs.Made.{made_texts, text_draws};
 ghost use Rattle.diagnosis.specs.Reading.{four};
 ghost use Rattle.scan_model.specs.declared.fault.Profile.TheVariants as profile;

@@ -1,6 +1,6 @@
 //! Draws of numbers.
 ghost use Rattle.std.specs.Prelude.{◌≡◌, ◌<◌, ◌%◌};
-ghost use Rattle.made_designs.specs.Draws.{next_state, upper};
+ghost use Rattle.made_laws.specs.Draws.{next_state, upper};
 
 /// The state from which numbers are drawn: a linear congruential generator over 64 bits, of which the upper 32 are used.
 #[derive(Drop)]

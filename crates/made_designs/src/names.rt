@@ -1,6 +1,6 @@
 //! Names of nets of a made design.
 ghost use Rattle.std.specs.Prelude.{◌≡◌, ◌++◌, ◌∷◌, [], decimal, OnOk};
-ghost use Rattle.made_designs.specs.MadeNetlist.{net_name};
+ghost use Rattle.made_laws.specs.MadeNetlist.{net_name};
 
 use itoa::Buffer;
 use scan_model::{Name, NoMemory};

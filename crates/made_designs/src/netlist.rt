@@ -1,8 +1,8 @@
 //! The netlist of a made design.
 ghost use Rattle.std.specs.Prelude.{◌≡◌, ◌≤◌, ◌<◌, ◌+◌, ◌*◌, ◌++◌, ℕ, IfOk, OnOk, flat_map};
 ghost use Rattle.std.specs.List.{range_with_len};
-ghost use Rattle.made_designs.specs.Draws.{state_after};
-ghost use Rattle.made_designs.specs.MadeNetlist.{made_netlist, input_line, output_line, cell_line, gate_word, operand_name, gate_line, gate_draw, drawn_gate, block_inputs, block_outputs, block_cells, block_gates};
+ghost use Rattle.made_laws.specs.Draws.{state_after};
+ghost use Rattle.made_laws.specs.MadeNetlist.{made_netlist, input_line, output_line, cell_line, gate_word, operand_name, gate_line, gate_draw, drawn_gate, block_inputs, block_outputs, block_cells, block_gates};
 
 use crate::block::{CELLS, GATES, INPUTS};
 use crate::draws::Draws;

@@ -1,6 +1,6 @@
 //! The neighbours of a made design.
 ghost use Rattle.std.specs.Prelude.{◌≡◌, ◌<◌, ◌≤◌, ◌++◌, IfOk, OnOk};
-ghost use Rattle.made_designs.specs.MadePairs.{made_pairs, pair_line};
+ghost use Rattle.made_laws.specs.MadePairs.{made_pairs, pair_line};
 
 use crate::names::push_net;
 use scan_model::{Name, NoMemory};

@@ -1,8 +1,8 @@
 //! The patterns of a made design.
 ghost use Rattle.std.specs.Prelude.{◌≡◌, ℕ, ◌+◌, ◌*◌, ◌≤◌, ◌++◌, length, take, flat_map, IfOk, OnOk};
 ghost use Rattle.std.specs.List.{range_with_len};
-ghost use Rattle.made_designs.specs.Draws.{state_after};
-ghost use Rattle.made_designs.specs.MadePatterns.{made_patterns, first_draw, drawn_digits, load_words, shift_line, capture_line, pattern_line};
+ghost use Rattle.made_laws.specs.Draws.{state_after};
+ghost use Rattle.made_laws.specs.MadePatterns.{made_patterns, first_draw, drawn_digits, load_words, shift_line, capture_line, pattern_line};
 
 use crate::block::{CELLS, INPUTS};
 use crate::draws::Draws;

@@ -1,7 +1,7 @@
 //! The scan chains of a made design.
 ghost use Rattle.std.specs.Prelude.{◌≡◌, ◌+◌, ◌*◌, ◌<◌, ◌≤◌, ◌++◌, flat_map, IfOk, OnOk};
 ghost use Rattle.std.specs.List.{range_with_len};
-ghost use Rattle.made_designs.specs.MadeScan.{made_scan, chain_count, chain_blocks, cell_word, cell_words, chain_line};
+ghost use Rattle.made_laws.specs.MadeScan.{made_scan, chain_count, chain_blocks, cell_word, cell_words, chain_line};
 
 use crate::block::CELLS;
 use crate::names::{push_net, push_number};

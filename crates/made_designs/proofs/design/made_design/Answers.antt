@@ -1,10 +1,10 @@
 use Rattle.std.proofs.Common.{◌≡◌, ℕ, List}
 use Rattle.diagnosis.specs.Reading.{four}
 use Rattle.scan_model.specs.declared.fault.Profile.TheVariants.{One}
-use Rattle.made_designs.specs.MadeNetlist.{made_netlist}
-use Rattle.made_designs.specs.MadeScan.{made_scan}
-use Rattle.made_designs.specs.MadePatterns.{made_patterns}
-use Rattle.made_designs.specs.MadePairs.{made_pairs}
+use Rattle.made_laws.specs.MadeNetlist.{made_netlist}
+use Rattle.made_laws.specs.MadeScan.{made_scan}
+use Rattle.made_laws.specs.MadePatterns.{made_patterns}
+use Rattle.made_laws.specs.MadePairs.{made_pairs}
 use Rattle.made_designs.proofs.design.made_design.Goals as goal
 
 -- four texts that are equal one by one

@@ -1,6 +1,6 @@
 use Rattle.std.proofs.Common.{◌≡◌, ◌*◌, ap, ◌∙◌, arith}
-use Rattle.made_designs.specs.Draws.{state_after}
-use Rattle.made_designs.specs.MadeNetlist.{gate_draw}
+use Rattle.made_laws.specs.Draws.{state_after}
+use Rattle.made_laws.specs.MadeNetlist.{gate_draw}
 use Rattle.made_designs.proofs.netlist.made_netlist.Goals as goal
 
 pub returns-clause-draws : goal.returns-clause-draws

@@ -1,5 +1,5 @@
 use Rattle.std.proofs.Common.{refl, arith}
-use Rattle.made_designs.specs.MadeNetlist.{block_inputs}
+use Rattle.made_laws.specs.MadeNetlist.{block_inputs}
 use Rattle.made_designs.proofs.MorePieces.{line_added}
 use Rattle.made_designs.proofs.netlist.push_all_inputs.Goals as goal
 

@@ -1,5 +1,5 @@
 use Rattle.std.proofs.Common.{List, ℕ, ◌++◌, append_assoc, ap, ◌∙◌, refl, arith}
-use Rattle.made_designs.specs.MadeNetlist.{block_cells, block_gates}
+use Rattle.made_laws.specs.MadeNetlist.{block_cells, block_gates}
 use Rattle.made_designs.proofs.MorePieces.{line_added}
 use Rattle.made_designs.proofs.netlist.push_blocks.Goals as goal
 

@@ -1,8 +1,8 @@
 use Rattle.std.proofs.Common.{◌≡◌, ◌++◌, ℕ}
 use Rattle.std.specs.Prelude.{flat_map}
 use Rattle.std.specs.List.{range_with_len}
-use Rattle.made_designs.specs.Draws.{state_after}
-use Rattle.made_designs.specs.MadeNetlist.{block_cells, block_gates, gate_draw}
+use Rattle.made_laws.specs.Draws.{state_after}
+use Rattle.made_laws.specs.MadeNetlist.{block_cells, block_gates, gate_draw}
 use Rattle.made_designs.proofs.netlist.push_blocks.Given as goal
 
 abbrev pub invariant-loop-block : goal.invariant-loop-block

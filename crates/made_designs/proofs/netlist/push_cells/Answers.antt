@@ -1,5 +1,5 @@
 use Rattle.std.proofs.Common.{arith}
-use Rattle.made_designs.specs.MadeNetlist.{cell_line}
+use Rattle.made_laws.specs.MadeNetlist.{cell_line}
 use Rattle.made_designs.proofs.MorePieces.{one_more}
 use Rattle.made_designs.proofs.netlist.push_cells.Goals as goal
 

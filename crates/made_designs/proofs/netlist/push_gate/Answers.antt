@@ -1,6 +1,6 @@
 use Rattle.std.proofs.Common.{◌≡◌, ◌+◌, List, ℕ, ◌++◌, ap, ◌∙◌, refl, arith}
 use Rattle.std.proofs.lemmas.Result.{on_ok_weaker}
-use Rattle.made_designs.specs.MadeNetlist.{gate_draw, gate_line, drawn_gate}
+use Rattle.made_laws.specs.MadeNetlist.{gate_draw, gate_line, drawn_gate}
 use Rattle.made_designs.proofs.GateLines.{drawn, gate_is}
 use Rattle.made_designs.proofs.netlist.push_gate.Goals as goal
 

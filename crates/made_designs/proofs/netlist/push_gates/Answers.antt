@@ -1,6 +1,6 @@
 use Rattle.std.proofs.Common.{◌≡◌, ◌+◌, ap, ◌∙◌, refl, arith}
-use Rattle.made_designs.specs.Draws.{state_after}
-use Rattle.made_designs.specs.MadeNetlist.{gate_draw, drawn_gate}
+use Rattle.made_laws.specs.Draws.{state_after}
+use Rattle.made_laws.specs.MadeNetlist.{gate_draw, drawn_gate}
 use Rattle.made_designs.proofs.MorePieces.{line_added}
 use Rattle.made_designs.proofs.GateLines.{whole_block}
 use Rattle.made_designs.proofs.netlist.push_gates.Goals as goal

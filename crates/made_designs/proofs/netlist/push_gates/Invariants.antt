@@ -1,8 +1,8 @@
 use Rattle.std.proofs.Common.{◌≡◌, ◌++◌, ℕ}
 use Rattle.std.specs.Prelude.{flat_map}
 use Rattle.std.specs.List.{range_with_len}
-use Rattle.made_designs.specs.Draws.{state_after}
-use Rattle.made_designs.specs.MadeNetlist.{gate_draw, drawn_gate}
+use Rattle.made_laws.specs.Draws.{state_after}
+use Rattle.made_laws.specs.MadeNetlist.{gate_draw, drawn_gate}
 use Rattle.made_designs.proofs.netlist.push_gates.Given as goal
 
 abbrev pub invariant-loop-gate : goal.invariant-loop-gate

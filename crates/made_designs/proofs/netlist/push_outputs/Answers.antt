@@ -1,5 +1,5 @@
 use Rattle.std.proofs.Common.{refl}
-use Rattle.made_designs.specs.MadeNetlist.{output_line}
+use Rattle.made_laws.specs.MadeNetlist.{output_line}
 use Rattle.made_designs.proofs.MorePieces.{one_more}
 use Rattle.made_designs.proofs.netlist.push_outputs.Goals as goal
 

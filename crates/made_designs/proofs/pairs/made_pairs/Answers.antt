@@ -1,6 +1,6 @@
 use Rattle.std.proofs.Common.{arith}
 use Rattle.std.specs.Prelude.{codes}
-use Rattle.made_designs.specs.MadePairs.{pair_line}
+use Rattle.made_laws.specs.MadePairs.{pair_line}
 use Rattle.made_designs.proofs.MorePieces.{one_more}
 use Rattle.made_designs.proofs.pairs.made_pairs.Goals as goal
 

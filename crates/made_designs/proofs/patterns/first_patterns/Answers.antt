@@ -1,5 +1,5 @@
 use Rattle.std.proofs.Common.{[], arith}
-use Rattle.made_designs.specs.MadePatterns.{pattern_line}
+use Rattle.made_laws.specs.MadePatterns.{pattern_line}
 use Rattle.made_designs.proofs.MorePieces.{one_more}
 use Rattle.made_designs.proofs.patterns.first_patterns.Goals as goal
 

@@ -1,8 +1,8 @@
 use Rattle.std.proofs.Common.{◌≡◌, ℕ, ◌*◌}
 use Rattle.std.specs.Prelude.{flat_map}
 use Rattle.std.specs.List.{range_with_len}
-use Rattle.made_designs.specs.Draws.{state_after}
-use Rattle.made_designs.specs.MadePatterns.{pattern_line, first_draw}
+use Rattle.made_laws.specs.Draws.{state_after}
+use Rattle.made_laws.specs.MadePatterns.{pattern_line, first_draw}
 use Rattle.made_designs.proofs.patterns.first_patterns.Given as goal
 
 abbrev pub invariant-loop-pattern : goal.invariant-loop-pattern

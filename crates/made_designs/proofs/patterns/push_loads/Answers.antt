@@ -1,6 +1,6 @@
 use Rattle.std.proofs.Common.{◌≡◌, ◌∙◌, ap, ◌+◌, ◌*◌, min, [], ◌∷◌, ◌++◌, append_assoc, arith}
-use Rattle.made_designs.specs.Draws.{state_after}
-use Rattle.made_designs.specs.MadePatterns.{load_word, drawn_digits}
+use Rattle.made_laws.specs.Draws.{state_after}
+use Rattle.made_laws.specs.MadePatterns.{load_word, drawn_digits}
 use Rattle.made_designs.proofs.MorePieces.{one_more}
 use Rattle.made_designs.proofs.patterns.push_loads.Goals as goal
 

@@ -1,7 +1,7 @@
 use Rattle.std.proofs.Common.{◌≡◌, ℕ, ◌+◌, ◌*◌, min, ◌++◌, flat_map}
 use Rattle.std.specs.List.{range_with_len}
-use Rattle.made_designs.specs.Draws.{state_after}
-use Rattle.made_designs.specs.MadePatterns.{load_word}
+use Rattle.made_laws.specs.Draws.{state_after}
+use Rattle.made_laws.specs.MadePatterns.{load_word}
 use Rattle.made_designs.proofs.patterns.push_loads.Given as goal
 
 abbrev pub invariant-loop-chain : goal.invariant-loop-chain

@@ -1,6 +1,6 @@
 use Rattle.std.proofs.Common.{◌≡◌, ℕ, ◌+◌, length, take}
-use Rattle.made_designs.specs.Draws.{state_after}
-use Rattle.made_designs.specs.MadePatterns.{drawn_digits}
+use Rattle.made_laws.specs.Draws.{state_after}
+use Rattle.made_laws.specs.MadePatterns.{drawn_digits}
 use Rattle.made_designs.proofs.patterns.write_digits.Given as goal
 
 abbrev pub invariant-loop-place : goal.invariant-loop-place

@@ -1,5 +1,5 @@
 use Rattle.std.proofs.Common.{arith, []}
-use Rattle.made_designs.specs.MadeScan.{chain_line}
+use Rattle.made_laws.specs.MadeScan.{chain_line}
 use Rattle.made_designs.proofs.MorePieces.{one_more}
 use Rattle.made_designs.proofs.scan.made_scan.Goals as goal
 

@@ -1,5 +1,5 @@
 use Rattle.std.proofs.Common.{refl}
-use Rattle.made_designs.specs.MadeScan.{cell_words}
+use Rattle.made_laws.specs.MadeScan.{cell_words}
 use Rattle.made_designs.proofs.MorePieces.{one_more}
 use Rattle.made_designs.proofs.scan.push_blocks.Goals as goal
 

@@ -1,7 +1,7 @@
 use Rattle.std.proofs.Common.{◌≡◌, ◌++◌}
 use Rattle.std.specs.Prelude.{flat_map}
 use Rattle.std.specs.List.{range_with_len}
-use Rattle.made_designs.specs.MadeScan.{cell_words}
+use Rattle.made_laws.specs.MadeScan.{cell_words}
 use Rattle.made_designs.proofs.scan.push_blocks.Given as goal
 
 abbrev pub invariant-loop-place : goal.invariant-loop-place

@@ -1,5 +1,5 @@
 use Rattle.std.proofs.Common.{arith}
-use Rattle.made_designs.specs.MadeScan.{cell_word}
+use Rattle.made_laws.specs.MadeScan.{cell_word}
 use Rattle.made_designs.proofs.MorePieces.{one_more}
 use Rattle.made_designs.proofs.scan.push_cells.Goals as goal
 

@@ -1,7 +1,7 @@
 use Rattle.std.proofs.Common.{◌≡◌, ◌++◌}
 use Rattle.std.specs.Prelude.{flat_map}
 use Rattle.std.specs.List.{range_with_len}
-use Rattle.made_designs.specs.MadeScan.{cell_word}
+use Rattle.made_laws.specs.MadeScan.{cell_word}
 use Rattle.made_designs.proofs.scan.push_cells.Given as goal
 
 abbrev pub invariant-loop-cell : goal.invariant-loop-cell

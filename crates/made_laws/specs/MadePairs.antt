@@ -1,7 +1,7 @@
 -- The neighbours that the generator makes: gate 50 of each block beside that of the next.
 use Rattle.std.specs.Prelude.{ℕ, ◌+◌, ◌-◌, List, ◌++◌, flat_map, codes}
 use Rattle.std.specs.List.{range_with_len}
-use Rattle.made_designs.specs.MadeNetlist.{gate_name}
+use Rattle.made_laws.specs.MadeNetlist.{gate_name}
 
 abbrev pub pair_line : ℕ → List ℕ
 pair_line b = gate_name b 50 ++ (codes "," ++ (gate_name (b + 1) 50 ++ codes "\n"))

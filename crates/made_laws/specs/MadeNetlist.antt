@@ -1,7 +1,7 @@
 -- The netlist that the generator makes: blocks of ten inputs, five cells and a hundred gates.
 use Rattle.std.specs.Prelude.{ℕ, ◌+◌, ◌-◌, ◌*◌, nat_lt, if◌then◌else◌, List, [], ◌∷◌, ◌++◌, flat_map, decimal, codes, slice_index_or}
 use Rattle.std.specs.List.{range_with_len}
-use Rattle.made_designs.specs.Draws.{draw}
+use Rattle.made_laws.specs.Draws.{draw}
 
 -- the name of net j of its kind in block b
 abbrev pub net_name : List ℕ → ℕ → ℕ → List ℕ

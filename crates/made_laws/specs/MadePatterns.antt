@@ -1,8 +1,8 @@
 -- The patterns that the generator makes: 512, of which each 64th shifts alone.
 use Rattle.std.specs.Prelude.{ℕ, zero, suc, ◌+◌, ◌*◌, ◌%◌, ◌==◌, Bool, if◌then◌else◌, List, ◌++◌, map, flat_map, codes}
 use Rattle.std.specs.List.{range_with_len}
-use Rattle.made_designs.specs.Draws.{draw}
-use Rattle.made_designs.specs.MadeScan.{chain_count, chain_blocks}
+use Rattle.made_laws.specs.Draws.{draw}
+use Rattle.made_laws.specs.MadeScan.{chain_count, chain_blocks}
 
 abbrev pub is_shift : ℕ → Bool
 is_shift p = p % 64 == 0

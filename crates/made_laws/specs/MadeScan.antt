@@ -1,7 +1,7 @@
 -- The scan chains that the generator makes: a chain for each 25 blocks.
 use Rattle.std.specs.Prelude.{ℕ, ◌+◌, ◌-◌, ◌*◌, ◌/◌, min, List, ◌++◌, flat_map, decimal, codes}
 use Rattle.std.specs.List.{range_with_len}
-use Rattle.made_designs.specs.MadeNetlist.{cell_name}
+use Rattle.made_laws.specs.MadeNetlist.{cell_name}
 
 abbrev pub chain_count : ℕ → ℕ
 chain_count blocks = (blocks + 24) / 25
