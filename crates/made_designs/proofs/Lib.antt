@@ -7,3 +7,4 @@ pub mod FirstPlace
 pub mod MorePieces
 pub mod MoreDraws
 pub mod GateLines
+mod MadeReading

@@ -79,10 +79,10 @@ demo_lines seed blocks t =
 
 -- ---- the whole text
 
--- over what the texts stand for, where none is refused
-abbrev pub text_over : ℕ → ℕ → Result ScanTest (Section × (ℕ × ℕ)) → Result (List ℕ) (Section × (ℕ × ℕ))
-text_over seed blocks (Ok t) = Ok (joined (demo_lines seed blocks t))
-text_over seed blocks (Err refused) = Err refused
+-- over what texts stand for: those of 1 to 200 blocks break no rule, so that there is a test
+abbrev pub text_over : ℕ → ℕ → Result ScanTest (Section × (ℕ × ℕ)) → List ℕ
+text_over seed blocks (Ok t) = joined (demo_lines seed blocks t)
+text_over seed blocks (Err refused) = []
 
-abbrev pub demo_reading : ℕ → ℕ → Result (List ℕ) (Section × (ℕ × ℕ))
-demo_reading seed blocks = text_over seed blocks (texts_reading (made_texts seed blocks))
+abbrev pub demo_written : ℕ → ℕ → List ℕ
+demo_written seed blocks = text_over seed blocks (texts_reading (made_texts seed blocks))

@@ -1,6 +1,8 @@
 -- The texts of the design that the generator makes, and the draw that comes after them.
-use Rattle.std.specs.Prelude.{ℕ}
+use Rattle.std.specs.Prelude.{◌≡◌, ℕ, Ok}
 use Rattle.diagnosis.specs.Texts.{FourTexts}
+use Rattle.diagnosis.specs.Bundle.{texts_reading}
+use Rattle.scan_model.specs.ScanTest.{ScanTest}
 use Rattle.scan_model.specs.declared.fault.Profile.TheVariants.{One}
 use Rattle.made_laws.specs.MadeNetlist.{made_netlist}
 use Rattle.made_laws.specs.MadeScan.{made_scan}
@@ -19,3 +21,8 @@ made_texts seed blocks = record {
 -- how many draws the texts take
 abbrev pub text_draws : ℕ → ℕ
 text_draws blocks = first_draw blocks 512
+
+-- texts that break no rule, by what they stand for
+pub record BreakNoRule (texts : FourTexts) : Type 0 where
+  pub test : ScanTest
+  pub stands : texts_reading texts ≡ Ok test

@@ -12,7 +12,8 @@ ghost use Rattle.diag_report.specs.PredictedLog.{HasWordNames, fault_of};
 ghost use Rattle.diag_report.specs.Summary.{count_line};
 ghost use Rattle.diagnosis.specs.Bundle.{texts_reading};
 ghost use Rattle.diagnosis.specs.Reading.{RefusedBy};
-ghost use Rattle.made_designs.specs.Demo.{demo_reading, injected_lines, rank_lines};
+ghost use Rattle.made_designs.specs.Demo.{demo_written, injected_lines, rank_lines};
+ghost use Rattle.made_designs.specs.Made.{BreakNoRule};
 ghost use Rattle.made_designs.specs.Injected.{IsDemoCase, IsFound, IsAfterTexts, IsText, place_of, texts_of};
 
 use crate::demo::diagnosed::diagnosis_of;
@@ -158,14 +159,26 @@ fn read_made(alloc: Global, made: &Made) -> Result<Parts, BundleFault>
     )
 }
 
-/// The text of `demo`, or the first fault of the texts that were made.
-pub fn demo_text<R: Threads + Sync>(rt: &R, alloc: Global, demo: Demo) -> Result<Name, BundleFault>
-    requires { demo.blocks ≤ 200 }
-    ensures text { IfOk result (λ text. demo_reading demo.seed demo.blocks ≡ Ok text) }
-    ensures fault { IfErr result (RefusedBy (demo_reading demo.seed demo.blocks)) }
+// The same of texts that break no rule.
+fn parts_of_made(alloc: Global, made: &Made) -> Result<Parts, NoMemory>
+    requires { BreakNoRule (texts_of made.now) }
+    ensures stands { IfOk result (λ parts. texts_reading (texts_of made.now) ≡ Ok parts) }
+    ensures names { IfOk result HasWordNames }
+{
+    match read_made(alloc, made) {
+        Ok(parts) => Ok(parts),
+        Err(BundleFault::Text { .. }) => unreachable!(),
+        Err(BundleFault::NoMemory) => Err(NoMemory),
+    }
+}
+
+/// The text of `demo`.
+pub fn demo_text<R: Threads + Sync>(rt: &R, alloc: Global, demo: Demo) -> Result<Name, NoMemory>
+    requires some { 1 ≤ demo.blocks }
+    requires few { demo.blocks ≤ 200 }
+    ensures { IfOk result (λ text. text ≡ demo_written demo.seed demo.blocks) }
 {
     let mut made = made_design(alloc, demo.seed, demo.blocks)?;
-    let parts = read_made(alloc, &made)?;
-    let text = text_of_design(rt, alloc, demo, parts, &mut made.draws)?;
-    Ok(text)
+    let parts = parts_of_made(alloc, &made)?;
+    text_of_design(rt, alloc, demo, parts, &mut made.draws)
 }

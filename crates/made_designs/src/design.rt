@@ -1,7 +1,7 @@
 //! The generator: the four texts of a design of so many blocks, drawn from a seed.
 ghost use Rattle.std.specs.Prelude.{◌≡◌, ◌≤◌, IfOk};
 ghost use Rattle.made_laws.specs.Draws.{state_after};
-ghost use Rattle.made_designs.specs.Made.{made_texts, text_draws};
+ghost use Rattle.made_designs.specs.Made.{BreakNoRule, made_texts, text_draws};
 ghost use Rattle.diagnosis.specs.Reading.{four};
 ghost use Rattle.scan_model.specs.declared.fault.Profile.TheVariants as profile;
 
@@ -23,11 +23,12 @@ pub struct Made {
     pub draws: Draws,
 }
 
-/// The design of a seed and so many blocks.
+/// The design of a seed and so many blocks. With one block or more its texts break no rule.
 pub fn made_design(alloc: Global, seed: u32, blocks: u32) -> Result<Made, NoMemory>
     requires { blocks ≤ 200 }
     ensures texts { IfOk result (λ made. four profile.One made.netlist made.scan made.patterns made.neighbours ≡ made_texts seed blocks) }
     ensures draws { IfOk result (λ made. made.draws.state ≡ state_after seed (text_draws blocks)) }
+    ensures legal { 1 ≤ blocks → IfOk result (λ made. BreakNoRule (four profile.One made.netlist made.scan made.patterns made.neighbours)) }
 {
     let mut draws = Draws::from_seed(seed);
     let netlist = made_netlist(alloc, blocks, &mut draws)?;
