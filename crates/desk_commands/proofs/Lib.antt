@@ -1,5 +1,4 @@
 pub mod FilePlaces
-pub mod DemoOutput
 pub mod Pages
 pub mod WordFacts
 pub mod PlainWords

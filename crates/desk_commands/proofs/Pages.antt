@@ -2,14 +2,12 @@
 use Rattle.std.proofs.Common.{◌≡◌, ◌≢◌, ◌∙◌, inl, inr, List, ℕ, true, refl, sym, arith, Result, Ok, Err}
 use Rattle.std.specs.Prelude.{IfOk}
 use Rattle.scan_model.specs.declared.rows.NoMemory.{NoMemory}
-use Rattle.diagnosis.specs.declared.section.Section.{Section}
 use Rattle.desk_commands.specs.declared.files.Stop.{Stop}
 use Rattle.desk_commands.specs.declared.files.Stop.TheVariants.{Refused, Fault, NoMemory as LacksMemory}
 use Rattle.desk_commands.specs.declared.page.Page.{Page}
 use Rattle.desk_commands.specs.Reading.{Reading}
 use Rattle.desk_commands.specs.Work.{Output, output_of}
-use Rattle.made_designs.specs.Demo.{demo_reading}
-use Rattle.desk_commands.specs.Demo.{demo_of, demo_output}
+use Rattle.desk_commands.specs.Demo.{demo_output}
 use Rattle.desk_commands.specs.Stops.{Follows, IsPageOf, IsPageOfAnswer, is_fault, ends_by_fault}
 use Rattle.desk_commands.specs.Ending.{IsDueOf, IsOfPage}
 
@@ -40,30 +38,26 @@ pub output_is_due : (output : Output) (rose : Type 0) (made : Result Page NoMemo
 output_is_due output rose (Ok page) status text = inl (status, text)
 output_is_due output rose (Err e) status text = tt
 
--- ---- the page of a made design, whose status is 0 or 3
-
-other_status : (other : ℕ) → 0 ≢ other → 3 ≢ other → (reading : Result (List ℕ) (Section × (ℕ × ℕ))) → (demo_of reading).status ≢ other
-other_status other zero three (Ok text) = zero
-other_status other zero three (Err refused) = three
+-- ---- the page of a made design, whose status is 0
 
 module _ (seed blocks : ℕ) where
-  never : (other : ℕ) → 0 ≢ other → 3 ≢ other → (made : Result Page NoMemory) → IfOk made (λ page. page.status ≡ (demo_output seed blocks).status)
+  never : (other : ℕ) → 0 ≢ other → (made : Result Page NoMemory) → IfOk made (λ page. page.status ≡ (demo_output seed blocks).status)
       → IfOk made (λ page. page.status ≢ other)
-  never other zero three (Ok page) is = λ e. other_status other zero three (demo_reading seed blocks) (sym is ∙ e)
-  never other zero three (Err e) is = tt
+  never other differ (Ok page) is = λ e. differ (sym is ∙ e)
+  never other differ (Err e) is = tt
 
   pub demo_not_wrong : (made : Result Page NoMemory) → IfOk made (λ page. page.status ≡ (demo_output seed blocks).status) → IfOk made (λ page. page.status ≢ 2)
-  demo_not_wrong = never 2 (omega arith) (omega arith)
+  demo_not_wrong = never 2 (omega arith)
 
   pub demo_not_fault : (made : Result Page NoMemory) → IfOk made (λ page. page.status ≡ (demo_output seed blocks).status) → IfOk made (λ page. page.status ≢ 5)
-  demo_not_fault = never 5 (omega arith) (omega arith)
+  demo_not_fault = never 5 (omega arith)
 
   pub demo_not_sink : (made : Result Page NoMemory) → IfOk made (λ page. page.status ≡ (demo_output seed blocks).status) → IfOk made (λ page. page.status ≢ 6)
-  demo_not_sink = never 6 (omega arith) (omega arith)
+  demo_not_sink = never 6 (omega arith)
 
   pub demo_not_memory : (made : Result Page NoMemory) → IfOk made (λ page. page.status ≡ (demo_output seed blocks).status) → IfOk made (λ page. page.status ≢ 8)
-  demo_not_memory = never 8 (omega arith) (omega arith)
+  demo_not_memory = never 8 (omega arith)
 
   pub demo_not_serving : (made : Result Page NoMemory) → IfOk made (λ page. page.status ≡ (demo_output seed blocks).status) → IfOk made (λ page. IsOfPage page.status)
-  demo_not_serving (Ok page) is = (never 7 (omega arith) (omega arith) (Ok page) is, never 9 (omega arith) (omega arith) (Ok page) is, never 10 (omega arith) (omega arith) (Ok page) is)
+  demo_not_serving (Ok page) is = (never 7 (omega arith) (Ok page) is, never 9 (omega arith) (Ok page) is, never 10 (omega arith) (Ok page) is)
   demo_not_serving (Err e) is = tt

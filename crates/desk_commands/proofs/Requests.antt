@@ -127,12 +127,14 @@ module _ (words : List (List ℕ)) (files : List File) where
 few_of_demo : (words : List (List ℕ)) → is_demo words ≡ true → is_block_count (number_of (word_at words 2)) ≡ true
 few_of_demo words e = (both (is_number (number_of (word_at words 1))) _ (both (begins (codes "demo") words) _ (both (length words == 3) _ e).1).1).1
 
-few_blocks : (words : List (List ℕ)) → is_block_count (number_of (word_at words 2)) ≡ true → number_at words 2 ≤ 200
+few_blocks : (words : List (List ℕ)) → is_block_count (number_of (word_at words 2)) ≡ true → (1 ≤ number_at words 2) × (number_at words 2 ≤ 200)
 few_blocks words few = go (number_of (word_at words 2)) refl few
   where
-    go : (o : Option ℕ) → number_of (word_at words 2) ≡ o → is_block_count o ≡ true → number_at words 2 ≤ 200
+    go : (o : Option ℕ) → number_of (word_at words 2) ≡ o → is_block_count o ≡ true → (1 ≤ number_at words 2) × (number_at words 2 ≤ 200)
     go None is e = absurd (true≢false (sym e))
-    go (Some n) is e = rw is (leb-true n 200 (both (nat_le 1 n) (nat_le n 200) e).1)
+    go (Some n) is e =
+        let parts = both (nat_le 1 n) (nat_le n 200) e in
+        rw is (leb-true 1 n parts.0, leb-true n 200 parts.1)
 
 pub said_sound : (words : List (List ℕ)) (c : Command) → Says words c → IsSound c
 said_sound words (Check names) says = tt

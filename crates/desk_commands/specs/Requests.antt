@@ -50,4 +50,4 @@ abbrev pub IsSound : Command → Type 0
 IsSound (command.Check names) = Unit {0}
 IsSound (command.Pack names) = Unit {0}
 IsSound (command.Diagnose d) = (is_tag d.design.now ≡ true) × (is_tag d.die.now ≡ true)
-IsSound (command.Demo demo) = demo.blocks ≤ 200
+IsSound (command.Demo demo) = (1 ≤ demo.blocks) × (demo.blocks ≤ 200)

@@ -16,8 +16,8 @@ pub struct Page {
     pub text: Rows<u8>,
 }
 
-/// The line of a text that breaks a rule.
-pub fn rule_line(alloc: Global, name: &str, fault: TextFault) -> Result<String, NoMemory>
+// The line of a text that breaks a rule.
+fn rule_line(alloc: Global, name: &str, fault: TextFault) -> Result<String, NoMemory>
     ensures { IfOk result (λ line. string_bytes line ≡ refusal_line name.now (Refusal.Rule fault)) }
 {
     let TextFault { line, rule } = fault;
