@@ -4,7 +4,7 @@
 -- Frames: second_source, second_value, frame_seen, frame_observed. Fails: frame_response, frame_value, frame_fails,
 -- makes_transition. Report: transitions, frame_class, frame_counts_of, frame_candidates, slow_words, frame_form,
 -- frame_report. Patterns: launch_frame.
-use Rattle.std.specs.Prelude.{ℕ, suc, List, [], ◌∷◌, ◌++◌, map, length, Option, Some, None, Bool, true, false, cond, ◌==◌, ◌&&◌, codes, slice_index_or}
+use Rattle.std.specs.Prelude.{ℕ, suc, List, [], ◌∷◌, ◌++◌, map, length, Option, Some, None, Bool, false, cond, ◌==◌, ◌&&◌, codes, slice_index_or}
 use Rattle.std.specs.List.{range_with_len}
 use Rattle.scan_model.specs.declared.values.Tri.{Tri}
 use Rattle.scan_model.specs.declared.values.Tri.TheVariants.{Unknown}

@@ -1,13 +1,10 @@
-use Rattle.std.proofs.Common.{◌≡◌, ℕ, List, length, sym, ap, subst, ◌∙◌, arith}
-use Rattle.std.specs.Prelude.{IfOk}
-use Rattle.scan_model.specs.declared.logs.LogFacts.{LogFacts}
+use Rattle.std.proofs.Common.{◌≡◌, ℕ, List, length, ap, subst, ◌∙◌, arith}
 use Rattle.scan_model.specs.declared.logs.Scored.{Scored}
 use Rattle.scan_model.specs.ScanTest.{points_of}
 use Rattle.scan_model.specs.Coverage.{bits_over}
 use Rattle.scan_model.specs.Classes.{class_with}
 use Rattle.scan_model.specs.Ranking.{ranked}
 use Rattle.scan_model.specs.ReportText.{layout_with, joined}
-use Rattle.log_join.specs.Joining.{StandsFor}
 use Rattle.two_frame.specs.TwoFrame.{frame_form, frame_candidates, frame_layout}
 use Rattle.two_frame.proofs.FrameLayout.{frame_layout_given}
 use Rattle.two_frame.proofs.text.frame_text.Goals as goal
