@@ -1,7 +1,7 @@
 -- A slow stem is a flip of its net in the second frame, where it changes the transition.
-use Rattle.std.proofs.Common.{◌≡◌, ◌≢◌, ℕ, zero, suc, ◌+◌, ◌<◌, Bool, true, false, cond, eqb, ◌&&◌, List, [], ◌∷◌, length, map, Option, Some, None, refl, sym, ap, subst, ◌∙◌, inl, inr, arith}
+use Rattle.std.proofs.Common.{◌≡◌, ℕ, ◌<◌, Bool, true, false, cond, ◌&&◌, List, [], ◌∷◌, length, map, Option, Some, None, refl, sym, ap, ◌∙◌, inl, inr, arith}
 use Rattle.std.specs.Prelude.{Contains}
-use Rattle.std.proofs.lemmas.Bool.{cases_Bool, cases_eq, both_ways, eq-eqb, ne_eqb, eqb-true}
+use Rattle.std.proofs.lemmas.Bool.{cases_eq, eq-eqb, ne_eqb}
 use Rattle.scan_model.specs.declared.values.Tri.{Tri}
 use Rattle.scan_model.specs.declared.values.Tri.TheVariants.{Zero, One, Unknown}
 use Rattle.scan_model.specs.declared.circuit.Driver.{Driver}
@@ -12,14 +12,13 @@ use Rattle.scan_model.specs.declared.fault.Fault.{Fault}
 use Rattle.scan_model.specs.declared.fault.Fault.TheVariants as fault
 use Rattle.scan_model.specs.declared.parts.Point.{Point}
 use Rattle.scan_model.specs.Values.{are_opposite, tri_not, gate_value}
-use Rattle.scan_model.specs.Netlist.{Netlist, IsNetlist, reads, is_gate, is_gate_driver, driver_of, pin_at, operands}
-use Rattle.scan_model.specs.Walks.{IsEvaluationOrder, along}
-use Rattle.scan_model.specs.Cone.{in_fan_in}
+use Rattle.scan_model.specs.Netlist.{Netlist, IsNetlist, reads, is_gate_driver, driver_of, pin_at, operands}
+use Rattle.scan_model.specs.Walks.{IsEvaluationOrder}
 use Rattle.scan_model.specs.ScanTest.{ScanTest, IsScanTest, IsPoint}
-use Rattle.scan_model.specs.NetValue.{Forced, seen, driven, net_node, values_of, nothing_forced, good_value}
+use Rattle.scan_model.specs.NetValue.{driven, values_of, nothing_forced, good_value}
 use Rattle.scan_model.specs.Suspect.{observed_net}
 use Rattle.scan_model.specs.Force.{force}
-use Rattle.scan_model.specs.Masks.{point_pin, flip_shows_from}
+use Rattle.scan_model.specs.Masks.{flip_shows_from}
 use Rattle.scan_model.proofs.Along.{IsLocal, settled}
 use Rattle.scan_model.proofs.NetValues.{values_of-is}
 use Rattle.scan_model.proofs.FanSweeps.{reads_in_range}
@@ -28,7 +27,7 @@ use Rattle.scan_model.proofs.counting.Valuations.{valuation_is}
 use Rattle.scan_model.proofs.counting.Branches.{no_loop}
 use Rattle.scan_model.proofs.counting.OneSite.{unflipped, force_outside}
 use Rattle.scan_model.proofs.counting.Shown.{point_pin-net, observed_net-in_range}
-use Rattle.two_frame.specs.TwoFrame.{slowed, changes, second_of, second_source, slow_pin, slow_stem, frame_seen, second_driven, second_node, second_value, frame_observed, frame_fails_at}
+use Rattle.two_frame.specs.TwoFrame.{slowed, changes, second_source, slow_pin, slow_stem, second_driven, second_node, second_value, frame_fails_at}
 
 -- ---- one site
 
