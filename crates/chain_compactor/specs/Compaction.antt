@@ -1,6 +1,6 @@
 -- What a tester sees of a test through a compactor, and how the predictions of faults match what it saw.
-use Rattle.std.specs.Prelude.{ℕ, ◌-◌, nat_lt, cond, Bool, not, ◌&&◌, List, [], ◌∷◌, length, map, filter, flat_map, count_by, Option, Some, None}
-use Rattle.std.specs.List.{range_with_len, enumerate_from}
+use Rattle.std.specs.Prelude.{ℕ, ◌-◌, nat_lt, cond, Bool, List, [], ◌∷◌, length, map, flat_map, Option, Some, None}
+use Rattle.std.specs.List.{range_with_len}
 use Rattle.scan_model.specs.declared.values.Tri.{Tri}
 use Rattle.scan_model.specs.declared.fault.Fault.{Fault}
 use Rattle.scan_model.specs.declared.parts.Point.{Point}
@@ -15,8 +15,8 @@ use Rattle.scan_model.specs.ChainShift.{value_at}
 use Rattle.scan_model.specs.ScanTest.{ScanTest}
 use Rattle.scan_model.specs.Response.{observed}
 use Rattle.scan_model.specs.Coverage.{bit_of}
-use Rattle.scan_model.specs.Classes.{class_with, is_failing, is_passing}
-use Rattle.scan_model.specs.MatchCounts.{is_candidate}
+use Rattle.scan_model.specs.Classes.{class_with}
+use Rattle.scan_model.specs.MatchCounts.{counts_by, candidates_by}
 use Rattle.scan_model.specs.Universe.{universe}
 use Rattle.chain_compactor.specs.Channels.{Compactor, channel_at, chain_length}
 
@@ -62,15 +62,8 @@ abbrev pub compact_class : ScanTest → Compactor → List LogFacts → Bit → 
 compact_class t c logs b = class_with (compact_rows t c) logs b
 
 abbrev pub compact_counts_of : ScanTest → Compactor → List LogFacts → Fault → Counts
-compact_counts_of t c logs f = record {
-  tfsf = count_by (λ b. is_failing (compact_class t c logs b) && predicts_compact_fail t c f b) (compact_bits t c);
-  tfsp = count_by (λ b. is_failing (compact_class t c logs b) && not (predicts_compact_fail t c f b)) (compact_bits t c);
-  tpsf = count_by (λ b. is_passing (compact_class t c logs b) && predicts_compact_fail t c f b) (compact_bits t c);
-}
-
-abbrev pub compact_scored : ScanTest → Compactor → List LogFacts → ℕ × Fault → Scored
-compact_scored t c logs e = record { place = e.0; counts = compact_counts_of t c logs e.1 }
+compact_counts_of t c logs f = counts_by (compact_bits t c) (compact_class t c logs) (predicts_compact_fail t c f)
 
 -- the modelled faults that explain at least one failing bit, in the order of their places
 abbrev pub compact_candidates : ScanTest → Compactor → List LogFacts → List Scored
-compact_candidates t c logs = filter is_candidate (map (compact_scored t c logs) (enumerate_from 0 (universe t)))
+compact_candidates t c logs = candidates_by (universe t) (compact_bits t c) (compact_class t c logs) (predicts_compact_fail t c)
