@@ -1,3 +1,4 @@
+//! The words of a report, and those of the report of a die.
 ghost use Rattle.std.specs.Prelude.{◌≡◌, ℕ, ◌++◌, ◌<◌, length, slice_index_or, OnOk};
 ghost use Rattle.scan_model.specs.ScanTest.{points_of, point_at, IsPoint};
 ghost use Rattle.scan_model.specs.Universe.{universe};

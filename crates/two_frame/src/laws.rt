@@ -1,3 +1,4 @@
+//! Laws of transition faults, which hang on functions with nothing to run.
 ghost use Rattle.std.specs.Prelude.{◌≡◌, ◌&&◌, ℕ, ◌<◌, true, None, length, map};
 ghost use Rattle.scan_model.specs.declared.circuit.Driver.TheVariants.{Gate};
 ghost use Rattle.scan_model.specs.declared.circuit.GateKind.{GateKind};

@@ -1,3 +1,4 @@
+//! The words of a report on transition faults.
 ghost use Rattle.std.specs.Prelude.{◌≡◌, ◌++◌, ◌<◌, length, slice_index_or, OnOk};
 ghost use Rattle.scan_model.specs.declared.fault.Fault.TheVariants as fault;
 ghost use Rattle.scan_model.specs.ScanTest.{points_of, HasSite};

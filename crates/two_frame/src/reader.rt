@@ -1,3 +1,4 @@
+//! Reads the texts of two-frame patterns.
 ghost use Rattle.std.specs.Prelude.{◌≡◌, ◌+◌, length, All, IfOk};
 ghost use Rattle.scan_model.specs.declared.parts.PatternKind.TheVariants.{Capture};
 ghost use Rattle.scan_model.specs.Lines.{text_lines};
