@@ -1,5 +1,5 @@
 -- The pattern text that the generator makes breaks no rule.
-use Rattle.std.proofs.Common.{◌≡◌, ℕ, zero, suc, ◌+◌, ◌*◌, ◌<◌, ◌≤◌, Bool, true, false, not, ◌&&◌, ◌||◌, cond, leb, ltb, eqb, List, [], ◌∷◌, length, map, take, is_some, Option, None, Ok, refl, sym, ap, ap₂, ◌∙◌, inl, inr, arith}
+use Rattle.std.proofs.Common.{◌≡◌, ℕ, zero, suc, ◌+◌, ◌*◌, ◌<◌, ◌≤◌, Bool, true, false, not, ◌&&◌, ◌||◌, cond, leb, ltb, eqb, List, [], ◌∷◌, length, map, take, codes, is_some, Option, None, Ok, refl, sym, ap, ap₂, ◌∙◌, inl, inr, arith}
 use Rattle.std.specs.Prelude.{flat_map, filter}
 use Rattle.std.specs.List.{range_with_len}
 use Rattle.std.proofs.lemmas.Bool.{cases_lt, and_right, eq-eqb}
@@ -21,7 +21,7 @@ use Rattle.made_laws.proofs.PatternWords.{digit_values, digit_count, shift_words
 
 -- what the patterns are for
 abbrev pub made_frame : ℕ → PatternFrame
-made_frame blocks = record { inputs = 10 * blocks; lengths = map (λ h. 5 * chain_blocks blocks h) (range_with_len 0 (chain_count blocks)) }
+made_frame blocks = record { inputs = 10 * blocks; lengths = map (λ h. 5 * chain_blocks blocks h) (range_with_len 0 (chain_count blocks)); keyword = codes "CAPTURE"; shifts = true }
 
 none_of_five : (p q r s t : Bool) → p ≡ false → q ≡ false → r ≡ false → s ≡ false → t ≡ false → lowest ((21, p) ∷ (22, q) ∷ (23, r) ∷ (24, s) ∷ (25, t) ∷ []) ≡ None
 none_of_five p q r s t a b c d e = rw (a, b, c, d, e) refl
@@ -29,10 +29,10 @@ none_of_five p q r s t a b c d e = rw (a, b, c, d, e) refl
 -- the rules of a line with words, after fewer patterns than may be
 abbrev table : PatternFrame → ℕ → Bool → List (List ℕ) → List (ℕ × Bool)
 table frame earlier refused ws =
-    (21, refused || (has_words ws && not (is_some (kind_of ws)))) ∷
-    (22, has_wrong_words frame (kind_of ws) ws) ∷
-    (23, has_wrong_length frame (kind_of ws) ws) ∷
-    (24, has_other_value frame (kind_of ws) ws) ∷
+    (21, refused || (has_words ws && not (is_some (kind_of frame ws)))) ∷
+    (22, has_wrong_words frame (kind_of frame ws) ws) ∷
+    (23, has_wrong_length frame (kind_of frame ws) ws) ∷
+    (24, has_other_value frame (kind_of frame ws) ws) ∷
     (25, has_words ws && leb pattern_limit earlier) ∷ []
 
 filtered : (wss : List (List (List ℕ))) → length (filter has_words wss) ≤ length wss
