@@ -1,5 +1,5 @@
 -- What `demo` comes to, from the text of the made design or its fault.
-use Rattle.std.proofs.Common.{◌≡◌, ℕ, List, Result, Ok, Err, sym, ap, ◌∙◌}
+use Rattle.std.proofs.Common.{◌≡◌, ℕ, List, Result, Ok, sym, ap, ◌∙◌}
 use Rattle.std.specs.Prelude.{IfOk}
 use Rattle.std.proofs.lemmas.Result.{IfOk-weaker}
 use Rattle.diagnosis.specs.declared.section.BundleFault.{BundleFault}
@@ -7,7 +7,6 @@ use Rattle.diagnosis.specs.declared.section.BundleFault.TheVariants.{Text, NoMem
 use Rattle.diagnosis.specs.Reading.{RefusedBy}
 use Rattle.made_designs.specs.Demo.{demo_reading}
 use Rattle.desk_commands.specs.declared.page.Page.{Page}
-use Rattle.desk_commands.specs.Work.{Output}
 use Rattle.desk_commands.specs.Demo.{IsRefusal, demo_of, demo_output}
 
 module _ (seed blocks : ℕ) where
