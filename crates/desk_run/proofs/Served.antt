@@ -1,5 +1,5 @@
 -- What a run says by its exit status.
-use Rattle.std.proofs.Common.{◌≡◌, ◌≢◌, ◌≤◌, ◌∙◌, ◌==◌, ℕ, Bool, true, false, List, Option, Some, None, refl, sym, ap, inl, inr, arith, true≢false}
+use Rattle.std.proofs.Common.{◌≡◌, ◌≢◌, ◌∙◌, ◌==◌, ℕ, Bool, true, false, List, Option, Some, None, refl, sym, ap, inl, inr, arith, true≢false}
 use Rattle.std.specs.Prelude.{◌||◌, is_some}
 use Rattle.desk_outside.specs.Faults.{Rose}
 use Rattle.desk_serve.specs.declared.ending.Ending.{Ending}

@@ -1,4 +1,4 @@
-use Rattle.std.proofs.Common.{◌≡◌, ◌≢◌, ◌∙◌, map, string_bytes, codes, inl, inr, refl, sym, ap, arith, true≢false}
+use Rattle.std.proofs.Common.{◌∙◌, map, string_bytes, codes, inl, inr, refl, sym, ap, arith, true≢false}
 use Rattle.command_words.specs.Asked.{comes_to_page}
 use Rattle.command_words.specs.Shown.{shown}
 use Rattle.desk_commands.specs.Ending.{page_statuses}
