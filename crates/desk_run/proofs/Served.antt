@@ -1,5 +1,5 @@
 -- What a run says by its exit status.
-use Rattle.std.proofs.Common.{◌≡◌, ◌≢◌, ◌≤◌, ◌∙◌, ◌==◌, ℕ, Bool, true, false, List, Option, Some, None, refl, sym, ap, inl, inr, arith, true≢false}
+use Rattle.std.proofs.Common.{◌≡◌, ◌≢◌, ◌∙◌, ◌==◌, ℕ, Bool, true, false, List, Option, Some, None, refl, sym, ap, inl, inr, arith, true≢false}
 use Rattle.std.specs.Prelude.{◌||◌, is_some}
 use Rattle.desk_outside.specs.Faults.{Rose}
 use Rattle.desk_serve.specs.declared.ending.Ending.{Ending}
@@ -147,12 +147,12 @@ page_listed status is = after_others (2 == status) (6 == status) (8 == status) (
 
 module _ (status : ℕ) (text : List ℕ) (result : ℕ) (old new : Option (List ℕ)) (rose : Type 0) where
   pub ends_never : (other : ℕ) → other ≢ 6 → status ≢ other → Ends status text result old new rose → result ≢ other
-  ends_never other six no (inl (is, wrote)) e = no (sym is ∙ e)
-  ends_never other six no (inr (is, part, cause)) e = six (sym e ∙ is)
+  ends_never other six never (inl (is, wrote)) e = never (sym is ∙ e)
+  ends_never other six never (inr (is, part, cause)) e = six (sym e ∙ is)
 
   pub sink_failed : status ≢ 6 → Ends status text result old new rose → result ≡ 6 → rose
-  sink_failed no (inl (is, wrote)) e = absurd (no (sym is ∙ e))
-  sink_failed no (inr (is, part, cause)) e = cause
+  sink_failed never (inl (is, wrote)) e = absurd (never (sym is ∙ e))
+  sink_failed never (inr (is, part, cause)) e = cause
 
   pub ends_listed : is_one_of (statuses_of false) status ≡ true → Ends status text result old new rose → is_one_of (statuses_of false) result ≡ true
   ends_listed listed (inl (is, wrote)) = ap (is_one_of (statuses_of false)) is ∙ listed

@@ -134,19 +134,19 @@ pub returns-clause-store_fault : goal.returns-clause-store_fault
 returns-clause-store_fault g c =
     let words = map string_bytes c.args.words.now in
     let page : is_serve words ≡ false = sym c.is_serve.ensures ∙ c.if-is_serve.false in
-    λ seven. absurd (not_among (statuses_of false) 7 _ refl c.run_page.ensures.statuses seven)
+    λ seven. absurd (not_among (statuses_of false) 7 c.run_page.result refl c.run_page.ensures.statuses seven)
 
 pub returns-clause-spoiled : goal.returns-clause-spoiled
 returns-clause-spoiled g c =
     let words = map string_bytes c.args.words.now in
     let page : is_serve words ≡ false = sym c.is_serve.ensures ∙ c.if-is_serve.false in
-    λ nine. absurd (not_among (statuses_of false) 9 _ refl c.run_page.ensures.statuses nine)
+    λ nine. absurd (not_among (statuses_of false) 9 c.run_page.result refl c.run_page.ensures.statuses nine)
 
 pub returns-clause-street_fault : goal.returns-clause-street_fault
 returns-clause-street_fault g c =
     let words = map string_bytes c.args.words.now in
     let page : is_serve words ≡ false = sym c.is_serve.ensures ∙ c.if-is_serve.false in
-    λ ten. absurd (not_among (statuses_of false) 10 _ refl c.run_page.ensures.statuses ten)
+    λ ten. absurd (not_among (statuses_of false) 10 c.run_page.result refl c.run_page.ensures.statuses ten)
 
 pub returns-clause-memory : goal.returns-clause-memory
 returns-clause-memory g c =

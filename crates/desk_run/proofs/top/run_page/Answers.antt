@@ -1,4 +1,4 @@
-use Rattle.std.proofs.Common.{◌≡◌, ◌≢◌, ◌∙◌, map, string_bytes, codes, inl, inr, refl, sym, ap, arith, true≢false}
+use Rattle.std.proofs.Common.{◌∙◌, map, string_bytes, codes, inl, inr, refl, sym, ap, arith, true≢false}
 use Rattle.command_words.specs.Asked.{comes_to_page}
 use Rattle.command_words.specs.Shown.{shown}
 use Rattle.desk_commands.specs.Ending.{page_statuses}
@@ -49,18 +49,18 @@ returns-clause-wrong g c = λ wrong.
 
 pub returns-in-Ok-clause-right : goal.returns-in-Ok-clause-right
 returns-in-Ok-clause-right g c = λ two.
-    absurd (ends_never _ _ _ _ _ _ 2 (omega arith) (not_among page_statuses 2 _ refl c.in-Ok.ensures.statuses) c.finish-in-Ok.ensures.ends two)
+    absurd (ends_never _ _ _ _ _ _ 2 (omega arith) (not_among page_statuses 2 c.in-Ok.page.status refl c.in-Ok.ensures.statuses) c.finish-in-Ok.ensures.ends two)
 
 pub returns-in-Ok-clause-misunderstood : goal.returns-in-Ok-clause-misunderstood
 returns-in-Ok-clause-misunderstood g c = λ two.
-    absurd (ends_never _ _ _ _ _ _ 2 (omega arith) (not_among page_statuses 2 _ refl c.in-Ok.ensures.statuses) c.finish-in-Ok.ensures.ends two)
+    absurd (ends_never _ _ _ _ _ _ 2 (omega arith) (not_among page_statuses 2 c.in-Ok.page.status refl c.in-Ok.ensures.statuses) c.finish-in-Ok.ensures.ends two)
 
 pub returns-in-Ok-clause-memory : goal.returns-in-Ok-clause-memory
 returns-in-Ok-clause-memory g c = λ eight.
-    absurd (ends_never _ _ _ _ _ _ 8 (omega arith) (not_among page_statuses 8 _ refl c.in-Ok.ensures.statuses) c.finish-in-Ok.ensures.ends eight)
+    absurd (ends_never _ _ _ _ _ _ 8 (omega arith) (not_among page_statuses 8 c.in-Ok.page.status refl c.in-Ok.ensures.statuses) c.finish-in-Ok.ensures.ends eight)
 
 pub returns-in-Ok-clause-sink_fault : goal.returns-in-Ok-clause-sink_fault
-returns-in-Ok-clause-sink_fault g c = sink_failed _ _ _ _ _ _ (not_among page_statuses 6 _ refl c.in-Ok.ensures.statuses) c.finish-in-Ok.ensures.ends
+returns-in-Ok-clause-sink_fault g c = sink_failed _ _ _ _ _ _ (not_among page_statuses 6 c.in-Ok.page.status refl c.in-Ok.ensures.statuses) c.finish-in-Ok.ensures.ends
 
 pub returns-in-Ok-None-clause-statuses : goal.returns-in-Ok-None-clause-statuses
 returns-in-Ok-None-clause-statuses g c = ends_listed _ _ _ _ _ _ refl c.finish.ensures.ends
@@ -69,7 +69,7 @@ pub returns-in-Err-clause-statuses : goal.returns-in-Err-clause-statuses
 returns-in-Err-clause-statuses g c = ends_listed _ _ _ _ _ _ refl c.finish-in-Err.ensures.ends
 
 pub returns-in-Ok-clause-statuses : goal.returns-in-Ok-clause-statuses
-returns-in-Ok-clause-statuses g c = ends_listed _ _ _ _ _ _ (page_listed _ c.in-Ok.ensures.statuses) c.finish-in-Ok.ensures.ends
+returns-in-Ok-clause-statuses g c = ends_listed _ _ _ _ _ _ (page_listed c.in-Ok.page.status c.in-Ok.ensures.statuses) c.finish-in-Ok.ensures.ends
 
 pub returns-clause-statuses : goal.returns-clause-statuses
 returns-clause-statuses g c = ends_listed _ _ _ _ _ _ refl c.finish-in-Err-page_of_command.ensures.ends
