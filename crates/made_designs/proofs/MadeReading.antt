@@ -1,5 +1,5 @@
 -- The texts that the generator makes break no rule: they stand for a scan test.
-use Rattle.std.proofs.Common.{◌≡◌, ℕ, ◌+◌, ◌*◌, ◌<◌, ◌≤◌, List, map, Result, Ok, Err, refl, sym, ap, ap₂, ◌∙◌, arith}
+use Rattle.std.proofs.Common.{◌≡◌, ℕ, ◌+◌, ◌*◌, ◌<◌, ◌≤◌, true, codes, List, map, Result, Ok, Err, refl, sym, ap, ap₂, ◌∙◌, arith}
 use Rattle.std.specs.List.{range_with_len}
 use Rattle.scan_model.specs.declared.parts.Chain.{Chain}
 use Rattle.scan_model.specs.declared.parts.Pattern.{Pattern}
@@ -31,7 +31,7 @@ module _ (seed blocks : ℕ) (some : 0 < blocks) (few : blocks ≤ 200) where
   chains = map (numbered circuit.nets) (map (made_chain blocks) (range_with_len 0 (chain_count blocks)))
 
   frame_is : pattern_frame circuit chains ≡ made_frame blocks
-  frame_is = ap₂ (λ (n : ℕ) (ns : List ℕ). record { inputs = n; lengths = ns }) (input_count seed blocks few) (chain_lengths blocks few circuit.nets)
+  frame_is = ap₂ (λ (n : ℕ) (ns : List ℕ). record { inputs = n; lengths = ns; keyword = codes "CAPTURE"; shifts = true }) (input_count seed blocks few) (chain_lengths blocks few circuit.nets)
 
   pub made_legal : BreakNoRule (made_texts seed blocks)
   made_legal =
