@@ -1,3 +1,4 @@
+use Rattle.std.proofs.Common.{◌≡◌}
 use Rattle.std.proofs.lemmas.Result.{IfOk-weaker}
 use Rattle.made_designs.specs.Demo.{demo_written}
 use Rattle.made_designs.specs.Injected.{IsText, texts_of}
