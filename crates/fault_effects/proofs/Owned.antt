@@ -1,21 +1,21 @@
 -- A fault that one net owns touches that net alone; one that a pin owns touches none.
-use Rattle.std.proofs.Common.{◌≡◌, ℕ, ◌+◌, ◌<◌, ◌≤◌, Bool, true, false, cond, [], ◌∷◌, length, refl, sym, ap, ◌∙◌, inl, inr, arith}
-use Rattle.std.proofs.lemmas.Bool.{cases_Bool, eq-eqb, and_left}
+use Rattle.std.proofs.Common.{◌≡◌, ℕ, zero, suc, ◌+◌, ◌<◌, ◌≤◌, Bool, true, false, cond, List, [], ◌∷◌, length, get_or, refl, sym, ap, subst, ◌∙◌, inl, inr, arith}
+use Rattle.std.specs.Prelude.{Contains}
+use Rattle.std.proofs.lemmas.Bool.{cases_Bool, eq-eqb}
 use Rattle.scan_model.specs.declared.circuit.PinPlace.{PinPlace}
 use Rattle.scan_model.specs.declared.circuit.PinPlace.TheVariants as place
 use Rattle.scan_model.specs.declared.circuit.Driver.{Driver}
 use Rattle.scan_model.specs.declared.circuit.Driver.TheVariants.{Input, Flop, Gate}
-use Rattle.scan_model.specs.declared.parts.Point.{Point}
 use Rattle.scan_model.specs.declared.fault.Stuck.{Stuck}
 use Rattle.scan_model.specs.declared.fault.Fault.{Fault}
 use Rattle.scan_model.specs.declared.fault.Fault.TheVariants as fault
 use Rattle.scan_model.specs.Values.{are_opposite}
 use Rattle.scan_model.specs.Netlist.{pin_at, driver_of, is_gate, is_gate_driver, IsPlacedAt}
 use Rattle.scan_model.specs.declared.circuit.GateKind.{GateKind}
-use Rattle.scan_model.specs.ScanTest.{ScanTest, HasSite, IsScanTest, point_at}
+use Rattle.scan_model.specs.ScanTest.{ScanTest, HasSite, IsScanTest}
 use Rattle.scan_model.specs.Faults.{stuck_value}
 use Rattle.scan_model.specs.NetValue.{good_value}
-use Rattle.scan_model.specs.Masks.{mask, straight, touched_nets, place_nets, place_is_point, operand_is_point, IsLogic}
+use Rattle.scan_model.specs.Masks.{mask, touched_nets, place_nets, IsLogic}
 use Rattle.fault_effects.specs.Owners.{owner, pin_owner}
 
 -- the net owns the pin: it is the gate that reads it
@@ -33,19 +33,13 @@ gate_pin t (place.Operand m i) n is lt = elim (cases_Bool (is_gate t.netlist m))
   | inr other ↦ absurd (let past : length t.netlist.nets ≡ n = ap (λ (g : Bool). cond g m (length t.netlist.nets)) (sym other) ∙ is in omega arith)
 ]
 
-no_point : (t : ScanTest) (d : Driver) (n : ℕ) (point : Point) → is_gate_driver d ≡ true → operand_is_point t d n point ≡ false
-no_point t Input n point gate = absurd cc
-no_point t Flop n point gate = absurd cc
-no_point t (Gate kind) n point gate = refl
-
 -- a fault that a net owns
 pub record IsOfNet (t : ScanTest) (f : Fault) (n : ℕ) : Type 0 where
   pub logic : IsLogic f
   pub touches : touched_nets t f ≡ n ∷ []
-  pub silent : (w k : ℕ) → straight t f w k ≡ false
 
 pub of_net : (t : ScanTest) (f : Fault) (n : ℕ) → owner t f ≡ n → n < length t.netlist.nets → IsOfNet t f n
-of_net t (fault.Stem m v) n is lt = record { logic = tt; touches = ap (λ (x : ℕ). x ∷ []) is; silent = λ w k. refl }
+of_net t (fault.Stem m v) n is lt = record { logic = tt; touches = ap (λ (x : ℕ). x ∷ []) is }
 of_net t (fault.Bridge a b kind) n is lt = absurd (omega arith)
 of_net t (fault.Cell h c kind) n is lt = absurd (omega arith)
 of_net t (fault.Branch p v) n is lt =
@@ -54,9 +48,36 @@ of_net t (fault.Branch p v) n is lt =
     record {
       logic = tt;
       touches = ap (place_nets t) pin.at ∙ ap (λ (g : Bool). cond g (n ∷ []) []) pin.gate;
-      silent = λ w k. and_left (place_is_point t x (point_at t k)) (are_opposite (good_value t w (pin_at t.netlist p).net) (stuck_value v))
-          (ap (λ (y : PinPlace). place_is_point t y (point_at t k)) pin.at ∙ no_point t (driver_of t.netlist n) n (point_at t k) pin.gate);
     }
+
+pub touches_one : (t : ScanTest) (f : Fault) (n : ℕ) → touched_nets t f ≡ n ∷ [] → Contains (touched_nets t f) n
+touches_one t f n is = subst (λ (ns : List ℕ). Contains ns n) (sym is) (0, omega arith, refl)
+
+-- a net of a list of one or two
+pub only_one : (m n : ℕ) → Contains (m ∷ []) n → n ≡ m
+only_one m n touched = go touched.0 touched.1 touched.2
+  where
+    go : (k : ℕ) → k < 1 → get_or (m ∷ []) k n ≡ n → n ≡ m
+    go zero lt is = sym is
+    go (suc k) lt is = absurd (omega (arith, lt))
+
+pub one_of_two : (P : ℕ → Type 0) (a b n : ℕ) → Contains (a ∷ b ∷ []) n → P a → P b → P n
+one_of_two P a b n touched first second = go touched.0 touched.1 touched.2
+  where
+    go : (k : ℕ) → k < 2 → get_or (a ∷ b ∷ []) k n ≡ n → P n
+    go zero lt is = subst P is first
+    go (suc zero) lt is = subst P is second
+    go (suc (suc k)) lt is = absurd (omega (arith, lt))
+
+-- a pin that touches a net is the gate's
+pub touched_pin : (t : ScanTest) (x : PinPlace) (n : ℕ) → Contains (place_nets t x) n → IsGatePin t x n
+touched_pin t (place.Output k) n touched = absurd (omega (arith, touched.1))
+touched_pin t (place.Operand m i) n touched = elim (cases_Bool (is_gate t.netlist m)) [
+  | inl gate ↦
+      let same : n ≡ m = only_one m n (subst (λ (ns : List ℕ). Contains ns n) (ap (λ (g : Bool). cond g (m ∷ []) []) gate) touched) in
+      record { index = i; at = ap (λ (x : ℕ). place.Operand x i) (sym same); gate = ap (is_gate t.netlist) same ∙ gate }
+  | inr other ↦ absurd (let none : Contains [] n = subst (λ (ns : List ℕ). Contains ns n) (ap (λ (g : Bool). cond g (m ∷ []) []) other) touched in omega (arith, none.1))
+]
 
 pub stem_mask : (t : ScanTest) (m n : ℕ) (v : Stuck) (w : ℕ) → m ≡ n → are_opposite (good_value t w n) (stuck_value v) ≡ mask t (fault.Stem m v) w n
 stem_mask t m n v w is = rw (is, eq-eqb n n refl) refl

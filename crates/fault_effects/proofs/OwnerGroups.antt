@@ -5,9 +5,9 @@ use Rattle.std.proofs.lemmas.Bool.{eq-eqb, eqb-true}
 use Rattle.scan_model.specs.ScanTest.{ScanTest}
 use Rattle.scan_model.proofs.Orders.{filter_range_all}
 use Rattle.lane_rows.specs.Grouped.{members}
-use Rattle.fault_effects.proofs.FlipSums.{filtered}
 use Rattle.fault_effects.specs.declared.suspect.Suspect.{Suspect}
 use Rattle.fault_effects.specs.Owners.{owner, suspect_at, IsOwned, AreOwners}
+use Rattle.fault_effects.proofs.NetPoints.{filtered}
 
 pub grouped : (t : ScanTest) (suspects : List Suspect) (keys : List ℕ) (groups : List (List ℕ)) (count : ℕ) → length keys ≡ length suspects → length groups ≡ count → ((i : ℕ) → i < length suspects → slice_index keys i ≡ owner t (suspect_at suspects i).fault)
     → ((i : ℕ) → i < length suspects → owner t (suspect_at suspects i).fault < count)

@@ -1,35 +1,37 @@
 -- Lists of shares that grow.
-use Rattle.std.proofs.Common.{◌≡◌, ◌⊎◌, ℕ, ◌+◌, ◌<◌, List, [], ◌∷◌, ◌++◌, length, refl, sym, ap, subst, ◌∙◌, inl, inr, arith}
+use Rattle.std.proofs.Common.{◌≡◌, ◌⊎◌, ℕ, ◌+◌, ◌<◌, List, [], ◌∷◌, ◌++◌, length, sym, ap, subst, ◌∙◌, inl, inr, arith}
 use Rattle.std.specs.Prelude.{Contains, slice_index}
 use Rattle.std.proofs.lemmas.Bool.{cases_eq}
-use Rattle.std.proofs.lemmas.List.{get_or_append_left, get_or_push, length_push, get_or_default}
-use Rattle.std.proofs.lemmas.List.Elements.{All-push}
-use Rattle.std.proofs.lemmas.Option.{get_or_from_slice_get, slice_get_within}
-use Rattle.scan_model.specs.declared.logs.LogFacts.{LogFacts}
-use Rattle.scan_model.specs.ScanTest.{ScanTest}
-use Rattle.scan_model.specs.Universe.{universe}
-use Rattle.fault_effects.specs.declared.share.BlockCount.{BlockCount}
+use Rattle.std.proofs.lemmas.List.{map-append, map_push, get_or_default}
+use Rattle.std.proofs.lemmas.List.Elements.{All-push, Contains-append_left, Contains-append_right, Contains-push}
 use Rattle.fault_effects.specs.declared.share.Share.{Share}
 use Rattle.fault_effects.specs.declared.suspect.Suspect.{Suspect}
-use Rattle.fault_effects.specs.declared.point_row.PointRow.{PointRow}
-use Rattle.fault_effects.specs.PointRows.{ArePointRows}
-use Rattle.fault_effects.specs.Shares.{Keeps, HasShare, no_share}
-use Rattle.fault_effects.specs.Owners.{IsSuspectOf, Shares, share_of, IsAmong}
+use Rattle.fault_effects.specs.FaultModel.{FaultModel, Table}
+use Rattle.fault_effects.specs.Shares.{Keeps, HasShare, numbers_of, Shares, suspect_fails, IsAmong}
 
-pub keeps_push : (shares : List Share) (s : Share) → Keeps shares (shares ++ s ∷ [])
-keeps_push shares s i has = (has.0, omega (arith, length_push shares s, has.1), ap (λ (x : Share). x.suspect) (get_or_append_left shares (s ∷ []) no_share has.0 has.1) ∙ has.2)
+pub keeps_before : {P : Type 0} (old new : List (Share P)) → Keeps old (old ++ new)
+keeps_before {P} old new i has =
+    let Has : List ℕ → Type 0 = λ ns. Contains ns i in
+    subst Has (sym (map-append (λ (s : Share P). s.suspect) old new)) (Contains-append_left (numbers_of old) (numbers_of new) i has)
 
-pub has_pushed : (shares : List Share) (s : Share) → HasShare (shares ++ s ∷ []) s.suspect
-has_pushed shares s = (length shares, omega (arith, length_push shares s), ap (λ (x : Share). x.suspect) (get_or_push shares s no_share (length shares) refl))
+pub has_behind : {P : Type 0} (old new : List (Share P)) (i : ℕ) → HasShare new i → HasShare (old ++ new) i
+has_behind {P} old new i has =
+    let Has : List ℕ → Type 0 = λ ns. Contains ns i in
+    subst Has (sym (map-append (λ (s : Share P). s.suspect) old new)) (Contains-append_right (numbers_of old) (numbers_of new) i has)
 
-module _ (t : ScanTest) (rows : List PointRow) (b : ℕ) (suspects : List Suspect) where
-  pub shares_none : (chosen : ℕ → Type 0) (shares : List Share) → ((i : ℕ) → i < length suspects → chosen i → ⊥) → Shares t rows b suspects chosen shares shares
-  shares_none chosen shares none = record { inside = λ inside. inside; right = λ logs points right. right; kept = λ i has. has; there = λ i lt is. absurd (none i lt is) }
+has_pushed : {P : Type 0} (shares : List (Share P)) (s : Share P) → HasShare (shares ++ s ∷ []) s.suspect
+has_pushed {P} shares s =
+    let Has : List ℕ → Type 0 = λ ns. Contains ns s.suspect in
+    subst Has (sym (map_push (λ (x : Share P). x.suspect) shares s)) (Contains-push (numbers_of shares) s.suspect)
 
-  pub shares_join : (first second both : ℕ → Type 0) (old mid new : List Share) → Shares t rows b suspects first old mid → Shares t rows b suspects second mid new → ((i : ℕ) → i < length suspects → both i → first i ⊎ second i) → Shares t rows b suspects both old new
+module _ {P : Type 0} (means : P → Table → Type 0) (m : FaultModel) (b : ℕ) (suspects : List Suspect) where
+  pub shares_none : (chosen : ℕ → Type 0) (shares : List (Share P)) → ((i : ℕ) → i < length suspects → chosen i → ⊥) → Shares means m b suspects chosen shares shares
+  shares_none chosen shares none = record { inside = λ inside. inside; right = λ right. right; kept = λ i has. has; there = λ i lt is. absurd (none i lt is) }
+
+  pub shares_join : (first second both : ℕ → Type 0) (old mid new : List (Share P)) → Shares means m b suspects first old mid → Shares means m b suspects second mid new → ((i : ℕ) → i < length suspects → both i → first i ⊎ second i) → Shares means m b suspects both old new
   shares_join first second both old mid new begin end either = record {
     inside = λ inside. end.inside (begin.inside inside);
-    right = λ logs points right. end.right logs points (begin.right logs points right);
+    right = λ right. end.right (begin.right right);
     kept = λ i has. end.kept i (begin.kept i has);
     there = λ i lt is. elim (either i lt is) [
       | inl now ↦ end.kept _ (begin.there i lt now)
@@ -37,21 +39,21 @@ module _ (t : ScanTest) (rows : List PointRow) (b : ℕ) (suspects : List Suspec
     ];
   }
 
+  -- fewer suspects chosen
+  pub shares_fewer : (chosen fewer : ℕ → Type 0) (old new : List (Share P)) → ((i : ℕ) → fewer i → chosen i) → Shares means m b suspects chosen old new → Shares means m b suspects fewer old new
+  shares_fewer chosen fewer old new each shares = record { inside = shares.inside; right = shares.right; kept = shares.kept; there = λ i lt is. shares.there i lt (each i is) }
+
   -- one suspect's share more
-  pub shares_push : (shares new : List Share) (i : ℕ) (count : BlockCount) → new ≡ shares ++ (record { suspect = i; count = count }) ∷ [] → i < length suspects
-      → ((logs : List LogFacts) → ArePointRows t logs b rows → count ≡ share_of t logs b suspects i) → Shares t rows b suspects (λ k. k ≡ i) shares new
-  shares_push shares new i count pushed within is =
-      let s : Share = record { suspect = i; count = count } in
-      let From : List Share → Type 0 = Shares t rows b suspects (λ k. k ≡ i) shares in
+  pub shares_push : (shares new : List (Share P)) (i : ℕ) (part : P) → new ≡ shares ++ (record { suspect = i; part = part }) ∷ [] → i < length suspects → means part (suspect_fails m b suspects i) → Shares means m b suspects (λ k. k ≡ i) shares new
+  shares_push shares new i part pushed within is =
+      let s : Share P = record { suspect = i; part = part } in
+      let From : List (Share P) → Type 0 = Shares means m b suspects (λ k. k ≡ i) shares in
       subst From (sym pushed) (record {
         inside = λ inside. All-push (λ x. x.suspect < length suspects) shares s inside within;
-        right = λ logs points right. All-push (λ x. x.count ≡ share_of t logs b suspects x.suspect) shares s right (is logs points);
-        kept = keeps_push shares s;
+        right = λ right. All-push (λ x. means x.part (suspect_fails m b suspects x.suspect)) shares s right is;
+        kept = keeps_before shares (s ∷ []);
         there = λ k lt same. let Has : ℕ → Type 0 = HasShare (shares ++ s ∷ []) in subst Has (sym same) (has_pushed shares s);
       })
-
-pub in_universe : (t : ScanTest) (s : Suspect) → IsSuspectOf t s → Contains (universe t) s.fault
-in_universe t s suspect = (s.place, slice_get_within (universe t) s.place s.fault suspect.at, get_or_from_slice_get (universe t) s.place s.fault s.fault suspect.at)
 
 -- one number more
 pub among_more : (group : List ℕ) (n i : ℕ) → IsAmong group (n + 1) i → IsAmong group n i ⊎ (i ≡ slice_index group n)

@@ -1,10 +1,6 @@
-pub mod Hits
-pub mod BlockSums
+pub mod FaultModel
 pub mod PointRows
 pub mod Shares
-pub mod Flips
-pub mod Cells
-pub mod Walks
 pub mod Owners
 pub mod Pieces
 pub mod Readers
@@ -12,3 +8,9 @@ pub mod FlipOrder
 pub mod Regions
 pub mod KeptFlips
 pub mod SoundWork
+pub mod Tables
+pub mod Notes
+pub mod ChainWork
+pub mod Walks
+pub mod PlaceRows
+pub mod PinFlips

@@ -1,21 +1,27 @@
 -- A region: nets of which each is read by one gate alone, up to one that isn't, its root.
-use Rattle.std.specs.Prelude.{ℕ, ◌<◌, List, All, length}
-use Rattle.scan_model.specs.declared.logs.LogFacts.{LogFacts}
-use Rattle.scan_model.specs.ScanTest.{ScanTest}
-use Rattle.fault_effects.specs.declared.point_row.PointRow.{PointRow}
-use Rattle.fault_effects.specs.declared.region.Member.{Member}
+use Rattle.std.specs.Prelude.{◌≡◌, ℕ, ◌<◌, List, All, ◌&&◌}
+use Rattle.lane_rows.specs.Lanes.{lane}
 use Rattle.fault_effects.specs.declared.region.Region.{Region}
-use Rattle.fault_effects.specs.declared.shown.Shown.{Shown}
-use Rattle.fault_effects.specs.PointRows.{ArePointRows}
-use Rattle.fault_effects.specs.Flips.{IsFlipIn, AreFew}
+use Rattle.fault_effects.specs.FaultModel.{FaultModel, Table, shown_in}
 
--- in its lanes the lists have what a flip of the net shows in block b, over each list of logs that the rows stand for
-pub record IsMember (t : ScanTest) (rows : List PointRow) (b : ℕ) (shown : Shown) (member : Member) : Type 0 where
-  pub there : member.net < length t.netlist.nets
-  pub few : AreFew shown
-  pub flip : (logs : List LogFacts) → ArePointRows t logs b rows → IsFlipIn t logs b member.net member.lanes shown
+-- in block b net n shows where the root does, in some lanes
+abbrev pub ShowsAs : FaultModel → ℕ → Table → ℕ → List ℕ → Type 0
+ShowsAs m b root n lanes = (q j : ℕ) → q < m.places → j < 512 → shown_in m b n q j ≡ (root q j && lane lanes j)
 
--- each member shows what the root shows, and the nets of the path are there
-pub record IsRegion (t : ScanTest) (rows : List PointRow) (b : ℕ) (region : Region) : Type 0 where
-  pub members : All (IsMember t rows b region.shown) region.members.items
-  pub path : All (λ n. n < length t.netlist.nets) region.path.items
+-- the root is kept, each member shows as it does, and the nets of the path are there
+pub record IsRegion {F : Type 0} (holds : F → Table → Type 0) (m : FaultModel) (b nets : ℕ) (region : Region F) : Type 0 where
+  pub root : Table
+  pub held : holds region.flip root
+  pub members : All (λ x. ShowsAs m b root x.net x.lanes) region.members.items
+  pub path : All (λ n. n < nets) region.path.items
+
+-- the same, and net n shows as the root does
+pub record IsEntered {F : Type 0} (holds : F → Table → Type 0) (m : FaultModel) (b nets : ℕ) (at : Region F) (n : ℕ) (lanes : List ℕ) : Type 0 where
+  pub region : IsRegion holds m b nets at
+  pub shows : ShowsAs m b region.root n lanes
+
+-- what is kept is a root, as which net n shows
+pub record IsShownIn {F : Type 0} (holds : F → Table → Type 0) (m : FaultModel) (b : ℕ) (flip : F) (n : ℕ) (lanes : List ℕ) : Type 0 where
+  pub root : Table
+  pub held : holds flip root
+  pub shows : ShowsAs m b root n lanes

@@ -1,4 +1,4 @@
-//! A chain that is loaded as under a fault of its shift path, and the notes of what the points show then.
+//! A chain that is loaded as under a fault of its shift path, and the notes of what the places show then.
 ghost use Rattle.std.specs.Prelude.{◌≡◌, ◌≢◌, ℕ, ◌+◌, ◌<◌, ◌≤◌, All, MatchOption, length, true, false, OnOk};
 ghost use Rattle.scan_model.specs.declared.fault.Fault.TheVariants as fault;
 ghost use Rattle.scan_model.specs.declared.parts.Point.TheVariants as point;
@@ -10,22 +10,20 @@ ghost use Rattle.scan_model.specs.Suspect.{observed_net};
 ghost use Rattle.lane_rows.specs.Places.{has_place};
 ghost use Rattle.packed_sim.specs.Belongs.{has_own_row};
 ghost use Rattle.packed_sim.specs.Loaded.{IsLoaded};
-ghost use Rattle.fault_effects.specs.declared.side.Side.{Side};
-ghost use Rattle.fault_effects.specs.Flips.{count_on};
-ghost use Rattle.fault_effects.specs.Cells.{note_at};
-ghost use Rattle.fault_effects.specs.Walks.{IsSmall, IsFresh, AreFreshAt, IsNetDone, IsRenoted};
-ghost use Rattle.fault_effects.specs.SoundWork.{IsSound};
+ghost use Rattle.fault_effects.specs.Notes.{AreNotes};
+ghost use Rattle.fault_effects.specs.ChainWork.{IsChainWork};
+ghost use Rattle.fault_effects.specs.Walks.{IsFresh, ArePlacesFresh, AreFreshAt, IsNetDone, IsRenoted};
 
 use crate::block_work::BlockWork;
-use crate::notes::Notes;
-use crate::share::BlockCount;
+use crate::notes::{Notes, clear_notes, note_row};
+use crate::observer::ChainObserver;
 use packed_sim::Scratch;
 use scan_model::{CellKind, NoMemory, Parts, Point};
 
-/// A chain that is loaded as under a fault of its shift path, over the rows of a block's points.
+/// A chain that is loaded as under a fault of its shift path, in the work of a block.
 #[derive(Drop)]
-pub(crate) struct Loaded<'a> {
-    pub work: &'a BlockWork<'a>,
+pub(crate) struct Loaded<'a, O> {
+    pub work: &'a BlockWork<'a, O>,
     pub scratch: &'a Scratch,
     pub chain: u32,
     pub pos: u32,
@@ -100,79 +98,88 @@ fn position_below(shown_at: Point, chain: u32) -> Option<u32>
     }
 }
 
-impl Loaded<'_> {
-    /// How many lanes of point k the fault predicts to fail.
-    fn count_at(&self, k: usize) -> BlockCount
-        requires work { IsSound self.now.work.now }
-        requires point { k < length (points_of self.now.work.now.parts.now) }
-        ensures small { IsSmall result }
-        ensures count { (side : Side) → count_on side result ≡ note_at self.now.work.now.parts.now self.now.work.now.rows.now self.now.work.now.block (fault.Cell self.now.chain self.now.pos self.now.kind) side k }
+impl<O: ChainObserver> Loaded<'_, O> {
+    /// Notes a place again.
+    fn note_place(&self, notes: &mut Notes<O::Sum>, place: u32)
+        requires work { IsChainWork O.test O.good O.block O.model O.ready self.now.work.now }
+        requires notes { AreNotes (O.sums self.now.work.now.observer.now) (O.model self.now.work.now.observer.now).places notes.old }
+        requires place { place < (O.model self.now.work.now.observer.now).places }
+        ensures notes { AreNotes (O.sums self.now.work.now.observer.now) (O.model self.now.work.now.observer.now).places notes.new }
+        ensures renoted { IsRenoted (O.model self.now.work.now.observer.now) self.now.work.now.block (fault.Cell self.now.chain self.now.pos self.now.kind) notes.old.rows.items notes.new.rows.items }
+        ensures fresh { IsFresh (O.model self.now.work.now.observer.now) self.now.work.now.block (fault.Cell self.now.chain self.now.pos self.now.kind) notes.new.rows.items place }
     {
-        let predicted = self.work.good.predicted_row(
-            self.work.parts,
-            self.scratch,
-            self.work.block,
-            (self.chain, self.pos),
-            self.kind,
-            k,
-        );
-        let row = self.work.rows[k];
-        BlockCount {
-            tfsf: row.failing.count_both(predicted),
-            tpsf: row.passing.count_both(predicted),
+        let row = self
+            .work
+            .observer
+            .row(self.scratch, (self.chain, self.pos), self.kind, place);
+        note_row(self.work.observer, notes, place, row);
+    }
+
+    /// Notes again the places that see a point.
+    fn note_point(&self, notes: &mut Notes<O::Sum>, point: u32)
+        requires work { IsChainWork O.test O.good O.block O.model O.ready self.now.work.now }
+        requires notes { AreNotes (O.sums self.now.work.now.observer.now) (O.model self.now.work.now.observer.now).places notes.old }
+        requires point { point < length (points_of self.now.work.now.parts.now) }
+        ensures notes { AreNotes (O.sums self.now.work.now.observer.now) (O.model self.now.work.now.observer.now).places notes.new }
+        ensures renoted { IsRenoted (O.model self.now.work.now.observer.now) self.now.work.now.block (fault.Cell self.now.chain self.now.pos self.now.kind) notes.old.rows.items notes.new.rows.items }
+        ensures fresh { ArePlacesFresh (O.model self.now.work.now.observer.now) self.now.work.now.block (fault.Cell self.now.chain self.now.pos self.now.kind) notes.new.rows.items point }
+    {
+        let mut nth = 0;
+        while let Some(place) = self.work.observer.place_seeing(point, nth) {
+            self.note_place(notes, place);
+            nth += 1;
         }
     }
 
-    /// Notes some points again.
-    fn note_points(&self, notes: &mut Notes, points: &[u32])
-        requires work { IsSound self.now.work.now }
-        requires len { length notes.old ≡ length (points_of self.now.work.now.parts.now) }
+    /// Notes again the places that see some points.
+    fn note_points(&self, notes: &mut Notes<O::Sum>, points: &[u32])
+        requires work { IsChainWork O.test O.good O.block O.model O.ready self.now.work.now }
+        requires notes { AreNotes (O.sums self.now.work.now.observer.now) (O.model self.now.work.now.observer.now).places notes.old }
         requires points { All (λ k. k < length (points_of self.now.work.now.parts.now)) points.now }
-        ensures len { length notes.new ≡ length notes.old }
-        ensures renoted { IsRenoted self.now.work.now.parts.now self.now.work.now.rows.now self.now.work.now.block (fault.Cell self.now.chain self.now.pos self.now.kind) notes.old notes.new }
-        ensures fresh { All (IsFresh self.now.work.now.parts.now self.now.work.now.rows.now self.now.work.now.block (fault.Cell self.now.chain self.now.pos self.now.kind) notes.new) points.now }
+        ensures notes { AreNotes (O.sums self.now.work.now.observer.now) (O.model self.now.work.now.observer.now).places notes.new }
+        ensures renoted { IsRenoted (O.model self.now.work.now.observer.now) self.now.work.now.block (fault.Cell self.now.chain self.now.pos self.now.kind) notes.old.rows.items notes.new.rows.items }
+        ensures fresh { All (ArePlacesFresh (O.model self.now.work.now.observer.now) self.now.work.now.block (fault.Cell self.now.chain self.now.pos self.now.kind) notes.new.rows.items) points.now }
     {
         for point in points {
-            let k = *point as usize;
-            notes.put(k, self.count_at(k));
+            self.note_point(notes, *point);
         }
     }
 
     /// Notes again what observes a net.
-    fn note_net(&self, notes: &mut Notes, net: u32)
-        requires work { IsSound self.now.work.now }
-        requires len { length notes.old ≡ length (points_of self.now.work.now.parts.now) }
+    fn note_net(&self, notes: &mut Notes<O::Sum>, net: u32)
+        requires work { IsChainWork O.test O.good O.block O.model O.ready self.now.work.now }
+        requires notes { AreNotes (O.sums self.now.work.now.observer.now) (O.model self.now.work.now.observer.now).places notes.old }
         requires net { net < length self.now.work.now.parts.now.netlist.nets }
-        ensures len { length notes.new ≡ length notes.old }
-        ensures renoted { IsRenoted self.now.work.now.parts.now self.now.work.now.rows.now self.now.work.now.block (fault.Cell self.now.chain self.now.pos self.now.kind) notes.old notes.new }
-        ensures fresh { AreFreshAt self.now.work.now.parts.now self.now.work.now.rows.now self.now.work.now.block (fault.Cell self.now.chain self.now.pos self.now.kind) notes.new net }
+        ensures notes { AreNotes (O.sums self.now.work.now.observer.now) (O.model self.now.work.now.observer.now).places notes.new }
+        ensures renoted { IsRenoted (O.model self.now.work.now.observer.now) self.now.work.now.block (fault.Cell self.now.chain self.now.pos self.now.kind) notes.old.rows.items notes.new.rows.items }
+        ensures fresh { AreFreshAt self.now.work.now.parts.now (O.model self.now.work.now.observer.now) self.now.work.now.block (fault.Cell self.now.chain self.now.pos self.now.kind) notes.new.rows.items net }
     {
         let points = self.work.good.points_of_net(self.work.parts, net);
         self.note_points(notes, points);
     }
 
     /// Notes a position of the chain again.
-    pub(crate) fn note_position(&self, notes: &mut Notes, pos: u32)
-        requires work { IsSound self.now.work.now }
-        requires len { length notes.old ≡ length (points_of self.now.work.now.parts.now) }
+    pub(crate) fn note_position(&self, notes: &mut Notes<O::Sum>, pos: u32)
+        requires work { IsChainWork O.test O.good O.block O.model O.ready self.now.work.now }
+        requires notes { AreNotes (O.sums self.now.work.now.observer.now) (O.model self.now.work.now.observer.now).places notes.old }
         requires pos { pos < length (chain_at self.now.work.now.parts.now self.now.chain).cells }
-        ensures len { length notes.new ≡ length notes.old }
-        ensures renoted { IsRenoted self.now.work.now.parts.now self.now.work.now.rows.now self.now.work.now.block (fault.Cell self.now.chain self.now.pos self.now.kind) notes.old notes.new }
-        ensures fresh { AreFreshAt self.now.work.now.parts.now self.now.work.now.rows.now self.now.work.now.block (fault.Cell self.now.chain self.now.pos self.now.kind) notes.new (observed_net self.now.work.now.parts.now (point.Cell self.now.chain pos)) }
+        ensures notes { AreNotes (O.sums self.now.work.now.observer.now) (O.model self.now.work.now.observer.now).places notes.new }
+        ensures renoted { IsRenoted (O.model self.now.work.now.observer.now) self.now.work.now.block (fault.Cell self.now.chain self.now.pos self.now.kind) notes.old.rows.items notes.new.rows.items }
+        ensures fresh { AreFreshAt self.now.work.now.parts.now (O.model self.now.work.now.observer.now) self.now.work.now.block (fault.Cell self.now.chain self.now.pos self.now.kind) notes.new.rows.items (observed_net self.now.work.now.parts.now (point.Cell self.now.chain pos)) }
     {
         let net = position_net(self.work.parts, self.chain, pos);
         self.note_net(notes, net);
     }
 
     /// Notes again the positions of the chain that stand below some points.
-    fn note_below(&self, notes: &mut Notes, points: &[u32])
-        requires work { IsSound self.now.work.now }
-        requires len { length notes.old ≡ length (points_of self.now.work.now.parts.now) }
+    fn note_below(&self, notes: &mut Notes<O::Sum>, points: &[u32])
+        requires work { IsChainWork O.test O.good O.block O.model O.ready self.now.work.now }
+        requires notes { AreNotes (O.sums self.now.work.now.observer.now) (O.model self.now.work.now.observer.now).places notes.old }
         requires points { All (λ k. k < length (points_of self.now.work.now.parts.now)) points.now }
-        ensures len { length notes.new ≡ length notes.old }
-        ensures renoted { IsRenoted self.now.work.now.parts.now self.now.work.now.rows.now self.now.work.now.block (fault.Cell self.now.chain self.now.pos self.now.kind) notes.old notes.new }
+        ensures notes { AreNotes (O.sums self.now.work.now.observer.now) (O.model self.now.work.now.observer.now).places notes.new }
+        ensures renoted { IsRenoted (O.model self.now.work.now.observer.now) self.now.work.now.block (fault.Cell self.now.chain self.now.pos self.now.kind) notes.old.rows.items notes.new.rows.items }
         ensures fresh { All (λ k. (i : ℕ) → point_at self.now.work.now.parts.now k ≡ point.Cell self.now.chain (i + 1)
-            → AreFreshAt self.now.work.now.parts.now self.now.work.now.rows.now self.now.work.now.block (fault.Cell self.now.chain self.now.pos self.now.kind) notes.new (observed_net self.now.work.now.parts.now (point.Cell self.now.chain i))) points.now }
+            → AreFreshAt self.now.work.now.parts.now (O.model self.now.work.now.observer.now) self.now.work.now.block (fault.Cell self.now.chain self.now.pos self.now.kind) notes.new.rows.items (observed_net self.now.work.now.parts.now (point.Cell self.now.chain i))) points.now }
     {
         for point in points {
             let at = self.work.parts.points().as_slice()[*point as usize];
@@ -183,13 +190,13 @@ impl Loaded<'_> {
     }
 
     /// Notes again all that a change of a net can change.
-    fn note_changed(&self, notes: &mut Notes, net: u32)
-        requires work { IsSound self.now.work.now }
-        requires len { length notes.old ≡ length (points_of self.now.work.now.parts.now) }
+    fn note_changed(&self, notes: &mut Notes<O::Sum>, net: u32)
+        requires work { IsChainWork O.test O.good O.block O.model O.ready self.now.work.now }
+        requires notes { AreNotes (O.sums self.now.work.now.observer.now) (O.model self.now.work.now.observer.now).places notes.old }
         requires net { net < length self.now.work.now.parts.now.netlist.nets }
-        ensures len { length notes.new ≡ length notes.old }
-        ensures renoted { IsRenoted self.now.work.now.parts.now self.now.work.now.rows.now self.now.work.now.block (fault.Cell self.now.chain self.now.pos self.now.kind) notes.old notes.new }
-        ensures done { IsNetDone self.now.work.now.parts.now self.now.work.now.rows.now self.now.work.now.block (fault.Cell self.now.chain self.now.pos self.now.kind) self.now.chain notes.new net }
+        ensures notes { AreNotes (O.sums self.now.work.now.observer.now) (O.model self.now.work.now.observer.now).places notes.new }
+        ensures renoted { IsRenoted (O.model self.now.work.now.observer.now) self.now.work.now.block (fault.Cell self.now.chain self.now.pos self.now.kind) notes.old.rows.items notes.new.rows.items }
+        ensures done { IsNetDone self.now.work.now.parts.now (O.model self.now.work.now.observer.now) self.now.work.now.block (fault.Cell self.now.chain self.now.pos self.now.kind) self.now.chain notes.new.rows.items net }
     {
         let points = self.work.good.points_of_net(self.work.parts, net);
         self.note_points(notes, points);
@@ -197,12 +204,12 @@ impl Loaded<'_> {
     }
 
     /// Notes what observes a net with a row of its own.
-    fn note_touched(&self, notes: &mut Notes)
-        requires work { IsSound self.now.work.now }
-        requires len { length notes.old ≡ length (points_of self.now.work.now.parts.now) }
-        ensures len { length notes.new ≡ length notes.old }
-        ensures renoted { IsRenoted self.now.work.now.parts.now self.now.work.now.rows.now self.now.work.now.block (fault.Cell self.now.chain self.now.pos self.now.kind) notes.old notes.new }
-        ensures fresh { (n : ℕ) → has_own_row self.now.scratch.now n ≡ true → AreFreshAt self.now.work.now.parts.now self.now.work.now.rows.now self.now.work.now.block (fault.Cell self.now.chain self.now.pos self.now.kind) notes.new n }
+    fn note_touched(&self, notes: &mut Notes<O::Sum>)
+        requires work { IsChainWork O.test O.good O.block O.model O.ready self.now.work.now }
+        requires notes { AreNotes (O.sums self.now.work.now.observer.now) (O.model self.now.work.now.observer.now).places notes.old }
+        ensures notes { AreNotes (O.sums self.now.work.now.observer.now) (O.model self.now.work.now.observer.now).places notes.new }
+        ensures renoted { IsRenoted (O.model self.now.work.now.observer.now) self.now.work.now.block (fault.Cell self.now.chain self.now.pos self.now.kind) notes.old.rows.items notes.new.rows.items }
+        ensures fresh { (n : ℕ) → has_own_row self.now.scratch.now n ≡ true → AreFreshAt self.now.work.now.parts.now (O.model self.now.work.now.observer.now) self.now.work.now.block (fault.Cell self.now.chain self.now.pos self.now.kind) notes.new.rows.items n }
     {
         let nets = self.scratch.nets();
         for net in nets {
@@ -211,13 +218,13 @@ impl Loaded<'_> {
     }
 
     /// Notes all positions of the chain.
-    fn note_chain(&self, notes: &mut Notes)
-        requires work { IsSound self.now.work.now }
-        requires len { length notes.old ≡ length (points_of self.now.work.now.parts.now) }
-        ensures len { length notes.new ≡ length notes.old }
-        ensures renoted { IsRenoted self.now.work.now.parts.now self.now.work.now.rows.now self.now.work.now.block (fault.Cell self.now.chain self.now.pos self.now.kind) notes.old notes.new }
+    fn note_chain(&self, notes: &mut Notes<O::Sum>)
+        requires work { IsChainWork O.test O.good O.block O.model O.ready self.now.work.now }
+        requires notes { AreNotes (O.sums self.now.work.now.observer.now) (O.model self.now.work.now.observer.now).places notes.old }
+        ensures notes { AreNotes (O.sums self.now.work.now.observer.now) (O.model self.now.work.now.observer.now).places notes.new }
+        ensures renoted { IsRenoted (O.model self.now.work.now.observer.now) self.now.work.now.block (fault.Cell self.now.chain self.now.pos self.now.kind) notes.old.rows.items notes.new.rows.items }
         ensures fresh { (i : ℕ) → i < length (chain_at self.now.work.now.parts.now self.now.chain).cells
-            → AreFreshAt self.now.work.now.parts.now self.now.work.now.rows.now self.now.work.now.block (fault.Cell self.now.chain self.now.pos self.now.kind) notes.new (observed_net self.now.work.now.parts.now (point.Cell self.now.chain i)) }
+            → AreFreshAt self.now.work.now.parts.now (O.model self.now.work.now.observer.now) self.now.work.now.block (fault.Cell self.now.chain self.now.pos self.now.kind) notes.new.rows.items (observed_net self.now.work.now.parts.now (point.Cell self.now.chain i)) }
     {
         let _ = self.work.parts.chains();
         let cells = chain_cells(self.work.parts, self.chain);
@@ -227,15 +234,15 @@ impl Loaded<'_> {
         }
     }
 
-    /// Notes all points for the first time. What neither observes a net with a row of its own nor stands in the chain
-    /// shows its fault-free value, and keeps a count of zero.
-    pub(crate) fn note_all(&self, notes: &mut Notes) -> Result<(), NoMemory>
-        requires work { IsSound self.now.work.now }
-        ensures len { OnOk result (length notes.new ≡ length (points_of self.now.work.now.parts.now)) }
-        ensures fresh { OnOk result ((k : ℕ) → k < length (points_of self.now.work.now.parts.now) → IsFresh self.now.work.now.parts.now self.now.work.now.rows.now self.now.work.now.block (fault.Cell self.now.chain self.now.pos self.now.kind) notes.new k) }
+    /// Notes all places for the first time. A point that neither observes a net with a row of its own nor stands in the
+    /// chain shows its fault-free value, and a place that sees only such points does not fail.
+    pub(crate) fn note_all(&self, notes: &mut Notes<O::Sum>) -> Result<(), NoMemory>
+        requires work { IsChainWork O.test O.good O.block O.model O.ready self.now.work.now }
+        ensures notes { OnOk result (AreNotes (O.sums self.now.work.now.observer.now) (O.model self.now.work.now.observer.now).places notes.new) }
+        ensures fresh { OnOk result ((q : ℕ) → q < (O.model self.now.work.now.observer.now).places → IsFresh (O.model self.now.work.now.observer.now) self.now.work.now.block (fault.Cell self.now.chain self.now.pos self.now.kind) notes.new.rows.items q) }
     {
         let _ = self.work.parts.points();
-        notes.reset(self.work.rows.len())?;
+        clear_notes(self.work.observer, notes)?;
         self.note_touched(notes);
         self.note_chain(notes);
         Ok(())
@@ -254,13 +261,13 @@ impl Loaded<'_> {
     }
 
     /// Notes again all that a change of the marked nets can change.
-    pub(crate) fn note_moved(&self, notes: &mut Notes)
-        requires work { IsSound self.now.work.now }
-        requires len { length notes.old ≡ length (points_of self.now.work.now.parts.now) }
-        ensures len { length notes.new ≡ length notes.old }
-        ensures renoted { IsRenoted self.now.work.now.parts.now self.now.work.now.rows.now self.now.work.now.block (fault.Cell self.now.chain self.now.pos self.now.kind) notes.old notes.new }
+    pub(crate) fn note_moved(&self, notes: &mut Notes<O::Sum>)
+        requires work { IsChainWork O.test O.good O.block O.model O.ready self.now.work.now }
+        requires notes { AreNotes (O.sums self.now.work.now.observer.now) (O.model self.now.work.now.observer.now).places notes.old }
+        ensures notes { AreNotes (O.sums self.now.work.now.observer.now) (O.model self.now.work.now.observer.now).places notes.new }
+        ensures renoted { IsRenoted (O.model self.now.work.now.observer.now) self.now.work.now.block (fault.Cell self.now.chain self.now.pos self.now.kind) notes.old.rows.items notes.new.rows.items }
         ensures done { (n : ℕ) → n < length self.now.work.now.parts.now.netlist.nets → has_place self.now.scratch.now.moved n ≡ true
-            → IsNetDone self.now.work.now.parts.now self.now.work.now.rows.now self.now.work.now.block (fault.Cell self.now.chain self.now.pos self.now.kind) self.now.chain notes.new n }
+            → IsNetDone self.now.work.now.parts.now (O.model self.now.work.now.observer.now) self.now.work.now.block (fault.Cell self.now.chain self.now.pos self.now.kind) self.now.chain notes.new.rows.items n }
     {
         let _ = self.work.parts.circuit().nets();
         let mut from = 0;

@@ -1,75 +1,65 @@
-//! For each point how many lanes of each side a fault of a chain predicts to fail, with their sums.
-ghost use Rattle.std.specs.Prelude.{◌≡◌, ◌<◌, ◌≤◌, [], length, replicate, sum_by, slice_set, OnOk};
-ghost use Rattle.fault_effects.specs.declared.side.Side.{Side};
-ghost use Rattle.fault_effects.specs.Shares.{no_count};
-ghost use Rattle.fault_effects.specs.Flips.{count_on};
-ghost use Rattle.fault_effects.specs.Walks.{IsSmall};
+//! What each place shows under a fault of a chain, with what an observer makes of the rows of all places.
+ghost use Rattle.std.specs.Prelude.{◌≡◌, ◌≢◌, ℕ, ◌<◌, false, OnOk};
+ghost use Rattle.lane_rows.specs.Lanes.{lane};
+ghost use Rattle.fault_effects.specs.Tables.{row_at, table_of};
+ghost use Rattle.fault_effects.specs.Notes.{AreNotes};
 
-use crate::share::BlockCount;
+use crate::observer::ChainObserver;
+use lane_rows::Row;
 use scan_model::NoMemory;
 use std::alloc::Global;
-use std::marker::Model;
 
-/// A count for each point of a block, with their sum.
-#[derive(Debug, Drop)]
-pub(crate) struct Notes {
-    points: Vec<BlockCount>,
-    sum: BlockCount,
+/// A row for each place, and what they come to.
+#[derive(Drop)]
+pub(crate) struct Notes<S> {
+    alloc: Global,
+    pub rows: Vec<Row>,
+    pub sum: S,
 }
 
-impl Model for Notes {
-    ghost use Rattle.std.specs.Prelude.{List};
-    ghost use Rattle.fault_effects.specs.declared.share.BlockCount.{BlockCount};
-
-    ghost Value = { List BlockCount };
-
-    ghost use Rattle.fault_effects.specs.Walks.{AreSummed};
-
-    ghost view = { λ n. n.points.items };
-
-    ghost invariant = { λ n. AreSummed n.points.items n.sum };
+/// Notes of no place.
+pub(crate) fn no_notes<O: ChainObserver>(
+    alloc: Global,
+    observer: &O,
+) -> Result<Notes<O::Sum>, NoMemory> {
+    Ok(Notes {
+        alloc,
+        rows: Vec::new(alloc),
+        sum: observer.new_sum(alloc)?,
+    })
 }
 
-impl Notes {
-    pub(crate) fn new(alloc: Global) -> Notes
-        ensures { result ≡ [] }
-    {
-        Notes {
-            points: Vec::new(alloc),
-            sum: BlockCount { tfsf: 0, tpsf: 0 },
-        }
-    }
+/// Notes no fail at any place.
+pub(crate) fn clear_notes<O: ChainObserver>(
+    observer: &O,
+    notes: &mut Notes<O::Sum>,
+) -> Result<(), NoMemory>
+    ensures notes { OnOk result (AreNotes (O.sums observer.now) (O.model observer.now).places notes.new) }
+    ensures none { OnOk result ((q j : ℕ) → q < (O.model observer.now).places → j < 512 → table_of notes.new.rows.items q j ≡ false) }
+{
+    notes.rows.clear();
+    notes.rows.resize(observer.places(), Row::none())?;
+    notes.sum = observer.new_sum(notes.alloc)?;
+    Ok(())
+}
 
-    /// So many points, each with a count of zero.
-    pub(crate) fn reset(&mut self, len: usize) -> Result<(), NoMemory>
-        requires room { len ≤ 131072 }
-        ensures { OnOk result (self.new ≡ replicate len no_count) }
-    {
-        let none = BlockCount { tfsf: 0, tpsf: 0 };
-        self.points.clear();
-        self.sum = none;
-        self.points.resize(len, none)?;
-        Ok(())
+/// Notes a row at a place. The observer is told of it where it is another than before.
+pub(crate) fn note_row<O: ChainObserver>(
+    observer: &O,
+    notes: &mut Notes<O::Sum>,
+    place: u32,
+    row: Row,
+)
+    requires notes { AreNotes (O.sums observer.now) (O.model observer.now).places notes.old }
+    requires place { place < (O.model observer.now).places }
+    ensures notes { AreNotes (O.sums observer.now) (O.model observer.now).places notes.new }
+    ensures here { (j : ℕ) → j < 512 → table_of notes.new.rows.items place j ≡ lane row j }
+    ensures others { (q : ℕ) → q ≢ place → row_at notes.new.rows.items q ≡ row_at notes.old.rows.items q }
+{
+    let old = notes.rows[place as usize];
+    if old.xor(row).is_empty() {
+        return;
     }
-
-    /// Another count at point k.
-    pub(crate) fn put(&mut self, k: usize, count: BlockCount)
-        requires within { k < length self.old }
-        requires small { IsSmall count }
-        ensures { self.new ≡ slice_set self.old k count }
-    {
-        let old = self.points[k];
-        self.points[k] = count;
-        self.sum = BlockCount {
-            tfsf: self.sum.tfsf - old.tfsf + count.tfsf,
-            tpsf: self.sum.tpsf - old.tpsf + count.tpsf,
-        };
-    }
-
-    /// The sum over all points.
-    pub(crate) fn sum(&self) -> BlockCount
-        ensures { (side : Side) → count_on side result ≡ sum_by (count_on side) self.now }
-    {
-        self.sum
-    }
+    observer.change(&mut notes.sum, place, old, row);
+    notes.rows[place as usize] = row;
 }

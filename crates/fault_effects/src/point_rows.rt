@@ -8,6 +8,7 @@ ghost use Rattle.log_join.specs.Joining.{StandsFor, IsJoinedOf, FitsExpected};
 ghost use Rattle.lane_rows.specs.Lanes.{lane};
 ghost use Rattle.lane_rows.specs.GoodRows.{pattern_of};
 ghost use Rattle.fault_effects.specs.PointRows.{is_on_at, ArePointRows};
+ghost use Rattle.fault_effects.specs.PlaceRows.{ArePlaceRows};
 
 use crate::point_row::PointRow;
 use crate::side::Side;
@@ -63,7 +64,30 @@ fn side_row(
     Row::of_words(words)
 }
 
-/// The Failing and the Passing lanes of each point in a block: the one place where counting reads the logs.
+/// The Failing and the Passing lanes of each place of the joined logs in a block, by rows of expected values: the one place
+/// where counting reads the logs.
+pub fn rows_of_places(
+    alloc: Global,
+    joined: &Joined,
+    expected: &Expected,
+    block: u32,
+) -> Result<Rows<PointRow>, NoMemory>
+    requires expected { FitsExpected expected.now joined.now }
+    requires block { block < 2 ^ 16 }
+    ensures len { IfOk result (λ rows. length rows ≡ joined.now.points) }
+    ensures rows { (logs : List LogFacts) → StandsFor logs joined.now → IfOk result (ArePlaceRows logs expected.now joined.now.patterns joined.now.points block) }
+{
+    let patterns = joined.patterns();
+    let mut rows = Rows::new(alloc);
+    for place in 0..joined.points() {
+        let failing = side_row(joined, expected, patterns, Side::Failing, block, place);
+        let passing = side_row(joined, expected, patterns, Side::Passing, block, place);
+        rows.push(PointRow { failing, passing })?;
+    }
+    Ok(rows)
+}
+
+/// The same of the points of a test, by its expected values.
 pub fn rows_of_points(
     alloc: Global,
     parts: &Parts,
@@ -77,12 +101,6 @@ pub fn rows_of_points(
     ensures len { IfOk result (λ rows. length rows ≡ length (points_of parts.now)) }
     ensures rows { (logs : List LogFacts) → StandsFor logs joined.now → IfOk result (ArePointRows parts.now logs block) }
 {
-    let patterns = parts.patterns().len() as u32;
-    let mut rows = Rows::new(alloc);
-    for point in 0..parts.points().len() as u32 {
-        let failing = side_row(joined, expected, patterns, Side::Failing, block, point);
-        let passing = side_row(joined, expected, patterns, Side::Passing, block, point);
-        rows.push(PointRow { failing, passing })?;
-    }
-    Ok(rows)
+    let _ = parts.points();
+    rows_of_places(alloc, joined, expected, block)
 }

@@ -1,17 +1,13 @@
 //! A region: nets of which each is read by one gate alone, up to one that isn't, its root. A net shows where its one reader does, in the lanes in
 //! which it flips the reader. So of a region the root alone is flipped.
-ghost use Rattle.std.specs.Prelude.{◌≡◌, ℕ, ◌<◌, List, All, length, IfOk, IfSome, OnOk};
-ghost use Rattle.scan_model.specs.ScanTest.{ScanTest};
-ghost use Rattle.packed_sim.specs.Belongs.{IsScratchOf};
-ghost use Rattle.fault_effects.specs.declared.point_row.PointRow.{PointRow};
-ghost use Rattle.fault_effects.specs.declared.shown.Shown.{Shown};
-ghost use Rattle.fault_effects.specs.Regions.{IsMember, IsRegion};
+ghost use Rattle.std.specs.Prelude.{◌≡◌, ℕ, ◌<◌, All, length, IfOk, IfSome, OnOk, []};
+ghost use Rattle.fault_effects.specs.FaultModel.{FaultModel, Table};
+ghost use Rattle.fault_effects.specs.Regions.{IsRegion, IsEntered, ShowsAs};
 ghost use Rattle.fault_effects.specs.SoundWork.{IsSound};
 
 use crate::block_work::BlockWork;
-use crate::flip::{flipping_lanes, show_flip};
+use crate::observer::Observer;
 use crate::readers::{SoleReader, sole_reader};
-use crate::shown::Shown;
 use lane_rows::Row;
 use packed_sim::Scratch;
 use scan_model::{NoMemory, Steps};
@@ -25,12 +21,26 @@ pub(crate) struct Member {
     pub lanes: Row,
 }
 
-/// Where the root of a region shows, the members from it down to the net that was shown last, and the nets above one that is to be shown, the highest last.
-#[derive(Debug, Drop)]
-pub(crate) struct Region {
-    pub shown: Shown,
+/// What is kept of a flip of a region's root, the members from it down to the net that was shown last, and the nets above one that is to be shown, the highest last.
+#[derive(Drop)]
+pub(crate) struct Region<F> {
+    pub flip: F,
     pub members: Vec<Member>,
     pub path: Vec<u32>,
+}
+
+impl<F> Region<F> {
+    pub(crate) fn new(alloc: Global, flip: F) -> Region<F>
+        ensures flip { result.flip ≡ flip }
+        ensures members { result.members.items ≡ [] }
+        ensures path { result.path.items ≡ [] }
+    {
+        Region {
+            flip,
+            members: Vec::new(alloc),
+            path: Vec::new(alloc),
+        }
+    }
 }
 
 /// Whether the last member is the gate that alone reads a net.
@@ -43,7 +53,7 @@ fn is_last(members: &[Member], reader: Option<SoleReader>) -> bool {
 
 /// Drops the members behind a net's one reader, all of them if it isn't one.
 fn leave(members: &mut Vec<Member>, reader: Option<SoleReader>)
-    ensures { (t : ScanTest) (rows : List PointRow) (b : ℕ) (shown : Shown) → All (IsMember t rows b shown) members.old.items → All (IsMember t rows b shown) members.new.items }
+    ensures { (m : FaultModel) (b : ℕ) (root : Table) → All (λ x. ShowsAs m b root x.net x.lanes) members.old.items → All (λ x. ShowsAs m b root x.net x.lanes) members.new.items }
 {
     for _ in 0..members.len() {
         if is_last(members, reader) {
@@ -53,141 +63,134 @@ fn leave(members: &mut Vec<Member>, reader: Option<SoleReader>)
     }
 }
 
-impl Region {
-    pub(crate) fn new(alloc: Global) -> Region
-        ensures { (t : ScanTest) (rows : List PointRow) (b : ℕ) → IsRegion t rows b result }
-    {
-        Region {
-            shown: Shown::new(alloc),
-            members: Vec::new(alloc),
-            path: Vec::new(alloc),
-        }
+/// Notes the gates between a net and the root of its region, where no member is left.
+fn climb<O: Observer>(
+    work: &BlockWork<'_, O>,
+    region: &mut Region<O::Flip>,
+    net: u32,
+) -> Result<(), NoMemory>
+    requires region { IsRegion (O.holds work.now.observer.now) (O.model work.now.observer.now) (O.block work.now.observer.now) (length work.now.parts.now.netlist.nets) region.old }
+    requires net { net < length work.now.parts.now.netlist.nets }
+    ensures { OnOk result (IsRegion (O.holds work.now.observer.now) (O.model work.now.observer.now) (O.block work.now.observer.now) (length work.now.parts.now.netlist.nets) region.new) }
+{
+    region.path.clear();
+    if !region.members.is_empty() {
+        return Ok(());
     }
-
-    /// Notes the gates between a net and the root of its region, where no member is left.
-    fn climb(&mut self, work: &BlockWork<'_>, net: u32) -> Result<(), NoMemory>
-        requires region { IsRegion work.now.parts.now work.now.rows.now work.now.block self.old }
-        requires net { net < length work.now.parts.now.netlist.nets }
-        ensures { OnOk result (IsRegion work.now.parts.now work.now.rows.now work.now.block self.new) }
-    {
-        self.path.clear();
-        if !self.members.is_empty() {
+    let mut at = net;
+    for _ in 0..work.reads.len() {
+        let Some(reader) = sole_reader(work.parts, work.reads, at) else {
             return Ok(());
-        }
-        let mut at = net;
-        for _ in 0..work.reads.len() {
-            let Some(reader) = sole_reader(work.parts, work.reads, at) else {
-                return Ok(());
-            };
-            self.path.push(reader.gate)?;
-            at = reader.gate;
-        }
-        Ok(())
-    }
-
-    /// The lanes in which a net shows where the root does, if the last member alone reads it.
-    fn lanes_behind(&self, work: &BlockWork<'_>, net: u32) -> Option<Row>
-        requires work { IsSound work.now }
-        requires region { IsRegion work.now.parts.now work.now.rows.now work.now.block self.now }
-        requires net { net < length work.now.parts.now.netlist.nets }
-        ensures { IfSome result (λ lanes. IsMember work.now.parts.now work.now.rows.now work.now.block self.now.shown (record { net = net; lanes = lanes })) }
-    {
-        let _ = work.parts.circuit().order();
-        let last = self.members.last()?;
-        let reader = sole_reader(work.parts, work.reads, net)?;
-        if reader.gate != last.net {
-            return None;
-        }
-        let lanes = flipping_lanes(work.parts, work.good, work.block, reader.pin);
-        Some(last.lanes.and(lanes))
-    }
-
-    /// Takes a net as the root of a region: it is flipped.
-    fn begin<L: Ledger>(
-        &mut self,
-        work: &BlockWork<'_>,
-        scratch: &mut Scratch,
-        net: u32,
-        steps: &mut Steps<L>,
-    ) -> Result<Row, NoMemory>
-        requires work { IsSound work.now }
-        requires scratch { IsScratchOf work.now.good.now scratch.old }
-        requires region { IsRegion work.now.parts.now work.now.rows.now work.now.block self.old }
-        requires net { net < length work.now.parts.now.netlist.nets }
-        ensures scratch { IsScratchOf work.now.good.now scratch.new }
-        ensures region { OnOk result (IsRegion work.now.parts.now work.now.rows.now work.now.block self.new) }
-        ensures member { IfOk result (λ lanes. IsMember work.now.parts.now work.now.rows.now work.now.block self.new.shown (record { net = net; lanes = lanes })) }
-    {
-        self.members.clear();
-        show_flip(work, scratch, &mut self.shown, net, steps)?;
-        Ok(Row::all())
-    }
-
-    /// Takes a net as a member: behind the last one if that alone reads the net, else as the root of a region. The answer is its lanes.
-    fn enter<L: Ledger>(
-        &mut self,
-        work: &BlockWork<'_>,
-        scratch: &mut Scratch,
-        net: u32,
-        steps: &mut Steps<L>,
-    ) -> Result<Row, NoMemory>
-        requires work { IsSound work.now }
-        requires scratch { IsScratchOf work.now.good.now scratch.old }
-        requires region { IsRegion work.now.parts.now work.now.rows.now work.now.block self.old }
-        requires net { net < length work.now.parts.now.netlist.nets }
-        ensures scratch { IsScratchOf work.now.good.now scratch.new }
-        ensures region { OnOk result (IsRegion work.now.parts.now work.now.rows.now work.now.block self.new) }
-        ensures member { IfOk result (λ lanes. IsMember work.now.parts.now work.now.rows.now work.now.block self.new.shown (record { net = net; lanes = lanes })) }
-    {
-        let lanes = match self.lanes_behind(work, net) {
-            Some(lanes) => lanes,
-            None => self.begin(work, scratch, net, steps)?,
         };
-        self.members.push(Member { net, lanes })?;
-        Ok(lanes)
+        region.path.push(reader.gate)?;
+        at = reader.gate;
     }
+    Ok(())
+}
 
-    /// Takes the nets of the path as members, from the root down.
-    fn descend<L: Ledger>(
-        &mut self,
-        work: &BlockWork<'_>,
-        scratch: &mut Scratch,
-        steps: &mut Steps<L>,
-    ) -> Result<(), NoMemory>
-        requires work { IsSound work.now }
-        requires scratch { IsScratchOf work.now.good.now scratch.old }
-        requires region { IsRegion work.now.parts.now work.now.rows.now work.now.block self.old }
-        ensures scratch { IsScratchOf work.now.good.now scratch.new }
-        ensures region { OnOk result (IsRegion work.now.parts.now work.now.rows.now work.now.block self.new) }
-    {
-        for _ in 0..self.path.len() {
-            let Some(above) = self.path.pop() else {
-                return Ok(());
-            };
-            self.enter(work, scratch, above, steps)?;
-        }
-        Ok(())
+/// The lanes in which a net shows where the root does, if the last member alone reads it.
+fn lanes_behind<O: Observer>(
+    work: &BlockWork<'_, O>,
+    region: &Region<O::Flip>,
+    net: u32,
+) -> Option<Row>
+    requires work { IsSound O.test O.model O.block O.clean O.ready work.now }
+    requires region { IsRegion (O.holds work.now.observer.now) (O.model work.now.observer.now) (O.block work.now.observer.now) (length work.now.parts.now.netlist.nets) region.now }
+    requires net { net < length work.now.parts.now.netlist.nets }
+    ensures { IfSome result (IsEntered (O.holds work.now.observer.now) (O.model work.now.observer.now) (O.block work.now.observer.now) (length work.now.parts.now.netlist.nets) region.now net) }
+{
+    let last = region.members.last()?;
+    let reader = sole_reader(work.parts, work.reads, net)?;
+    if reader.gate != last.net {
+        return None;
     }
+    let lanes = work.observer.behind(reader.pin);
+    Some(last.lanes.and(lanes))
+}
 
-    /// Finds where a flip of a net shows: where the root of its region does, in the lanes of the answer.
-    pub(crate) fn show<L: Ledger>(
-        &mut self,
-        work: &BlockWork<'_>,
-        scratch: &mut Scratch,
-        net: u32,
-        steps: &mut Steps<L>,
-    ) -> Result<Row, NoMemory>
-        requires work { IsSound work.now }
-        requires scratch { IsScratchOf work.now.good.now scratch.old }
-        requires region { IsRegion work.now.parts.now work.now.rows.now work.now.block self.old }
-        requires net { net < length work.now.parts.now.netlist.nets }
-        ensures scratch { IsScratchOf work.now.good.now scratch.new }
-        ensures region { OnOk result (IsRegion work.now.parts.now work.now.rows.now work.now.block self.new) }
-        ensures member { IfOk result (λ lanes. IsMember work.now.parts.now work.now.rows.now work.now.block self.new.shown (record { net = net; lanes = lanes })) }
-    {
-        leave(&mut self.members, sole_reader(work.parts, work.reads, net));
-        self.climb(work, net)?;
-        self.descend(work, scratch, steps)?;
-        self.enter(work, scratch, net, steps)
+/// Takes a net as the root of a region: it is flipped.
+fn begin<O: Observer, L: Ledger>(
+    work: &BlockWork<'_, O>,
+    scratch: &mut Scratch,
+    region: &mut Region<O::Flip>,
+    net: u32,
+    steps: &mut Steps<L>,
+) -> Result<Row, NoMemory>
+    requires work { IsSound O.test O.model O.block O.clean O.ready work.now }
+    requires scratch { O.clean work.now.observer.now scratch.old }
+    requires region { IsRegion (O.holds work.now.observer.now) (O.model work.now.observer.now) (O.block work.now.observer.now) (length work.now.parts.now.netlist.nets) region.old }
+    requires net { net < length work.now.parts.now.netlist.nets }
+    ensures scratch { O.clean work.now.observer.now scratch.new }
+    ensures region { IfOk result (IsEntered (O.holds work.now.observer.now) (O.model work.now.observer.now) (O.block work.now.observer.now) (length work.now.parts.now.netlist.nets) region.new net) }
+{
+    region.members.clear();
+    work.observer.flip(scratch, net, &mut region.flip, steps)?;
+    Ok(Row::all())
+}
+
+/// Takes a net as a member: behind the last one if that alone reads the net, else as the root of a region. The answer is its lanes.
+fn enter<O: Observer, L: Ledger>(
+    work: &BlockWork<'_, O>,
+    scratch: &mut Scratch,
+    region: &mut Region<O::Flip>,
+    net: u32,
+    steps: &mut Steps<L>,
+) -> Result<Row, NoMemory>
+    requires work { IsSound O.test O.model O.block O.clean O.ready work.now }
+    requires scratch { O.clean work.now.observer.now scratch.old }
+    requires region { IsRegion (O.holds work.now.observer.now) (O.model work.now.observer.now) (O.block work.now.observer.now) (length work.now.parts.now.netlist.nets) region.old }
+    requires net { net < length work.now.parts.now.netlist.nets }
+    ensures scratch { O.clean work.now.observer.now scratch.new }
+    ensures region { IfOk result (IsEntered (O.holds work.now.observer.now) (O.model work.now.observer.now) (O.block work.now.observer.now) (length work.now.parts.now.netlist.nets) region.new net) }
+{
+    let lanes = match lanes_behind(work, region, net) {
+        Some(lanes) => lanes,
+        None => begin(work, scratch, region, net, steps)?,
+    };
+    region.members.push(Member { net, lanes })?;
+    Ok(lanes)
+}
+
+/// Takes the nets of the path as members, from the root down.
+fn descend<O: Observer, L: Ledger>(
+    work: &BlockWork<'_, O>,
+    scratch: &mut Scratch,
+    region: &mut Region<O::Flip>,
+    steps: &mut Steps<L>,
+) -> Result<(), NoMemory>
+    requires work { IsSound O.test O.model O.block O.clean O.ready work.now }
+    requires scratch { O.clean work.now.observer.now scratch.old }
+    requires region { IsRegion (O.holds work.now.observer.now) (O.model work.now.observer.now) (O.block work.now.observer.now) (length work.now.parts.now.netlist.nets) region.old }
+    ensures scratch { O.clean work.now.observer.now scratch.new }
+    ensures region { OnOk result (IsRegion (O.holds work.now.observer.now) (O.model work.now.observer.now) (O.block work.now.observer.now) (length work.now.parts.now.netlist.nets) region.new) }
+{
+    for _ in 0..region.path.len() {
+        let Some(above) = region.path.pop() else {
+            return Ok(());
+        };
+        enter(work, scratch, region, above, steps)?;
     }
+    Ok(())
+}
+
+/// Finds where a flip of a net shows: where the root of its region does, in the lanes of the answer.
+pub(crate) fn show<O: Observer, L: Ledger>(
+    work: &BlockWork<'_, O>,
+    scratch: &mut Scratch,
+    region: &mut Region<O::Flip>,
+    net: u32,
+    steps: &mut Steps<L>,
+) -> Result<Row, NoMemory>
+    requires work { IsSound O.test O.model O.block O.clean O.ready work.now }
+    requires scratch { O.clean work.now.observer.now scratch.old }
+    requires region { IsRegion (O.holds work.now.observer.now) (O.model work.now.observer.now) (O.block work.now.observer.now) (length work.now.parts.now.netlist.nets) region.old }
+    requires net { net < length work.now.parts.now.netlist.nets }
+    ensures scratch { O.clean work.now.observer.now scratch.new }
+    ensures region { IfOk result (IsEntered (O.holds work.now.observer.now) (O.model work.now.observer.now) (O.block work.now.observer.now) (length work.now.parts.now.netlist.nets) region.new net) }
+{
+    let reader = sole_reader(work.parts, work.reads, net);
+    leave(&mut region.members, reader);
+    climb(work, region, net)?;
+    descend(work, scratch, region, steps)?;
+    enter(work, scratch, region, net, steps)
 }

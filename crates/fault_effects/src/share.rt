@@ -1,14 +1,7 @@
-//! What a suspect adds in one block.
-/// What a fault explains and mispredicts in one block.
+//! What a suspect comes to in one block.
+/// What a suspect, by its number, comes to in one block.
 #[derive(Clone, Copy, Debug)]
-pub struct BlockCount {
-    pub tfsf: u32,
-    pub tpsf: u32,
-}
-
-/// What a suspect, by its number, adds in one block.
-#[derive(Clone, Copy, Debug)]
-pub struct Share {
+pub struct Share<P> {
     pub suspect: u32,
-    pub count: BlockCount,
+    pub part: P,
 }

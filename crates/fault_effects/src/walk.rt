@@ -1,15 +1,17 @@
 //! A walk down a chain: at each step one cell's load changes, and what that touches is noted again.
 ghost use Rattle.std.specs.Prelude.{◌≡◌, ◌+◌, ◌<◌, ◌≤◌, Some, None, true, length, IfSome, OnOk};
-ghost use Rattle.scan_model.specs.ScanTest.{points_of, chain_at};
+ghost use Rattle.scan_model.specs.ScanTest.{chain_at};
 ghost use Rattle.lane_rows.specs.Places.{has_place, room};
 ghost use Rattle.packed_sim.specs.Belongs.{IsScratchOf, IsScratchIn};
 ghost use Rattle.packed_sim.specs.Loaded.{IsLoaded};
 ghost use Rattle.fault_effects.specs.Walks.{IsWalk, IsWalkAt, IsStepNoted};
-ghost use Rattle.fault_effects.specs.SoundWork.{IsSound};
+ghost use Rattle.fault_effects.specs.Notes.{AreNotes};
+ghost use Rattle.fault_effects.specs.ChainWork.{IsChainWork};
 
 use crate::block_work::BlockWork;
 use crate::loaded::Loaded;
 use crate::notes::Notes;
+use crate::observer::ChainObserver;
 use lane_rows::PlaceSet;
 use packed_sim::Scratch;
 use scan_model::{CellKind, NoMemory, Steps};
@@ -38,21 +40,21 @@ fn clear_marks(scratch: &mut Scratch, nets: usize)
     }
 }
 
-/// Begins a walk behind a position: the chain is loaded, and all points are noted.
-fn begin<L: Ledger>(
-    work: &BlockWork<'_>,
+/// Begins a walk behind a position: the chain is loaded, and all places are noted.
+fn begin<O: ChainObserver, L: Ledger>(
+    work: &BlockWork<'_, O>,
     scratch: &mut Scratch,
     behind: (u32, u32),
     kind: CellKind,
-    notes: &mut Notes,
+    notes: &mut Notes<O::Sum>,
     steps: &mut Steps<L>,
 ) -> Result<(), NoMemory>
-    requires work { IsSound work.now }
+    requires work { IsChainWork O.test O.good O.block O.model O.ready work.now }
     requires scratch { IsScratchOf work.now.good.now scratch.old }
     requires chain { behind.0 < length work.now.parts.now.chains }
     requires pos { behind.1 < length (chain_at work.now.parts.now behind.0).cells }
     ensures scratch { IsScratchIn work.now.good.now scratch.new }
-    ensures walk { OnOk result (IsWalkAt work.now.parts.now work.now.good.now work.now.rows.now work.now.block behind.0 behind.1 kind scratch.new notes.new) }
+    ensures walk { OnOk result (IsWalkAt work.now.parts.now work.now.good.now (O.model work.now.observer.now) (O.sums work.now.observer.now) work.now.block behind.0 behind.1 kind scratch.new notes.new) }
 {
     work.good
         .load(work.parts, scratch, work.block, behind, kind, steps);
@@ -68,22 +70,22 @@ fn begin<L: Ledger>(
 }
 
 /// Notes again what a step of a walk has changed.
-fn note_step(
-    work: &BlockWork<'_>,
+fn note_step<O: ChainObserver>(
+    work: &BlockWork<'_, O>,
     scratch: &Scratch,
     behind: (u32, u32),
     above: u32,
     kind: CellKind,
-    notes: &mut Notes,
+    notes: &mut Notes<O::Sum>,
 )
-    requires work { IsSound work.now }
+    requires work { IsChainWork O.test O.good O.block O.model O.ready work.now }
     requires chain { behind.0 < length work.now.parts.now.chains }
     requires pos { above < length (chain_at work.now.parts.now behind.0).cells }
     requires above { above ≡ behind.1 + 1 }
     requires loaded { IsLoaded work.now.parts.now work.now.good.now work.now.block behind.0 behind.1 kind scratch.now }
-    requires len { length notes.old ≡ length (points_of work.now.parts.now) }
-    ensures len { length notes.new ≡ length notes.old }
-    ensures step { IsStepNoted work.now.parts.now work.now.rows.now work.now.block behind.0 behind.1 kind scratch.now notes.old notes.new }
+    requires notes { AreNotes (O.sums work.now.observer.now) (O.model work.now.observer.now).places notes.old }
+    ensures notes { AreNotes (O.sums work.now.observer.now) (O.model work.now.observer.now).places notes.new }
+    ensures step { IsStepNoted work.now.parts.now (O.model work.now.observer.now) work.now.block behind.0 behind.1 kind scratch.now notes.old.rows.items notes.new.rows.items }
 {
     let loaded = Loaded {
         work,
@@ -98,19 +100,19 @@ fn note_step(
 }
 
 /// Takes a walk one position down.
-fn step<L: Ledger>(
-    work: &BlockWork<'_>,
+fn step<O: ChainObserver, L: Ledger>(
+    work: &BlockWork<'_, O>,
     scratch: &mut Scratch,
     behind: (u32, u32),
     above: u32,
     kind: CellKind,
-    notes: &mut Notes,
+    notes: &mut Notes<O::Sum>,
     steps: &mut Steps<L>,
 )
-    requires work { IsSound work.now }
+    requires work { IsChainWork O.test O.good O.block O.model O.ready work.now }
     requires above { above ≡ behind.1 + 1 }
-    requires walk { IsWalkAt work.now.parts.now work.now.good.now work.now.rows.now work.now.block behind.0 (behind.1 + 1) kind scratch.old notes.old }
-    ensures { IsWalkAt work.now.parts.now work.now.good.now work.now.rows.now work.now.block behind.0 behind.1 kind scratch.new notes.new }
+    requires walk { IsWalkAt work.now.parts.now work.now.good.now (O.model work.now.observer.now) (O.sums work.now.observer.now) work.now.block behind.0 (behind.1 + 1) kind scratch.old notes.old }
+    ensures { IsWalkAt work.now.parts.now work.now.good.now (O.model work.now.observer.now) (O.sums work.now.observer.now) work.now.block behind.0 behind.1 kind scratch.new notes.new }
 {
     let _ = work.parts.chains();
     work.good
@@ -120,19 +122,19 @@ fn step<L: Ledger>(
 }
 
 /// Takes a walk down its chain from one position to another.
-fn descend<L: Ledger>(
-    work: &BlockWork<'_>,
+fn descend<O: ChainObserver, L: Ledger>(
+    work: &BlockWork<'_, O>,
     scratch: &mut Scratch,
     from: (u32, u32),
     to: u32,
     kind: CellKind,
-    notes: &mut Notes,
+    notes: &mut Notes<O::Sum>,
     steps: &mut Steps<L>,
 )
-    requires work { IsSound work.now }
+    requires work { IsChainWork O.test O.good O.block O.model O.ready work.now }
     requires to { to ≤ from.1 }
-    requires walk { IsWalkAt work.now.parts.now work.now.good.now work.now.rows.now work.now.block from.0 from.1 kind scratch.old notes.old }
-    ensures { IsWalkAt work.now.parts.now work.now.good.now work.now.rows.now work.now.block from.0 to kind scratch.new notes.new }
+    requires walk { IsWalkAt work.now.parts.now work.now.good.now (O.model work.now.observer.now) (O.sums work.now.observer.now) work.now.block from.0 from.1 kind scratch.old notes.old }
+    ensures { IsWalkAt work.now.parts.now work.now.good.now (O.model work.now.observer.now) (O.sums work.now.observer.now) work.now.block from.0 to kind scratch.new notes.new }
 {
     let mut at = from.1;
     while at > to {
@@ -143,21 +145,21 @@ fn descend<L: Ledger>(
 }
 
 /// Brings a walk to a position: down the chain if it stands there or above, else from a new begin.
-pub(crate) fn reach<L: Ledger>(
-    work: &BlockWork<'_>,
+pub(crate) fn reach<O: ChainObserver, L: Ledger>(
+    work: &BlockWork<'_, O>,
     scratch: &mut Scratch,
     at: Option<(u32, u32)>,
     behind: (u32, u32),
     kind: CellKind,
-    notes: &mut Notes,
+    notes: &mut Notes<O::Sum>,
     steps: &mut Steps<L>,
 ) -> Result<(), NoMemory>
-    requires work { IsSound work.now }
+    requires work { IsChainWork O.test O.good O.block O.model O.ready work.now }
     requires chain { behind.0 < length work.now.parts.now.chains }
     requires pos { behind.1 < length (chain_at work.now.parts.now behind.0).cells }
-    requires walk { IsWalk work.now.parts.now work.now.good.now work.now.rows.now work.now.block kind scratch.old notes.old at }
+    requires walk { IsWalk work.now.parts.now work.now.good.now (O.model work.now.observer.now) (O.sums work.now.observer.now) work.now.block kind scratch.old notes.old at }
     ensures scratch { IsScratchIn work.now.good.now scratch.new }
-    ensures walk { OnOk result (IsWalkAt work.now.parts.now work.now.good.now work.now.rows.now work.now.block behind.0 behind.1 kind scratch.new notes.new) }
+    ensures walk { OnOk result (IsWalkAt work.now.parts.now work.now.good.now (O.model work.now.observer.now) (O.sums work.now.observer.now) work.now.block behind.0 behind.1 kind scratch.new notes.new) }
 {
     if let Some(from) = at {
         if from.0 == behind.0 && from.1 >= behind.1 {

@@ -2,11 +2,11 @@
 use Rattle.std.proofs.Common.{◌≡◌, ◌⊎◌, ℕ, ◌+◌, ◌<◌, List, length, get_or, set, refl, sym, ap, ◌∙◌, inl, inr, arith}
 use Rattle.std.proofs.lemmas.Bool.{cases_eq}
 use Rattle.std.proofs.lemmas.List.{get_or-set_same, get_or-set_other}
-use Rattle.fault_effects.specs.declared.share.BlockCount.{BlockCount}
+use Rattle.match_counts.specs.declared.block_count.BlockCount.{BlockCount}
 use Rattle.fault_effects.specs.declared.share.Share.{Share}
 use Rattle.match_counts.specs.declared.totals.Total.{Total}
-use Rattle.fault_effects.specs.Shares.{no_share, no_count, HasShareBefore}
-use Rattle.match_counts.specs.Totals.{count_at, IsBlankAt, total_at, no_total, plus, IsAtMost, AreTotalsAtMost}
+use Rattle.match_counts.specs.PlaceCounts.{no_count}
+use Rattle.match_counts.specs.Totals.{no_share, HasShareBefore, count_at, IsBlankAt, total_at, no_total, plus, IsAtMost, AreTotalsAtMost}
 
 -- what is true of a suspect stays so
 pub set_keeps : (truth : ℕ → BlockCount) (table : List BlockCount) (q : ℕ) (x : BlockCount) → q < length table → x ≡ truth q → (p : ℕ) → count_at table p ≡ truth p → count_at (set table q x) p ≡ truth p
@@ -19,7 +19,7 @@ pub set_here : (truth : ℕ → BlockCount) (table : List BlockCount) (q : ℕ) 
 set_here truth table q x inside right = get_or-set_same table q x no_count inside ∙ right
 
 -- a share more, and a suspect is among those of the shares or is as it was before them
-pub set_elsewhere : (shares : List Share) (i : ℕ) (before table : List BlockCount) (x : BlockCount) → (get_or shares i no_share).suspect < length table → ((p : ℕ) → HasShareBefore shares i p ⊎ (count_at table p ≡ count_at before p))
+pub set_elsewhere : (shares : List (Share BlockCount)) (i : ℕ) (before table : List BlockCount) (x : BlockCount) → (get_or shares i no_share).suspect < length table → ((p : ℕ) → HasShareBefore shares i p ⊎ (count_at table p ≡ count_at before p))
     → (p : ℕ) → HasShareBefore shares (i + 1) p ⊎ (count_at (set table (get_or shares i no_share).suspect x) p ≡ count_at before p)
 set_elsewhere shares i before table x inside each p = elim (each p) [
   | inl has ↦ inl (has.0, omega (arith, has.1), has.2)

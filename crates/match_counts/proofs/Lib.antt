@@ -1,4 +1,12 @@
+pub mod Sums
+pub mod Hits
+pub mod LaneSums
+pub mod FlipSums
+pub mod PinShares
+pub mod TableSums
 mod BitCounting
-mod BlockTables
-mod BlockTotals
-mod CandidateRows
+pub mod BlockTables
+pub mod BlockSums
+pub mod CandidateRows
+mod WholeBlocks
+pub mod PlaceSums

@@ -1,2 +1,9 @@
 pub mod Tally
+pub mod Hits
+pub mod Flips
+pub mod Tables
+pub mod Sides
+pub mod PlaceCounts
+pub mod SameTables
+pub mod PointCounts
 pub mod Totals

@@ -1,20 +1,46 @@
 -- Counts by suspect, added up over blocks.
-use Rattle.std.specs.Prelude.{◌≡◌, ℕ, ◌+◌, ◌<◌, ◌≤◌, List, length, map, filter, sum_by, count_by, slice_index_or}
+use Rattle.std.specs.Prelude.{◌≡◌, ℕ, ◌+◌, ◌*◌, ◌^◌, ◌<◌, ◌≤◌, List, length, All, map, filter, sum_by, count_by, Bool, slice_index_or}
 use Rattle.std.specs.List.{range_with_len}
 use Rattle.scan_model.specs.declared.fault.Fault.{Fault}
+use Rattle.scan_model.specs.declared.fault.Fault.TheVariants as fault
+use Rattle.scan_model.specs.declared.fault.Stuck.TheVariants as stuck
+use Rattle.scan_model.specs.declared.logs.Bit.{Bit}
+use Rattle.scan_model.specs.declared.logs.BitClass.{BitClass}
 use Rattle.scan_model.specs.declared.logs.LogFacts.{LogFacts}
 use Rattle.scan_model.specs.declared.logs.Scored.{Scored}
 use Rattle.scan_model.specs.ScanTest.{ScanTest}
+use Rattle.scan_model.specs.Response.{predicts_fail}
+use Rattle.scan_model.specs.Universe.{universe}
 use Rattle.scan_model.specs.Coverage.{bits_of}
-use Rattle.scan_model.specs.MatchCounts.{counts_of, scored, is_candidate}
-use Rattle.fault_effects.specs.declared.share.BlockCount.{BlockCount}
-use Rattle.match_counts.specs.declared.totals.Total.{Total}
-use Rattle.fault_effects.specs.declared.side.Side.TheVariants.{Failing, Passing}
-use Rattle.fault_effects.specs.PointRows.{counts_on}
+use Rattle.scan_model.specs.Classes.{class, is_failing}
+use Rattle.scan_model.specs.MatchCounts.{counts_by, scored_by, is_candidate}
+use Rattle.fault_effects.specs.declared.point_row.PointRow.{PointRow}
 use Rattle.fault_effects.specs.declared.share.Share.{Share}
+use Rattle.fault_effects.specs.declared.side.Side.TheVariants.{Failing, Passing}
 use Rattle.fault_effects.specs.declared.suspect.Suspect.{Suspect}
-use Rattle.fault_effects.specs.Shares.{predicted_in, fault_of, no_count, HasShare}
-use Rattle.fault_effects.specs.Owners.{owner, suspect_at}
+use Rattle.fault_effects.specs.FaultModel.{FaultModel}
+use Rattle.fault_effects.specs.Owners.{suspect_at}
+use Rattle.fault_effects.specs.Shares.{AreRight, HasShare, suspect_fails}
+use Rattle.match_counts.specs.declared.block_count.BlockCount.{BlockCount}
+use Rattle.match_counts.specs.declared.totals.Total.{Total}
+use Rattle.match_counts.specs.PlaceCounts.{no_count}
+use Rattle.match_counts.specs.Sides.{Classes, hits_in, predicted_in}
+use Rattle.match_counts.specs.Tables.{IsCount}
+
+abbrev pub no_share : Share BlockCount
+no_share = record { suspect = 0; part = no_count }
+
+-- one of the first shares is of suspect i
+abbrev pub HasShareBefore : List (Share BlockCount) → ℕ → ℕ → Type 0
+HasShareBefore shares n i = (k : ℕ) × (k < n) × ((slice_index_or shares k no_share).suspect ≡ i)
+
+-- a share of suspect i is among them
+abbrev pub HasCount : List (Share BlockCount) → ℕ → Type 0
+HasCount shares i = HasShareBefore shares (length shares) i
+
+-- each share is what the truth says of its suspect
+abbrev pub AreCounts : (ℕ → BlockCount) → List (Share BlockCount) → Type 0
+AreCounts truth shares = All (λ s. s.part ≡ truth s.suspect) shares
 
 abbrev pub count_at : List BlockCount → ℕ → BlockCount
 count_at table i = slice_index_or table i no_count
@@ -44,33 +70,63 @@ abbrev pub AreTotalsAtMost : ℕ → List Total → Type 0
 AreTotalsAtMost n totals = (i : ℕ) → IsAtMost n (total_at totals i)
 
 -- what a fault explains and mispredicts in the first blocks
-abbrev pub sum_of : ScanTest → List LogFacts → ℕ → Fault → Total
-sum_of t logs blocks f = record {
-  tfsf = sum_by (predicted_in t logs Failing f) (range_with_len 0 blocks);
-  tpsf = sum_by (predicted_in t logs Passing f) (range_with_len 0 blocks);
+abbrev pub sum_of : FaultModel → Classes → ℕ → Fault → Total
+sum_of m on blocks f = record {
+  tfsf = sum_by (predicted_in m on Failing f) (range_with_len 0 blocks);
+  tpsf = sum_by (predicted_in m on Passing f) (range_with_len 0 blocks);
 }
 
 -- the truth is added for each suspect that has a share
-abbrev pub IsAdded : (ℕ → BlockCount) → List Share → List Total → List Total → Type 0
-IsAdded truth shares old new = (i : ℕ) → HasShare shares i → total_at new i ≡ plus (total_at old i) (truth i)
+abbrev pub IsAdded : (ℕ → BlockCount) → List (Share BlockCount) → List Total → List Total → Type 0
+IsAdded truth shares old new = (i : ℕ) → HasCount shares i → total_at new i ≡ plus (total_at old i) (truth i)
 
--- the totals of the suspects over the first blocks
-abbrev pub AreSums : ScanTest → List LogFacts → List Suspect → ℕ → List Total → Type 0
-AreSums t logs suspects blocks totals = (i : ℕ) → i < length suspects → owner t (suspect_at suspects i).fault < length t.netlist.nets + 3 → total_at totals i ≡ sum_of t logs blocks (suspect_at suspects i).fault
+-- ---- block by block
 
--- what a fault explains and mispredicts
-abbrev pub total_of : ScanTest → List LogFacts → Fault → Total
-total_of t logs f = record { tfsf = (counts_of t logs f).tfsf; tpsf = (counts_of t logs f).tpsf }
+-- so many blocks, the Failing bits that they have, and a total for each suspect
+pub record TotalsSoFar : Type 0 where
+  pub blocks : ℕ
+  pub failing : ℕ
+  pub totals : List Total
 
--- the totals of the suspects that are known, over all blocks
-abbrev pub AreKnown : ScanTest → List LogFacts → List Suspect → (ℕ → Type 0) → List Total → Type 0
-AreKnown t logs suspects known totals = (i : ℕ) → i < length suspects → known i → total_at totals i ≡ total_of t logs (suspect_at suspects i).fault
+-- so many blocks have no more than that, and the table of the next one says nothing
+pub record AreBounded (blocks failing : ℕ) (totals : List Total) (table : List BlockCount) : Type 0 where
+  pub few : failing ≤ blocks * 2 ^ 32
+  pub small : AreTotalsAtMost (blocks * 2 ^ 32) totals
+  pub len : length table ≡ length totals
+  pub blank : IsBlank table
 
--- the totals of all suspects, with the number of Failing bits
-pub record AreTotals (t : ScanTest) (logs : List LogFacts) (suspects : List Suspect) (bits : ℕ) (totals : List Total) : Type 0 where
-  pub failing : bits ≡ count_by (counts_on t logs Failing) (bits_of t)
-  pub whole : (i : ℕ) → i < length suspects → total_at totals i ≡ total_of t logs (suspect_at suspects i).fault
+-- each suspect has its share of block b, and all shares are right
+pub record AreBlockShares (m : FaultModel) (b : ℕ) (rows : List PointRow) (suspects : List Suspect) (shares : List (Share BlockCount)) : Type 0 where
+  pub right : AreRight (IsCount rows) (suspect_fails m b suspects) shares
+  pub there : (i : ℕ) → i < length suspects → HasShare shares i
 
--- of the faults at some places, those that explain at least one failing bit, with their counts
+-- the Failing bits of the blocks so far, and what each suspect explains and mispredicts in them
+pub record AreCounted (m : FaultModel) (on : Classes) (suspects : List Suspect) (counts : TotalsSoFar) : Type 0 where
+  pub failing : counts.failing ≡ sum_by (hits_in m (on Failing)) (range_with_len 0 counts.blocks)
+  pub sums : (i : ℕ) → i < length suspects → total_at counts.totals i ≡ sum_of m on counts.blocks (suspect_at suspects i).fault
+
+-- ---- over all bits
+
+-- what a fault explains and mispredicts of some bits
+abbrev pub total_of : List Bit → (Bit → BitClass) → (Fault → Bit → Bool) → Fault → Total
+total_of bits classes fails f = record { tfsf = (counts_by bits classes (fails f)).tfsf; tpsf = (counts_by bits classes (fails f)).tpsf }
+
+-- the same of all suspects, and how many of the bits are Failing
+pub record AreTotals (bits : List Bit) (classes : Bit → BitClass) (fails : Fault → Bit → Bool) (suspects : List Suspect) (counts : TotalsSoFar) : Type 0 where
+  pub failing : counts.failing ≡ count_by (λ b. is_failing (classes b)) bits
+  pub whole : (i : ℕ) → i < length suspects → total_at counts.totals i ≡ total_of bits classes fails (suspect_at suspects i).fault
+
+-- over the bits of a test and the logs of a die
+abbrev pub AreTestTotals : ScanTest → List LogFacts → List Suspect → TotalsSoFar → Type 0
+AreTestTotals t logs suspects counts = AreTotals (bits_of t) (class t logs) (predicts_fail t) suspects counts
+
+abbrev pub fault_in : List Fault → ℕ → Fault
+fault_in faults place = slice_index_or faults place (fault.Stem 0 stuck.Zero)
+
+-- of the faults at some places of a list, those that explain at least one failing bit, with their counts
+abbrev pub candidates_in : List Fault → List Bit → (Bit → BitClass) → (Fault → Bit → Bool) → List ℕ → List Scored
+candidates_in faults bits classes fails places = filter is_candidate (map (λ p. scored_by bits classes fails (p, fault_in faults p)) places)
+
+-- the same of a test's faults, over its bits and the logs of a die
 abbrev pub candidates_at : ScanTest → List LogFacts → List ℕ → List Scored
-candidates_at t logs places = filter is_candidate (map (λ p. scored t logs (p, fault_of t p)) places)
+candidates_at t logs places = candidates_in (universe t) (bits_of t) (class t logs) (predicts_fail t) places

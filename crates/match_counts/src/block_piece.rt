@@ -1,10 +1,12 @@
 //! The shares of all suspects in a block.
-ghost use Rattle.std.specs.Prelude.{◌≡◌, ℕ, ◌+◌, ◌<◌, [], All, Contains, length, IfOk};
-ghost use Rattle.fault_effects.specs.Owners.{Shares, suspect_at};
+ghost use Rattle.std.specs.Prelude.{ℕ, ◌+◌, ◌<◌, [], All, Contains, length, IfOk};
+ghost use Rattle.fault_effects.specs.Owners.{suspect_at};
 ghost use Rattle.fault_effects.specs.Owners as owning;
-ghost use Rattle.fault_effects.specs.SoundWork.{IsSound};
+ghost use Rattle.match_counts.specs.PointCounts.{IsSoundCount, IsChainCount, CountShares};
 
+use crate::block_count::BlockCount;
 use crate::pieces::share_in_pieces;
+use crate::point_counts::PointCounts;
 use fault_effects::{BlockWork, Share, WorkKind};
 use scan_model::{NoMemory, Rows};
 use std::alloc::Global;
@@ -14,13 +16,14 @@ use std::thread::Threads;
 fn logic_shares<R: Threads + Sync>(
     rt: &R,
     alloc: Global,
-    work: &BlockWork<'_>,
+    work: &BlockWork<'_, PointCounts<'_>>,
     nets: &[u32],
-) -> Result<Rows<Share>, NoMemory>
-    requires work { IsSound work.now }
+) -> Result<Rows<Share<BlockCount>>, NoMemory>
+    requires work { IsSoundCount work.now }
+    requires chains { IsChainCount work.now }
     requires nets { All (λ n. n < length work.now.parts.now.netlist.nets) nets.now }
     requires all { (i : ℕ) → i < length work.now.suspects.now → owning.owner work.now.parts.now (suspect_at work.now.suspects.now i).fault < length work.now.parts.now.netlist.nets → Contains nets.now (owning.owner work.now.parts.now (suspect_at work.now.suspects.now i).fault) }
-    ensures { IfOk result (Shares work.now.parts.now work.now.rows.now work.now.block work.now.suspects.now (λ i. owning.owner work.now.parts.now (suspect_at work.now.suspects.now i).fault < length work.now.parts.now.netlist.nets + 2) []) }
+    ensures { IfOk result (CountShares work.now (λ i. owning.owner work.now.parts.now (suspect_at work.now.suspects.now i).fault < length work.now.parts.now.netlist.nets + 2) []) }
 {
     let count = work.parts.circuit().nets().len() as u32;
     let mut shares = Rows::new(alloc);
@@ -36,13 +39,14 @@ fn logic_shares<R: Threads + Sync>(
 pub(crate) fn block_shares<R: Threads + Sync>(
     rt: &R,
     alloc: Global,
-    work: &BlockWork<'_>,
+    work: &BlockWork<'_, PointCounts<'_>>,
     nets: &[u32],
-) -> Result<Rows<Share>, NoMemory>
-    requires work { IsSound work.now }
+) -> Result<Rows<Share<BlockCount>>, NoMemory>
+    requires work { IsSoundCount work.now }
+    requires chains { IsChainCount work.now }
     requires nets { All (λ n. n < length work.now.parts.now.netlist.nets) nets.now }
     requires all { (i : ℕ) → i < length work.now.suspects.now → owning.owner work.now.parts.now (suspect_at work.now.suspects.now i).fault < length work.now.parts.now.netlist.nets → Contains nets.now (owning.owner work.now.parts.now (suspect_at work.now.suspects.now i).fault) }
-    ensures { IfOk result (Shares work.now.parts.now work.now.rows.now work.now.block work.now.suspects.now (λ i. owning.owner work.now.parts.now (suspect_at work.now.suspects.now i).fault < length work.now.parts.now.netlist.nets + 3) []) }
+    ensures { IfOk result (CountShares work.now (λ i. owning.owner work.now.parts.now (suspect_at work.now.suspects.now i).fault < length work.now.parts.now.netlist.nets + 3) []) }
 {
     let count = work.parts.circuit().nets().len() as u32;
     let mut shares = logic_shares(rt, alloc, work, nets)?;

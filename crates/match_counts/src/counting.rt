@@ -1,20 +1,17 @@
 //! Counts of the suspects, block by block.
-ghost use Rattle.std.specs.Prelude.{◌≡◌, ℕ, ◌+◌, ◌<◌, List, All, length, count_by, OnOk, IfOk};
+ghost use Rattle.std.specs.Prelude.{◌≡◌, ◌+◌, List, All, length, IfOk};
 ghost use Rattle.scan_model.specs.declared.logs.LogFacts.{LogFacts};
 ghost use Rattle.scan_model.specs.ScanTest.{points_of};
 ghost use Rattle.scan_model.specs.Response.{expected_rows};
-ghost use Rattle.scan_model.specs.Coverage.{bits_of};
 ghost use Rattle.log_join.specs.Joining.{StandsFor, IsJoinedOf};
 ghost use Rattle.packed_sim.specs.Belongs.{BelongsTo};
-ghost use Rattle.fault_effects.specs.declared.side.Side.TheVariants as side;
-ghost use Rattle.fault_effects.specs.PointRows.{counts_on};
-ghost use Rattle.fault_effects.specs.Owners.{IsSuspectOf, AreOwners, suspect_at};
-ghost use Rattle.fault_effects.specs.Owners as owning;
-ghost use Rattle.match_counts.specs.Totals.{total_at, no_total, AreKnown};
+ghost use Rattle.fault_effects.specs.Owners.{IsSuspectOf, AreOwners};
+ghost use Rattle.match_counts.specs.Totals.{AreTestTotals};
 
 use crate::block_piece::block_shares;
-use crate::totals::{Total, add_shares, blank_table};
-use fault_effects::{BlockWork, Suspect, failing_count, owned_nets, reads_of, rows_of_points};
+use crate::block_totals::BlockTotals;
+use crate::point_counts::PointCounts;
+use fault_effects::{BlockWork, Suspect, owned_nets, reads_of, rows_of_points};
 use lane_rows::Groups;
 use log_join::Joined;
 use packed_sim::PackedGood;
@@ -22,7 +19,7 @@ use scan_model::{Expected, NoMemory, Parts};
 use std::alloc::Global;
 use std::thread::Threads;
 
-/// Adds up, block by block, what the suspects explain and mispredict. The answer is the number of Failing bits.
+/// Adds up, block by block, what the suspects explain and mispredict.
 pub(crate) fn count_blocks<R: Threads + Sync>(
     rt: &R,
     alloc: Global,
@@ -32,38 +29,40 @@ pub(crate) fn count_blocks<R: Threads + Sync>(
     joined: &Joined,
     suspects: &[Suspect],
     owners: &Groups,
-    totals: &mut [Total],
-) -> Result<u64, NoMemory>
+) -> Result<BlockTotals, NoMemory>
     requires good { BelongsTo parts.now good.now }
     requires expected { expected.now ≡ expected_rows parts.now }
     requires joined { IsJoinedOf (length parts.now.patterns) (length (points_of parts.now)) joined.now }
     requires suspects { All (IsSuspectOf parts.now) suspects.now }
     requires count { length owners.now ≡ length parts.now.netlist.nets + 3 }
     requires owners { AreOwners parts.now suspects.now owners.now }
-    requires totals { length totals.old ≡ length suspects.now }
-    requires blank { (i : ℕ) → total_at totals.old i ≡ no_total }
-    ensures failing { (logs : List LogFacts) → StandsFor logs joined.now → IfOk result (λ failing. failing ≡ count_by (counts_on parts.now logs side.Failing) (bits_of parts.now)) }
-    ensures known { (logs : List LogFacts) → StandsFor logs joined.now → OnOk result (AreKnown parts.now logs suspects.now (λ i. owning.owner parts.now (suspect_at suspects.now i).fault < length parts.now.netlist.nets + 3) totals.new) }
+    ensures len { IfOk result (λ totals. length totals.totals ≡ length suspects.now) }
+    ensures whole { (logs : List LogFacts) → StandsFor logs joined.now → IfOk result (AreTestTotals parts.now logs suspects.now) }
 {
     let _ = parts.points();
+    let _ = parts.circuit().order();
     let reads = reads_of(alloc, parts)?;
     let nets = owned_nets(alloc, parts, &reads, owners)?;
-    let mut table = blank_table(alloc, totals.len())?;
-    let mut failing = 0u64;
+    let mut totals = BlockTotals::make(alloc, suspects.len())?;
     for block in 0..good.blocks().len() {
         let rows = rows_of_points(alloc, parts, joined, expected, block as u32)?;
-        let work = BlockWork {
+        let observer = PointCounts {
             parts,
             good,
             block,
             rows: rows.as_slice(),
+        };
+        let work = BlockWork {
+            parts,
+            good,
+            block,
+            observer: &observer,
             reads: &reads,
             suspects,
             owners,
         };
         let shares = block_shares(rt, alloc, &work, &nets)?;
-        add_shares(totals, &mut table, shares.as_slice());
-        failing += u64::from(failing_count(rows.as_slice()));
+        totals.add_block(rows.as_slice(), shares.as_slice());
     }
-    Ok(failing)
+    Ok(totals)
 }

@@ -1,11 +1,11 @@
 //! A list of work, cut into pieces that are done at the same time.
-ghost use Rattle.std.specs.Prelude.{◌≡◌, ◌+◌, ◌<◌, ◌≤◌, ◌++◌, [], All, IfOk, OnOk};
+ghost use Rattle.std.specs.Prelude.{◌≡◌, ◌+◌, ◌<◌, ◌++◌, [], All, IfOk, OnOk};
 ghost use Rattle.std.specs.List.{flat_map};
-ghost use Rattle.fault_effects.specs.declared.share.Share.{Share};
-ghost use Rattle.fault_effects.specs.Owners.{Shares};
 ghost use Rattle.fault_effects.specs.Pieces.{IsItem, IsServed};
-ghost use Rattle.fault_effects.specs.SoundWork.{IsSound};
+ghost use Rattle.match_counts.specs.PointCounts.{IsSoundCount, IsChainCount, CountShares};
 
+use crate::block_count::BlockCount;
+use crate::point_counts::PointCounts;
 use fault_effects::{BlockWork, Share, WorkKind, piece_shares};
 use rayon::current_num_threads;
 use rayon::prelude::*;
@@ -37,23 +37,24 @@ fn piece_size<R: Threads>(rt: &R, kind: WorkKind, items: usize) -> usize
 fn pieces<R: Threads + Sync>(
     rt: &R,
     alloc: Global,
-    work: &BlockWork<'_>,
+    work: &BlockWork<'_, PointCounts<'_>>,
     kind: WorkKind,
     items: &[u32],
     size: usize,
-) -> Result<Vec<Rows<Share>>, NoMemory>
-    requires work { IsSound work.now }
+) -> Result<Vec<Rows<Share<BlockCount>>>, NoMemory>
+    requires work { IsSoundCount work.now }
+    requires chains { IsChainCount work.now }
     requires items { All (IsItem work.now.parts.now work.now.suspects.now kind) items.now }
     requires size { 0 < size }
-    ensures { IfOk result (λ all. Shares work.now.parts.now work.now.rows.now work.now.block work.now.suspects.now (IsServed work.now.parts.now work.now.suspects.now kind items.now) [] (flat_map (λ shares. shares) all.items)) }
+    ensures { IfOk result (λ all. CountShares work.now (IsServed work.now.parts.now work.now.suspects.now kind items.now) [] (flat_map (λ shares. shares) all.items)) }
 {
     let all = items
         .par_chunks(size)
         .with_min_len(1)
         .map(
-            |part: &[u32]| -> Result<Rows<Share>, NoMemory>
-                requires { IsSound work.now × All (IsItem work.now.parts.now work.now.suspects.now kind) part.now }
-                ensures { IfOk result (Shares work.entry.now.parts.now work.entry.now.rows.now work.entry.now.block work.entry.now.suspects.now (IsServed work.entry.now.parts.now work.entry.now.suspects.now kind part.entry.now) []) }
+            |part: &[u32]| -> Result<Rows<Share<BlockCount>>, NoMemory>
+                requires { IsSoundCount work.now × IsChainCount work.now × All (IsItem work.now.parts.now work.now.suspects.now kind) part.now }
+                ensures { IfOk result (CountShares work.entry.now (IsServed work.entry.now.parts.now work.entry.now.suspects.now kind part.entry.now) []) }
             { piece_shares(alloc, work, kind, part) },
         )
         .collect::<Result<Vec<_>, NoMemory>>(rt, alloc);
@@ -64,7 +65,7 @@ fn pieces<R: Threads + Sync>(
     }
 }
 
-fn append(shares: &mut Rows<Share>, piece: &[Share]) -> Result<(), NoMemory>
+fn append(shares: &mut Rows<Share<BlockCount>>, piece: &[Share<BlockCount>]) -> Result<(), NoMemory>
     ensures { OnOk result (shares.new ≡ shares.old ++ piece.now) }
 {
     for share in piece {
@@ -73,7 +74,10 @@ fn append(shares: &mut Rows<Share>, piece: &[Share]) -> Result<(), NoMemory>
     Ok(())
 }
 
-fn append_all(shares: &mut Rows<Share>, pieces: &[Rows<Share>]) -> Result<(), NoMemory>
+fn append_all(
+    shares: &mut Rows<Share<BlockCount>>,
+    pieces: &[Rows<Share<BlockCount>>],
+) -> Result<(), NoMemory>
     ensures { OnOk result (shares.new ≡ shares.old ++ flat_map (λ piece. piece) pieces.now) }
 {
     for piece in pieces {
@@ -86,14 +90,15 @@ fn append_all(shares: &mut Rows<Share>, pieces: &[Rows<Share>]) -> Result<(), No
 pub(crate) fn share_in_pieces<R: Threads + Sync>(
     rt: &R,
     alloc: Global,
-    work: &BlockWork<'_>,
+    work: &BlockWork<'_, PointCounts<'_>>,
     kind: WorkKind,
     items: &[u32],
-    shares: &mut Rows<Share>,
+    shares: &mut Rows<Share<BlockCount>>,
 ) -> Result<(), NoMemory>
-    requires work { IsSound work.now }
+    requires work { IsSoundCount work.now }
+    requires chains { IsChainCount work.now }
     requires items { All (IsItem work.now.parts.now work.now.suspects.now kind) items.now }
-    ensures { OnOk result (Shares work.now.parts.now work.now.rows.now work.now.block work.now.suspects.now (IsServed work.now.parts.now work.now.suspects.now kind items.now) shares.old shares.new) }
+    ensures { OnOk result (CountShares work.now (IsServed work.now.parts.now work.now.suspects.now kind items.now) shares.old shares.new) }
 {
     let size = piece_size(rt, kind, items.len());
     let all = pieces(rt, alloc, work, kind, items, size)?;

@@ -1,5 +1,5 @@
 //! The counts of all faults that can explain a Failing bit.
-ghost use Rattle.std.specs.Prelude.{◌≡◌, ℕ, ◌+◌, ◌^◌, ◌<◌, ◌≤◌, List, All, length, IfOk};
+ghost use Rattle.std.specs.Prelude.{◌≡◌, ◌+◌, ◌^◌, ◌<◌, ◌≤◌, List, All, length, IfOk};
 ghost use Rattle.scan_model.specs.declared.logs.LogFacts.{LogFacts};
 ghost use Rattle.scan_model.specs.ScanTest.{points_of};
 ghost use Rattle.scan_model.specs.Response.{expected_rows};
@@ -8,11 +8,10 @@ ghost use Rattle.scan_model.specs.MatchCounts.{candidates};
 ghost use Rattle.log_join.specs.Joining.{StandsFor, IsJoinedOf};
 ghost use Rattle.packed_sim.specs.Belongs.{BelongsTo};
 ghost use Rattle.fault_effects.specs.Owners.{IsSuspectOf, AreOwners, places_of};
-ghost use Rattle.match_counts.specs.Totals.{total_at, no_total, candidates_at};
+ghost use Rattle.match_counts.specs.Totals.{candidates_at};
 
 use crate::counting::count_blocks;
 use crate::listing::list_candidates;
-use crate::totals::{Total, blank_totals};
 use back_trace::suspects_over;
 use fault_effects::{Suspect, owners_of, suspects_at};
 use fault_universe::universe_len;
@@ -35,7 +34,7 @@ fn few_places<'a>(parts: &Parts, places: &'a [u32]) -> &'a [u32]
     }
 }
 
-/// Counts the suspects over blank totals, and lists those that explain a Failing bit.
+/// Counts the suspects, and lists those that explain a Failing bit.
 fn counts_over<R: Threads + Sync>(
     rt: &R,
     alloc: Global,
@@ -45,7 +44,6 @@ fn counts_over<R: Threads + Sync>(
     joined: &Joined,
     suspects: &[Suspect],
     owners: &Groups,
-    totals: &mut [Total],
 ) -> Result<Rows<Scored>, NoMemory>
     requires good { BelongsTo parts.now good.now }
     requires expected { expected.now ≡ expected_rows parts.now }
@@ -53,15 +51,11 @@ fn counts_over<R: Threads + Sync>(
     requires suspects { All (IsSuspectOf parts.now) suspects.now }
     requires count { length owners.now ≡ length parts.now.netlist.nets + 3 }
     requires owners { AreOwners parts.now suspects.now owners.now }
-    requires totals { length totals.old ≡ length suspects.now }
-    requires blank { (i : ℕ) → total_at totals.old i ≡ no_total }
     ensures { (logs : List LogFacts) → StandsFor logs joined.now → IfOk result (λ rows. rows ≡ candidates_at parts.now logs (places_of suspects.now)) }
 {
     let _ = parts.circuit();
-    let failing = count_blocks(
-        rt, alloc, parts, good, expected, joined, suspects, owners, totals,
-    )?;
-    list_candidates(alloc, suspects, totals, failing)
+    let totals = count_blocks(rt, alloc, parts, good, expected, joined, suspects, owners)?;
+    list_candidates(alloc, suspects, &totals)
 }
 
 /// The faults that explain at least one failing bit, with their counts, in the order of their places. Suspects alone are
@@ -83,7 +77,6 @@ pub fn counts<R: Threads + Sync>(
     let places = few_places(parts, traced.as_slice());
     let suspects = suspects_at(alloc, parts, places)?;
     let owners = owners_of(alloc, parts, suspects.as_slice())?;
-    let mut totals = blank_totals(alloc, suspects.len())?;
     counts_over(
         rt,
         alloc,
@@ -93,6 +86,5 @@ pub fn counts<R: Threads + Sync>(
         joined,
         suspects.as_slice(),
         &owners,
-        &mut totals,
     )
 }

@@ -1,29 +1,28 @@
 //! Sums of shares by suspect over the blocks.
-ghost use Rattle.std.specs.Prelude.{◌≡◌, ℕ, ◌+◌, ◌^◌, ◌⊎◌, ◌<◌, length, All, slice_index_or, IfOk};
-ghost use Rattle.fault_effects.specs.declared.share.BlockCount.{BlockCount};
-ghost use Rattle.fault_effects.specs.Shares.{AreRight, HasShare, no_share};
+ghost use Rattle.std.specs.Prelude.{◌≡◌, ℕ, ◌+◌, ◌^◌, ◌⊎◌, ◌<◌, length, All, slice_index_or};
+ghost use Rattle.match_counts.specs.declared.block_count.BlockCount.{BlockCount};
+ghost use Rattle.match_counts.specs.Totals.{AreCounts, HasCount, no_share};
 ghost use Rattle.match_counts.specs.Totals as sums;
 
-use fault_effects::{BlockCount, Share};
-use scan_model::NoMemory;
-use std::alloc::Global;
+use crate::block_count::BlockCount;
+use fault_effects::Share;
 
 /// What a fault explains and mispredicts in the blocks so far.
 #[derive(Clone, Copy, Debug)]
-pub(crate) struct Total {
+pub struct Total {
     pub tfsf: u64,
     pub tpsf: u64,
 }
 
 /// Puts shares of one block into a table of its counts by suspect.
-fn set_shares(table: &mut [BlockCount], shares: &[Share])
+fn set_shares(table: &mut [BlockCount], shares: &[Share<BlockCount>])
     requires { All (λ s. s.suspect < length table.old) shares.now }
-    ensures put { (truth : ℕ → BlockCount) → AreRight truth shares.now → (k : ℕ) → k < length shares.now
+    ensures put { (truth : ℕ → BlockCount) → AreCounts truth shares.now → (k : ℕ) → k < length shares.now
         → sums.count_at table.new (slice_index_or shares.now k no_share).suspect ≡ truth (slice_index_or shares.now k no_share).suspect }
-    ensures elsewhere { (i : ℕ) → HasShare shares.now i ⊎ (sums.count_at table.new i ≡ sums.count_at table.old i) }
+    ensures elsewhere { (i : ℕ) → HasCount shares.now i ⊎ (sums.count_at table.new i ≡ sums.count_at table.old i) }
 {
     for share in shares {
-        table[share.suspect as usize] = share.count;
+        table[share.suspect as usize] = share.part;
     }
 }
 
@@ -41,10 +40,10 @@ fn plus(total: Total, count: BlockCount) -> Total
 
 /// Moves what the table says of the suspects of some shares to the totals. A suspect that comes twice has nothing left
 /// the second time.
-fn take_shares(totals: &mut [Total], table: &mut [BlockCount], shares: &[Share])
+fn take_shares(totals: &mut [Total], table: &mut [BlockCount], shares: &[Share<BlockCount>])
     requires shares { All (λ s. s.suspect < length totals.old) shares.now }
     requires len { length table.old ≡ length totals.old }
-    requires blank { (i : ℕ) → HasShare shares.now i ⊎ sums.IsBlankAt table.old i }
+    requires blank { (i : ℕ) → HasCount shares.now i ⊎ sums.IsBlankAt table.old i }
     requires at_most { sums.AreTotalsAtMost (2 ^ 63) totals.old }
     ensures blank { sums.IsBlank table.new }
     ensures sums { (i : ℕ) → sums.total_at totals.new i ≡ sums.plus (sums.total_at totals.old i) (sums.count_at table.old i) }
@@ -57,30 +56,18 @@ fn take_shares(totals: &mut [Total], table: &mut [BlockCount], shares: &[Share])
     }
 }
 
-/// A table that says nothing of so many suspects.
-pub(crate) fn blank_table(alloc: Global, suspects: usize) -> Result<Vec<BlockCount>, NoMemory>
-    ensures len { IfOk result (λ table. length table.items ≡ suspects) }
-    ensures blank { IfOk result (λ table. sums.IsBlank table.items) }
-{
-    Ok(vec![in alloc; BlockCount { tfsf: 0, tpsf: 0 }; suspects]?)
-}
-
-/// Totals of so many suspects over no block.
-pub(crate) fn blank_totals(alloc: Global, suspects: usize) -> Result<Vec<Total>, NoMemory>
-    ensures len { IfOk result (λ totals. length totals.items ≡ suspects) }
-    ensures blank { IfOk result (λ totals. (i : ℕ) → sums.total_at totals.items i ≡ sums.no_total) }
-{
-    Ok(vec![in alloc; Total { tfsf: 0, tpsf: 0 }; suspects]?)
-}
-
 /// Adds the shares of one block, by way of a blank table. A share that comes twice counts once.
-pub(crate) fn add_shares(totals: &mut [Total], table: &mut [BlockCount], shares: &[Share])
+pub(crate) fn add_shares(
+    totals: &mut [Total],
+    table: &mut [BlockCount],
+    shares: &[Share<BlockCount>],
+)
     requires shares { All (λ s. s.suspect < length totals.old) shares.now }
     requires len { length table.old ≡ length totals.old }
     requires blank { sums.IsBlank table.old }
     requires at_most { sums.AreTotalsAtMost (2 ^ 63) totals.old }
     ensures blank { sums.IsBlank table.new }
-    ensures sums { (truth : ℕ → BlockCount) → AreRight truth shares.now → sums.IsAdded truth shares.now totals.old totals.new }
+    ensures sums { (truth : ℕ → BlockCount) → AreCounts truth shares.now → sums.IsAdded truth shares.now totals.old totals.new }
     ensures at_most { (n : ℕ) → sums.AreTotalsAtMost n totals.old → sums.AreTotalsAtMost (n + 2 ^ 32) totals.new }
 {
     set_shares(table, shares);

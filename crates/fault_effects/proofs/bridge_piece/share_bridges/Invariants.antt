@@ -1,11 +1,10 @@
-use Rattle.packed_sim.specs.Belongs.{IsScratchOf}
 use Rattle.fault_effects.specs.KeptFlips.{IsKeptPair}
-use Rattle.fault_effects.specs.Owners.{Shares, IsAmong}
+use Rattle.fault_effects.specs.Shares.{Shares, IsAmong}
 use Rattle.fault_effects.proofs.bridge_piece.share_bridges.Given as goal
 
 abbrev pub invariant-loop-item : goal.invariant-loop-item
 invariant-loop-item g l = record {
-  scratch : IsScratchOf l.work.good.now l.scratch;
-  kept : IsKeptPair l.work.parts.now l.work.rows.now l.work.block l.kept;
-  shares : Shares l.work.parts.now l.work.rows.now l.work.block l.work.suspects.now (IsAmong l.group l.item-index) l.initial.shares l.shares;
+  scratch : g.O.Observer.clean l.work.observer.now l.scratch;
+  kept : IsKeptPair (g.O.Observer.holds l.work.observer.now) (g.O.Observer.model l.work.observer.now) (g.O.Observer.block l.work.observer.now) l.kept;
+  shares : Shares (g.O.Observer.means l.work.observer.now) (g.O.Observer.model l.work.observer.now) (g.O.Observer.block l.work.observer.now) l.work.suspects.now (IsAmong l.group l.item-index) l.initial.shares l.shares;
 }

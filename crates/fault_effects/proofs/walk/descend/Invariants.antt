@@ -4,7 +4,7 @@ use Rattle.fault_effects.proofs.walk.descend.Given as goal
 
 abbrev pub invariant-loop-at : goal.invariant-loop-at
 invariant-loop-at g l = record {
-  walk : IsWalkAt l.work.parts.now l.work.good.now l.work.rows.now l.work.block l.from.0 l.at l.kind l.scratch l.notes;
+  walk : IsWalkAt l.work.parts.now l.work.good.now (g.O.Observer.model l.work.observer.now) (g.O.ChainObserver.sums l.work.observer.now) l.work.block l.from.0 l.at l.kind l.scratch l.notes;
   above : l.to ≤ l.at;
 }
 

@@ -7,19 +7,20 @@ use Rattle.fault_effects.proofs.WalkNotes.{net_kept, done_kept, renoted_join}
 use Rattle.fault_effects.proofs.walk.note_step.Goals as goal
 
 pub returns-clause-step : goal.returns-clause-step
-returns-clause-step c =
+returns-clause-step g c =
     let t = c.args.work.now.parts.now in
-    let rows = c.args.work.now.rows.now in
+    let m = g.O.Observer.model c.args.work.now.observer.now in
     let b = c.args.work.now.block in
     let h = c.args.behind.0 in
     let f = fault.Cell h c.args.behind.1 c.args.kind in
-    let moved = c.note_moved.new.notes in
-    let mid = c.note_position.new.notes in
-    let new = c.note_position-2.new.notes in
-    let Above : ℕ → Type 0 = λ i. AreFreshAt t rows b f new (observed_net t (Cell h i)) in
+    let old = c.args.notes.now.rows.items in
+    let moved = c.note_moved.new.notes.rows.items in
+    let mid = c.note_position.new.notes.rows.items in
+    let new = c.note_position-2.new.notes.rows.items in
+    let Above : ℕ → Type 0 = λ i. AreFreshAt t m b f new (observed_net t (Cell h i)) in
     record {
-      renoted = renoted_join t rows b f c.args.notes.now mid new (renoted_join t rows b f c.args.notes.now moved mid c.note_moved.ensures.renoted c.note_position.ensures.renoted) c.note_position-2.ensures.renoted;
-      moved = λ n lt is. done_kept t rows b f h mid new c.note_position-2.ensures.renoted n (done_kept t rows b f h moved mid c.note_position.ensures.renoted n (c.note_moved.ensures.done n lt is));
-      here = net_kept t rows b f mid new c.note_position-2.ensures.renoted _ c.note_position.ensures.fresh;
+      renoted = renoted_join m b f old mid new (renoted_join m b f old moved mid c.note_moved.ensures.renoted c.note_position.ensures.renoted) c.note_position-2.ensures.renoted;
+      moved = λ n lt is. done_kept m b f t h mid new c.note_position-2.ensures.renoted n (done_kept m b f t h moved mid c.note_position.ensures.renoted n (c.note_moved.ensures.done n lt is));
+      here = net_kept m b f t mid new c.note_position-2.ensures.renoted _ c.note_position.ensures.fresh;
       above = subst Above c.requires.above c.note_position-2.ensures.fresh;
     }

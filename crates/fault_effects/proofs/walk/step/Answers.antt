@@ -1,4 +1,4 @@
-use Rattle.std.proofs.Common.{◌∙◌, arith}
+use Rattle.std.proofs.Common.{arith}
 use Rattle.fault_effects.proofs.WalkSteps.{unmarked_loaded, all_fresh}
 use Rattle.fault_effects.proofs.walk.step.Goals as goal
 
@@ -16,7 +16,7 @@ returns g c =
       chain = was.chain;
       pos = omega (arith, was.pos);
       loaded = unmarked_loaded t good b h pos K c.load_more.new.scratch c.clear_marks.new.scratch c.clear_marks.ensures.rows c.clear_marks.ensures.waiting c.clear_marks.ensures.room c.load_more.ensures.loaded;
-      len = c.note_step.ensures.len ∙ was.len;
-      fresh = all_fresh t c.chains.ensures.fits good c.requires.work.good b c.args.work.now.block_within h was.chain K pos c.args.scratch.now c.load_more.new.scratch was.loaded c.load_more.ensures.loaded c.load_more.ensures.moved
-          c.args.work.now.rows.now c.args.notes.now c.note_step.new.notes was.fresh noted.renoted noted.moved noted.here noted.above;
+      noted = c.note_step.ensures.notes;
+      fresh = all_fresh t c.chains.ensures.fits good c.requires.work.belongs b c.args.work.now.block_within h was.chain K pos c.args.scratch.now c.load_more.new.scratch was.loaded c.load_more.ensures.loaded c.load_more.ensures.moved
+          (g.O.Observer.model c.args.work.now.observer.now) c.requires.work.chains c.args.notes.now.rows.items c.note_step.new.notes.rows.items was.fresh noted.renoted noted.moved noted.here noted.above;
     }

@@ -1,38 +1,21 @@
-use Rattle.std.proofs.Common.{◌≡◌, ℕ, ◌+◌, ◌<◌, List, [], length, get_or, ap, subst, ◌∙◌, inl, inr, arith}
-use Rattle.std.proofs.lemmas.Bool.{cases_eq}
+use Rattle.std.proofs.Common.{◌≡◌, ℕ, ◌+◌, ◌<◌, List, [], length, get_or, ap, subst, ◌∙◌}
 use Rattle.scan_model.specs.Netlist.{Netlist}
 use Rattle.fault_effects.specs.declared.share.Share.{Share}
-use Rattle.fault_effects.specs.declared.work_kind.WorkKind.TheVariants.{Nets, Pins, Bridges}
-use Rattle.fault_effects.specs.Owners.{owner, Shares, suspect_at}
-use Rattle.fault_effects.specs.Pieces.{IsServed}
-use Rattle.fault_effects.proofs.ShareLists.{shares_join}
-use Rattle.fault_effects.proofs.OwnerGroups.{owned_in}
+use Rattle.fault_effects.specs.Owners.{owner, suspect_at}
+use Rattle.match_counts.specs.declared.block_count.BlockCount.{BlockCount}
+use Rattle.match_counts.specs.PointCounts.{CountShares, model_of, block_of}
+use Rattle.match_counts.specs.Tables.{IsCount}
+use Rattle.match_counts.proofs.WholeBlocks.{logic_joined}
 use Rattle.match_counts.proofs.block_piece.logic_shares.Goals as goal
 
 pub returns : goal.returns
 returns g c =
     let w = c.args.work.now in
-    let t = w.parts.now in
-    let rows = w.rows.now in
-    let b = w.block in
-    let suspects = w.suspects.now in
+    let o = w.observer.now in
     let groups = w.owners.now in
-    let N = length t.netlist.nets in
-    let owner_at : ℕ → ℕ = λ i. owner t (suspect_at suspects i).fault in
-    let none = c.new-shares.result in
-    let Part : List Share → Type 0 = λ old. Shares t rows b suspects (λ i. owner_at i < N + 2) old c.share_in_pieces-3.new.shares in
-    let count : c.len-count.result ≡ N = c.len-count.ensures ∙ ap length (c.nets.ensures.value ∙ ap (λ (n : Netlist). n.nets) c.circuit.ensures.value) in
-    let pins = c.group-pins.result.now in
-    let bridges = c.group-bridges.result.now in
-    let pins_are : pins ≡ get_or groups N [] = c.group-pins.ensures ∙ ap (λ (n : ℕ). get_or groups n []) count in
-    let bridges_are : bridges ≡ get_or groups (N + 1) [] = c.group-bridges.ensures ∙ ap (λ (n : ℕ). get_or groups (n + 1) []) count in
-    let with_pins = shares_join t rows b suspects (IsServed t suspects Nets c.args.nets.now) (IsServed t suspects Pins pins) (λ i. owner_at i < N + 1) none c.share_in_pieces.new.shares c.share_in_pieces-2.new.shares c.in_ok-share_in_pieces.ensures c.in_ok-share_in_pieces-2.ensures
-    (λ i lt below. elim (cases_eq (owner_at i) N) [
-      | inl same ↦ inr (owned_in t suspects groups N pins c.requires.work.owners pins_are i lt same)
-      | inr other ↦ inl (c.requires.all i lt (omega (arith, below, other)))
-    ]) in
-    subst Part c.new-shares.ensures (shares_join t rows b suspects (λ i. owner_at i < N + 1) (IsServed t suspects Bridges bridges) (λ i. owner_at i < N + 2) none c.share_in_pieces-2.new.shares c.share_in_pieces-3.new.shares with_pins c.in_ok-share_in_pieces-3.ensures
-    (λ i lt below. elim (cases_eq (owner_at i) (N + 1)) [
-      | inl same ↦ inr (owned_in t suspects groups (N + 1) bridges c.requires.work.owners bridges_are i lt same)
-      | inr other ↦ inl (omega (arith, below, other))
-    ]))
+    let count : c.len-count.result ≡ length w.parts.now.netlist.nets = c.len-count.ensures ∙ ap length (c.nets.ensures.value ∙ ap (λ (n : Netlist). n.nets) c.circuit.ensures.value) in
+    let From : List (Share BlockCount) → Type 0 = λ old. CountShares w (λ i. owner w.parts.now (suspect_at w.suspects.now i).fault < length w.parts.now.netlist.nets + 2) old c.share_in_pieces-3.new.shares in
+    subst From c.new-shares.ensures (logic_joined (IsCount o.rows.now) (model_of o) (block_of o) w.parts.now w.suspects.now groups c.requires.work.owners
+    c.args.nets.now c.group-pins.result.now c.group-bridges.result.now c.new-shares.result c.share_in_pieces.new.shares c.share_in_pieces-2.new.shares c.share_in_pieces-3.new.shares c.requires.all
+    (c.group-pins.ensures ∙ ap (λ (n : ℕ). get_or groups n []) count) (c.group-bridges.ensures ∙ ap (λ (n : ℕ). get_or groups (n + 1) []) count)
+    c.in_ok-share_in_pieces.ensures c.in_ok-share_in_pieces-2.ensures c.in_ok-share_in_pieces-3.ensures)

@@ -1,16 +1,52 @@
-use Rattle.std.proofs.Common.{◌≡◌, ℕ, ◌+◌, ◌*◌, ◌^◌, ◌<◌, List, [], ◌++◌, length, take, drop, sym, ap, subst, ◌∙◌, arith}
+use Rattle.std.proofs.Common.{ℕ, ◌+◌, ◌<◌, List, [], length, refl, sym, ap, subst, ◌∙◌, arith}
 use Rattle.std.specs.Prelude.{Contains}
-use Rattle.std.proofs.lemmas.List.{take_at}
 use Rattle.std.proofs.lemmas.List.Elements.{All-nil}
+use Rattle.scan_model.specs.Netlist.{Netlist}
+use Rattle.scan_model.specs.Walks.{IsEvaluationOrder}
+use Rattle.scan_model.specs.Universe.{universe}
+use Rattle.scan_model.specs.Response.{predicts_fail}
+use Rattle.scan_model.specs.Classes.{class}
 use Rattle.fault_effects.specs.declared.point_row.PointRow.{PointRow}
 use Rattle.fault_effects.specs.declared.share.Share.{Share}
-use Rattle.fault_effects.specs.declared.side.Side.TheVariants.{Failing}
-use Rattle.fault_effects.specs.PointRows.{counts_on, ArePointRows}
-use Rattle.fault_effects.specs.Shares.{hits_in}
-use Rattle.fault_effects.specs.Owners.{Shares, owner, suspect_at, share_of}
-use Rattle.fault_effects.proofs.Sums.{sum_next}
-use Rattle.match_counts.proofs.BlockTotals.{sums_next, sum_by_block, failing_is, by_blocks, sums_known, AreTotalsAtMost-le}
+use Rattle.fault_effects.specs.FaultModel.{point_model}
+use Rattle.fault_effects.specs.PointRows.{ArePointRows}
+use Rattle.fault_effects.specs.Shares.{Shares}
+use Rattle.fault_effects.specs.Owners.{owner, suspect_at, no_suspect}
+use Rattle.fault_effects.proofs.PointModel.{point_model-logic, point_model-chain, all_in_universe}
+use Rattle.fault_effects.proofs.Owned.{owner_below}
+use Rattle.match_counts.specs.declared.block_count.BlockCount.{BlockCount}
+use Rattle.match_counts.specs.Sides.{classes_by, AreSideRows}
+use Rattle.match_counts.specs.Tables.{IsCount}
+use Rattle.match_counts.specs.Totals.{AreBlockShares}
+use Rattle.match_counts.proofs.BlockSums.{totals_are}
+use Rattle.match_counts.proofs.TableSums.{side_rows}
 use Rattle.match_counts.proofs.counting.count_blocks.Goals as goal
+
+pub block_shares-requires-clause-work : goal.block_shares-requires-clause-work
+block_shares-requires-clause-work g c κs within =
+    let t = c.args.parts.now in
+    let Ordered : Netlist → Type 0 = λ n. IsEvaluationOrder n c.order.result.now in
+    record {
+      test = refl;
+      block = refl;
+      ready = c.requires.good;
+      clean = λ s is. is;
+      faults = universe t;
+      model = point_model-logic t c.circuit.ensures.fits c.order.result.now (subst Ordered c.circuit.ensures.value c.order.ensures);
+      among = all_in_universe t c.args.suspects.now c.requires.suspects;
+      suspects = c.requires.suspects;
+      owners = c.requires.owners;
+    }
+
+pub block_shares-requires-clause-chains : goal.block_shares-requires-clause-chains
+block_shares-requires-clause-chains g c κs within = record {
+  test = refl;
+  good = refl;
+  block = refl;
+  ready = c.requires.good;
+  belongs = c.requires.good;
+  chains = point_model-chain c.args.parts.now c.circuit.ensures.fits;
+}
 
 pub block_shares-requires-clause-all : goal.block_shares-requires-clause-all
 block_shares-requires-clause-all g c κs within = λ i lt below.
@@ -22,41 +58,34 @@ block_shares-requires-clause-all g c κs within = λ i lt below.
 pub loop-block-preserved : goal.loop-block-preserved
 loop-block-preserved g c =
     let t = c.args.parts.now in
+    let m = point_model t in
     let b = c.loop-block.block in
     let inv = c.loop-block.invariant in
     let suspects = c.args.suspects.now in
-    let rows = c.as_slice.result.now in
-    let shares = c.as_slice-in-loop-block.result.now in
-    let old = c.loop-block.totals in
-    let new = c.add_shares.new.totals in
-    let Part : List Share → Type 0 = λ xs. Shares t rows b suspects (λ i. owner t (suspect_at suspects i).fault < length t.netlist.nets + 3) [] xs in
-    let part = subst Part (sym c.as_slice-in-loop-block.ensures) c.in_ok-shares.ensures in
-    let added = c.add_shares.ensures in
-    let table = c.add_shares.new.table in
-    let whole : take c.loop-block.table.len (table ++ drop (length table) c.loop-block.table.items) ≡ table = take_at table (drop (length table) c.loop-block.table.items) c.loop-block.table.len (c.add_shares.auto.table ∙ c.deref_mut.ensures.len) in
+    let seen = c.as_slice.result.now in
+    let rows = c.as_slice-in-loop-block.result.now in
+    let shares = c.as_slice-in-loop-block-2.result.now in
+    let Known : ℕ → Type 0 = λ i. owner t (suspect_at suspects i).fault < length t.netlist.nets + 3 in
+    let Part : List (Share BlockCount) → Type 0 = λ xs. Shares (IsCount seen) m b suspects Known [] xs in
+    let part : Part shares = subst Part (sym c.as_slice-in-loop-block-2.ensures) c.in_ok-shares.ensures in
+    let given : AreBlockShares m b seen suspects shares = record { right = part.right (All-nil _); there = λ i lt. part.there i lt (owner_below t (suspect_at suspects i).fault c.circuit.ensures.fits (c.requires.suspects i no_suspect lt).site) } in
+    let Of : List PointRow → Type 0 = λ xs. AreBlockShares m b xs suspects shares in
+    let In : ℕ → Type 0 = λ n. AreBlockShares m n rows suspects shares in
     record {
-      len = ap length whole ∙ omega (arith, c.add_shares.auto.table, ap length c.deref_mut.ensures.value, inv.len, c.add_shares.auto.totals);
-      blank = rw whole added.blank;
-      at_most = AreTotalsAtMost-le (b * 2 ^ 32 + 2 ^ 32) ((b + 1) * 2 ^ 32) new (omega arith) (added.at_most (b * 2 ^ 32) inv.at_most);
-      few = omega (arith, inv.few, c.failing_count.type_inv, c.from-failing.ensures);
-      sums = λ logs stands.
+      blocks = c.add_block.ensures.blocks ∙ ap (λ (n : ℕ). n + 1) inv.blocks;
+      len = c.add_block.ensures.len ∙ inv.len;
+      counted = λ logs stands.
+          let on = classes_by (class t logs) in
           let Points : List PointRow → Type 0 = ArePointRows t logs b in
-          let points = subst Points (sym c.as_slice.ensures) (c.in_ok-rows.ensures.rows logs stands) in
-          let right = part.right logs points (All-nil _) in
-          sums_next t logs suspects b old new shares (inv.sums logs stands) (added.sums (share_of t logs b suspects) right)
-          part.there;
-      failing = λ logs stands.
-          let Points : List PointRow → Type 0 = ArePointRows t logs b in
-          let points = subst Points (sym c.as_slice-in-loop-block-2.ensures) (c.in_ok-rows.ensures.rows logs stands) in
-          let h : ℕ → ℕ = hits_in t (counts_on t logs Failing) in
-          sum_next (c.loop-block.failing + c.from-failing.result) c.loop-block.failing _ _ (h b) (ap (λ (n : ℕ). c.loop-block.failing + n) (c.from-failing.ensures ∙ c.failing_count.ensures ∙ failing_is t logs b c.as_slice-in-loop-block-2.result.now points)) (inv.failing logs stands) (sum_by_block h b);
+          let Sided : ℕ → Type 0 = λ n. AreSideRows m on n rows in
+          c.add_block.ensures.counted m on suspects
+          (subst Sided (sym inv.blocks) (side_rows t logs b rows (subst Points (sym c.as_slice-in-loop-block.ensures) (c.in_ok-rows.ensures.rows logs stands))))
+          (subst In (sym inv.blocks) (subst Of (c.as_slice.ensures ∙ sym c.as_slice-in-loop-block.ensures) given))
+          (inv.counted logs stands);
     }
 
-pub returns-clause-failing : goal.returns-clause-failing
-returns-clause-failing g c = λ logs stands.
+pub returns-clause-whole : goal.returns-clause-whole
+returns-clause-whole g c = λ logs stands.
     let t = c.args.parts.now in
-    c.loop-block.invariant.failing logs stands ∙ sym (by_blocks t (counts_on t logs Failing) c.loop-block.block (omega (arith, c.requires.good.rows.count, ap length c.blocks-block-end.ensures)))
-
-pub returns-clause-known : goal.returns-clause-known
-returns-clause-known g c = λ logs stands.
-    sums_known c.args.parts.now logs c.args.suspects.now c.loop-block.block c.loop-block.totals (omega (arith, c.requires.good.rows.count, ap length c.blocks-block-end.ensures)) (c.loop-block.invariant.sums logs stands)
+    totals_are (point_model t) (length t.patterns) (class t logs) (predicts_fail t) c.args.suspects.now c.loop-block.totals (record { exists = λ w. refl; fails = λ f w q. refl })
+    (omega (arith, c.requires.good.rows.count, ap length c.blocks-block-end.ensures, c.loop-block.invariant.blocks)) (c.loop-block.invariant.counted logs stands)

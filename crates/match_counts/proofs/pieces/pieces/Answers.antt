@@ -5,9 +5,12 @@ use Rattle.rayon.specs.Lists.{chunks_of}
 use Rattle.rayon.proofs.ToStd.{slice-AllZip, chunks_of-concat}
 use Rattle.scan_model.specs.declared.rows.NoMemory.{NoMemory}
 use Rattle.fault_effects.specs.declared.share.Share.{Share}
+use Rattle.match_counts.specs.declared.block_count.BlockCount.{BlockCount}
+use Rattle.match_counts.specs.declared.point_counts.PointCounts.{PointCounts}
+use Rattle.match_counts.specs.PointCounts.{CountShares, model_of, block_of}
+use Rattle.match_counts.specs.Tables.{IsCount}
 use Rattle.fault_effects.specs.declared.block_work.BlockWork.{BlockWork}
 use Rattle.fault_effects.specs.declared.work_kind.WorkKind.{WorkKind}
-use Rattle.fault_effects.specs.Owners.{Shares}
 use Rattle.fault_effects.specs.Pieces.{IsItem, IsServed}
 use Rattle.fault_effects.proofs.PieceShares.{each_piece, pieces_joined}
 use Rattle.match_counts.proofs.pieces.pieces.Goals as goal
@@ -21,7 +24,7 @@ collect-all-requires-clause-ready g c κs within =
     let chunks = chunks_of c.args.size c.args.items.now in
     let Items : ℕ → Type 0 = IsItem c.args.work.now.parts.now c.args.work.now.suspects.now c.args.kind in
     let each : All (All Items) chunks = each_piece Items chunks (subst (All Items) (sym (chunks_of-concat c.args.size c.args.items.now c.requires.size)) c.requires.items) in
-    rw (c.map.ensures.f, size, slice, some) (λ k d lt x is. ((c.requires.work, (let Of : List ℕ → Type 0 = All Items in subst Of (sym is) (each k d lt))), λ y p. tt))
+    rw (c.map.ensures.f, size, slice, some) (λ k d lt x is. ((c.requires.work, c.requires.chains, (let Of : List ℕ → Type 0 = All Items in subst Of (sym is) (each k d lt))), λ y p. tt))
 
 pub returns-in-Ok-Ok : goal.returns-in-Ok-Ok
 returns-in-Ok-Ok g c =
@@ -40,11 +43,11 @@ returns-in-Ok-Ok g c =
     let kind = held.2.now in
     let same_work : w ≡ c.args.work.now = ap (λ f. f.1.now) c.map.ensures.f in
     let same_kind : kind ≡ c.args.kind = ap (λ f. f.2.now) c.map.ensures.f in
-    let R : List ℕ → Result (List Share) NoMemory → Type 0 = λ part r. IfOk r (Shares w.parts.now w.rows.now w.block w.suspects.now (IsServed w.parts.now w.suspects.now kind part) []) in
+    let R : List ℕ → Result (List (Share BlockCount)) NoMemory → Type 0 = λ part r. IfOk r (CountShares w (IsServed w.parts.now w.suspects.now kind part) []) in
     let zipped = slice-AllZip chain.0 chunks shown R c.in-Ok-Ok.ensures.0 chain.2 in
     let results = subst (AllZip R chunks) last.1 zipped in
-    let Served : BlockWork → WorkKind → List ℕ → List (List Share) → Type 0 = λ x k list pieces. Shares x.parts.now x.rows.now x.block x.suspects.now (IsServed x.parts.now x.suspects.now k list) [] (flat_map (λ (s : List Share). s) pieces) in
-    let whole : Served w kind items last.0 = subst (λ list. Served w kind list last.0) (chunks_of-concat c.args.size items c.requires.size) (pieces_joined w.parts.now w.rows.now w.block w.suspects.now kind chunks last.0 results) in
+    let Served : BlockWork PointCounts → WorkKind → List ℕ → List (List (Share BlockCount)) → Type 0 = λ x k list pieces. CountShares x (IsServed x.parts.now x.suspects.now k list) [] (flat_map (λ (s : List (Share BlockCount)). s) pieces) in
+    let whole : Served w kind items last.0 = subst (λ list. Served w kind list last.0) (chunks_of-concat c.args.size items c.requires.size) (pieces_joined (IsCount w.observer.now.rows.now) (model_of w.observer.now) (block_of w.observer.now) w.suspects.now w.parts.now kind chunks last.0 results) in
     let of_kind : Served w c.args.kind items last.0 = subst (λ k. Served w k items last.0) same_kind whole in
     let of_work : Served c.args.work.now c.args.kind items last.0 = subst (λ x. Served x c.args.kind items last.0) same_work of_kind in
     subst (Served c.args.work.now c.args.kind items) (sym last.2) of_work

@@ -7,7 +7,7 @@ use Rattle.scan_model.specs.Suspect.{suspects}
 use Rattle.scan_model.specs.Universe.{universe}
 use Rattle.fault_effects.specs.Owners.{places_of}
 use Rattle.match_counts.specs.Totals.{candidates_at}
-use Rattle.match_counts.proofs.BlockTotals.{suspects_few}
+use Rattle.match_counts.proofs.BlockSums.{suspects_few}
 use Rattle.match_counts.proofs.CandidateRows.{suspects_below, suspects_candidates}
 use Rattle.match_counts.proofs.suspect_counts.counts.Goals as goal
 

@@ -1,12 +1,16 @@
-use Rattle.fault_effects.specs.Owners.{suspect_at, no_suspect}
-use Rattle.fault_effects.proofs.Owned.{owner_below}
+use Rattle.std.specs.Prelude.{◌≡◌, Some, slice_get}
+use Rattle.std.proofs.lemmas.List.Elements.{All-weaker}
+use Rattle.scan_model.specs.Universe.{universe}
+use Rattle.scan_model.specs.Response.{predicts_fail}
+use Rattle.scan_model.specs.Coverage.{bits_of}
+use Rattle.scan_model.specs.Classes.{class}
+use Rattle.fault_effects.specs.declared.suspect.Suspect.{Suspect}
+use Rattle.fault_effects.specs.Owners.{IsSuspectOf}
 use Rattle.match_counts.proofs.suspect_counts.counts_over.Goals as goal
 
 pub returns : goal.returns
 returns g c = λ logs stands.
     let t = c.args.parts.now in
-    let suspects = c.args.suspects.now in
-    c.list_candidates.ensures t logs c.requires.suspects (record {
-      failing = c.in_ok-failing.ensures.failing logs stands;
-      whole = λ i lt. c.in_ok-failing.ensures.known logs stands i lt (owner_below t (suspect_at suspects i).fault c.circuit.ensures.fits (c.requires.suspects i no_suspect lt).site);
-    })
+    c.list_candidates.ensures (universe t) (bits_of t) (class t logs) (predicts_fail t)
+    (All-weaker (IsSuspectOf t) (λ (s : Suspect). slice_get (universe t) s.place ≡ Some s.fault) (λ s is. is.at) c.args.suspects.now c.requires.suspects)
+    (c.in_ok-totals.ensures.whole logs stands)

@@ -1,7 +1,6 @@
 use Rattle.std.proofs.Common.{ℕ, ◌^◌, ◌<◌, length, get_or, ap, subst, inl, inr, arith}
 use Rattle.std.proofs.lemmas.Bool.{cases_eq}
-use Rattle.fault_effects.specs.Shares.{no_share}
-use Rattle.match_counts.specs.Totals.{IsBlankAt, IsBlank}
+use Rattle.match_counts.specs.Totals.{no_share, IsBlankAt, IsBlank}
 use Rattle.match_counts.proofs.BlockTables.{none_taken, take_more, take_at_most, all_taken, stays_blank, set_blank}
 use Rattle.match_counts.proofs.totals.take_shares.Goals as goal
 

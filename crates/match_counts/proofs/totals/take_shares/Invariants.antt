@@ -1,6 +1,5 @@
 use Rattle.std.proofs.Common.{ℕ, ◌+◌, ◌<◌, ◌^◌, get_or}
-use Rattle.fault_effects.specs.Shares.{no_share}
-use Rattle.match_counts.specs.Totals.{IsBlankAt, AreTotalsAtMost}
+use Rattle.match_counts.specs.Totals.{no_share, IsBlankAt, AreTotalsAtMost}
 use Rattle.match_counts.proofs.BlockTables.{IsTakenOrNot}
 use Rattle.match_counts.proofs.totals.take_shares.Given as goal
 

@@ -1,0 +1,4 @@
+use Rattle.fault_effects.proofs.piece.logic_piece.Given as goal
+
+abbrev pub ghosts-piece_in : goal.ghosts-piece_in
+ghosts-piece_in g a = record { name = a.blank.name; parts = a.blank.parts }

@@ -1,0 +1,104 @@
+//! The rows of lanes in which a flip shows at Failing and at Passing bits, and what a mask has of them.
+ghost use Rattle.std.specs.Prelude.{◌≡◌, ℕ, ◌+◌, ◌^◌, ◌<◌, ◌&&◌, Bool, All, [], length, sum_by, OnOk};
+ghost use Rattle.lane_rows.specs.Lanes.{lane, count_lanes};
+ghost use Rattle.packed_sim.specs.Belongs.{IsBuiltFor, IsScratchIn};
+ghost use Rattle.fault_effects.specs.declared.side.Side.{Side};
+ghost use Rattle.match_counts.specs.declared.block_count.BlockCount.{BlockCount};
+ghost use Rattle.fault_effects.specs.declared.side.Side.TheVariants as side;
+ghost use Rattle.match_counts.specs.Flips.{tallied, row_on, point_row_at, list_on, IsShown, AreFew, count_on};
+
+use crate::block_count::BlockCount;
+use crate::lane_tally::tally;
+use crate::point_counts::PointCounts;
+use crate::shown::Shown;
+use fault_effects::PointRow;
+use lane_rows::Row;
+use packed_sim::Scratch;
+use scan_model::NoMemory;
+use std::alloc::Global;
+
+/// Adds a row, if it has a lane.
+fn push_some(rows: &mut Vec<Row>, row: Row) -> Result<(), NoMemory>
+    ensures { OnOk result ((m : ℕ → Bool) → tallied rows.new.items m ≡ tallied rows.old.items m + count_lanes (λ j. lane row j && m j)) }
+{
+    if !row.is_empty() {
+        rows.push(row)?;
+    }
+    Ok(())
+}
+
+impl Shown {
+    /// Room for a flip, with nothing kept.
+    pub fn new(alloc: Global) -> Shown
+        ensures fails { result.fails.items ≡ [] }
+        ensures passes { result.passes.items ≡ [] }
+    {
+        Shown {
+            fails: Vec::new(alloc),
+            passes: Vec::new(alloc),
+        }
+    }
+
+    /// Adds what shows at one place, given the lanes in which it differs. The only error is want of memory.
+    pub fn add_point(&mut self, row: &PointRow, caught: Row) -> Result<(), NoMemory>
+        ensures { OnOk result ((side : Side) (m : ℕ → Bool) → tallied (list_on side self.new) m
+            ≡ tallied (list_on side self.old) m + count_lanes (λ j. (lane caught j && lane (row_on side row.now) j) && m j)) }
+    {
+        push_some(&mut self.fails, caught.and(row.failing))?;
+        push_some(&mut self.passes, caught.and(row.passing))?;
+        Ok(())
+    }
+
+    /// Adds what shows at the points of a net.
+    fn add_points(&mut self, rows: &[PointRow], points: &[u32], caught: Row) -> Result<(), NoMemory>
+        requires { All (λ k. k < length rows.now) points.now }
+        ensures { OnOk result ((side : Side) (m : ℕ → Bool) → tallied (list_on side self.new) m
+            ≡ tallied (list_on side self.old) m + sum_by (λ k. count_lanes (λ j. (lane caught j && lane (row_on side (point_row_at rows.now k)) j) && m j)) points.now) }
+    {
+        for point in points {
+            self.add_point(&rows[*point as usize], caught)?;
+        }
+        Ok(())
+    }
+
+    /// Takes what a scratch shows at all points, in place of what was here.
+    pub(crate) fn gather(
+        &mut self,
+        counts: &PointCounts<'_>,
+        scratch: &Scratch,
+    ) -> Result<(), NoMemory>
+        requires built { IsBuiltFor counts.now.parts.now counts.now.good.now }
+        requires scratch { IsScratchIn counts.now.good.now scratch.now }
+        ensures { OnOk result (IsShown counts.now.parts.now counts.now.good.now scratch.now counts.now.block counts.now.rows.now self.new) }
+    {
+        let _ = counts.parts.points();
+        self.fails.clear();
+        self.passes.clear();
+        let capture = counts.good.blocks()[counts.block].capture;
+        let nets = scratch.nets();
+        for net in nets {
+            let caught = counts
+                .good
+                .difference(counts.parts, scratch, counts.block, *net)
+                .and(capture);
+            self.add_points(
+                counts.rows,
+                counts.good.points_of_net(counts.parts, *net),
+                caught,
+            )?;
+        }
+        Ok(())
+    }
+
+    /// What a mask has of them.
+    pub fn count_in(&self, mask: Row) -> BlockCount
+        requires { AreFew self.now }
+        ensures count { result ≡ record { tfsf = tallied (list_on side.Failing self.now) (lane mask); tpsf = tallied (list_on side.Passing self.now) (lane mask) } }
+        ensures few { (side : Side) → count_on side result < 2 ^ 31 }
+    {
+        BlockCount {
+            tfsf: tally(&self.fails, mask),
+            tpsf: tally(&self.passes, mask),
+        }
+    }
+}
