@@ -73,19 +73,9 @@ module _ (t : ScanTest) where
     differ = λ j k. points_differ t j k (Output 0);
   }
 
-module _ (t : ScanTest) (sound : IsScanTest t) (form : LogForm) (names : List (List ℕ)) (lengths : List ℕ) (points : List Point) (design die : List ℕ)
-    (differ : IsDistinct bytes_eq names) (same : length lengths ≡ length names) (few : length names ≤ 256) (are : ArePoints (length t.netlist.outputs) lengths points) (few_points : length points ≤ 131072) where
+module _ (outputs : ℕ) (lengths : List ℕ) (points : List Point) (are : ArePoints outputs lengths points) where
   abbrev blank : List (List ℕ)
   blank = map (λ n. replicate n 0) lengths
-
-  abbrev frame : LogFrame
-  frame = frame_with t form names lengths points design die
-
-  few_outputs : length t.netlist.outputs ≤ 131072
-  few_outputs = elim (cases_lt 0 (length t.netlist.outputs)) [
-    | inl some ↦ omega (arith, (are.outputs_first (length t.netlist.outputs - 1) (omega arith)).0)
-    | inr none ↦ omega arith
-  ]
 
   has_cell : (h i : ℕ) → i < get_or lengths h 0 → HasCell blank h i
   has_cell h i lt =
@@ -95,7 +85,8 @@ module _ (t : ScanTest) (sound : IsScanTest t) (form : LogForm) (names : List (L
         pos = rw (get_or-map (λ (n : ℕ). replicate {A = ℕ} n 0) lengths h 0 [] in_lengths, length-replicate {A = ℕ} (get_or lengths h 0) 0) lt;
       }
 
-  cells_at : (h i : ℕ) → i < get_or lengths h 0 → (place_in (places_in blank 0 points) h i < length points) × (get_or points (place_in (places_in blank 0 points) h i) (Output 0) ≡ Cell h i)
+  -- the place of each cell stands in its row
+  pub cells_at : (h i : ℕ) → i < get_or lengths h 0 → (place_in (places_in blank 0 points) h i < length points) × (get_or points (place_in (places_in blank 0 points) h i) (Output 0) ≡ Cell h i)
   cells_at h i lt =
       let at = are.cells h i lt in
       let here : get_or points at.0 (Output 0) ≡ Cell h i = get_or_default points at.0 (Output 0) (Cell h i) at.1 ∙ at.2 in
@@ -103,17 +94,28 @@ module _ (t : ScanTest) (sound : IsScanTest t) (form : LogForm) (names : List (L
       let place : place_in (places_in blank 0 points) h i ≡ at.0 = place_is points blank 0 h i at.0 (has_cell h i lt) at.1 here are.differ ∙ sum in
       rw place (at.1, here)
 
+module _ (t : ScanTest) (sound : IsScanTest t) (form : LogForm) (names : List (List ℕ)) (lengths : List ℕ) (points : List Point) (design die : List ℕ)
+    (differ : IsDistinct bytes_eq names) (same : length lengths ≡ length names) (few : length names ≤ 256) (are : ArePoints (length t.netlist.outputs) lengths points) (few_points : length points ≤ 131072) where
+  abbrev frame : LogFrame
+  frame = frame_with t form names lengths points design die
+
+  few_outputs : length t.netlist.outputs ≤ 131072
+  few_outputs = elim (cases_lt 0 (length t.netlist.outputs)) [
+    | inl some ↦ omega (arith, (are.outputs_first (length t.netlist.outputs - 1) (omega arith)).0)
+    | inr none ↦ omega arith
+  ]
+
   point_in_frame : (s : Point) → IsPointOf (length t.netlist.outputs) (length lengths) s → IsPointIn frame s
   point_in_frame (Output k) is = omega (arith, length-map t.netlist.outputs (name_of t), is)
   point_in_frame (Cell h i) is = omega (arith, same, is)
 
-  pub frame_is_sound : IsFrame frame (places_in blank 0 points)
+  pub frame_is_sound : IsFrame frame (places_in (map (λ n. replicate n 0) lengths) 0 points)
   frame_is_sound = record {
     outputs_differ = outputs_apart t sound;
     chains_differ = differ;
     lengths = same;
     outputs = λ k lt. are.outputs_first k (omega (arith, length-map t.netlist.outputs (name_of t)));
-    cells = cells_at;
+    cells = cells_at (length t.netlist.outputs) lengths points are;
     points = All-weaker (IsPointOf (length t.netlist.outputs) (length lengths)) (IsPointIn frame) point_in_frame points are.within;
     points_differ = are.differ;
     few_outputs = omega (arith, length-map t.netlist.outputs (name_of t), few_outputs);

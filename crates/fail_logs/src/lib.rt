@@ -15,4 +15,4 @@ mod tested;
 
 pub use frame::Frame;
 pub use reading::{read_framed, read_log};
-pub use tables::chain_names;
+pub use tables::{cell_places, chain_names};

@@ -12,3 +12,4 @@ pub mod CellPlaces
 pub mod Loading
 pub mod ChainBits
 pub mod Taken
+pub mod Changes

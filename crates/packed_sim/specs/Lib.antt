@@ -3,3 +3,4 @@ pub mod Spread
 pub mod Belongs
 pub mod Ways
 pub mod Loaded
+pub mod Changes

@@ -3,7 +3,7 @@ ghost use Rattle.std.specs.Int.{bit_at};
 ghost use Rattle.scan_model.specs.declared.fault.Fault.TheVariants as fault;
 ghost use Rattle.scan_model.specs.declared.parts.Point.TheVariants as point;
 ghost use Rattle.scan_model.specs.Values.{are_opposite};
-ghost use Rattle.scan_model.specs.ScanTest.{chain_at, points_of};
+ghost use Rattle.scan_model.specs.ScanTest.{chain_at, points_of, IsPoint};
 ghost use Rattle.scan_model.specs.Coverage.{bit_of};
 ghost use Rattle.scan_model.specs.Response.{observed, predicts_fail};
 ghost use Rattle.scan_model.specs.Universe.{universe};
@@ -13,13 +13,14 @@ ghost use Rattle.lane_rows.specs.Planes.{held};
 ghost use Rattle.lane_rows.specs.GoodRows.{pattern_of};
 ghost use Rattle.packed_sim.specs.Belongs.{BelongsTo, IsScratchIn, IsScratchOf, block_at, cone_gates, AreFails};
 ghost use Rattle.packed_sim.specs.Loaded.{IsLoaded};
+ghost use Rattle.packed_sim.specs.Changes.{IsSameShown, IsShownChange};
 
 use crate::chains::cell_at;
 use crate::good::PackedGood;
-use crate::made::{data_net, point_of};
+use crate::made::{data_net, net_of_point, point_of};
 use crate::scratch::Scratch;
 use lane_rows::{Packed, Row};
-use scan_model::{CellKind, Parts, Point, Steps};
+use scan_model::{CellKind, Parts, Point, Steps, Tri};
 use std::sync::ledger::Ledger;
 
 impl PackedGood {
@@ -32,7 +33,7 @@ impl PackedGood {
     }
 
     /// The lanes of a block that are patterns.
-    fn patterns(&self, parts: &Parts, block: usize) -> Row
+    pub fn patterns(&self, parts: &Parts, block: usize) -> Row
         requires good { BelongsTo parts.now self.now }
         requires block { block < length self.now.rows }
         ensures { (j : ℕ) → j < 512 → lane result j ≡ nat_lt (pattern_of block j) (length parts.now.patterns) }
@@ -44,7 +45,7 @@ impl PackedGood {
     }
 
     /// What a position of a chain shows without a fault.
-    fn expected_row(&self, parts: &Parts, block: usize, chain: u32, at: u32) -> Packed
+    pub fn expected_row(&self, parts: &Parts, block: usize, chain: u32, at: u32) -> Packed
         requires good { BelongsTo parts.now self.now }
         requires block { block < length self.now.rows }
         requires chain { chain < length parts.now.chains }
@@ -111,6 +112,45 @@ impl PackedGood {
                 let differs = self.difference(parts, scratch, block, net);
                 let capture = self.capture(block);
                 capture.and(differs)
+            }
+        }
+    }
+
+    /// How what a point shows under a fault of a shift path differs from what it shows without one: the XOR of the two, over
+    /// the chain loaded as under the fault. None where they are the same.
+    pub fn shown_change(
+        &self,
+        parts: &Parts,
+        scratch: &Scratch,
+        block: usize,
+        behind: (u32, u32),
+        kind: CellKind,
+        point: Point,
+    ) -> Option<Packed>
+        requires good { BelongsTo parts.now self.now }
+        requires block { block < length self.now.rows }
+        requires chain { behind.0 < length parts.now.chains }
+        requires loaded { IsLoaded parts.now self.now block behind.0 behind.1 kind scratch.now }
+        requires point { IsPoint parts.now point }
+        ensures { MatchOption result (IsSameShown parts.now block (fault.Cell behind.0 behind.1 kind) point) (IsShownChange parts.now block (fault.Cell behind.0 behind.1 kind) point) }
+    {
+        let _ = parts.chains();
+        match position_in(point, behind.0) {
+            Some(at) => {
+                let expected = self.expected_row(parts, block, behind.0, at);
+                let shown = self.shown(parts, scratch, block, behind, kind, at);
+                Some(expected.xor(shown))
+            }
+            None => {
+                let net = net_of_point(parts, point);
+                match self.change(parts, scratch, block, net) {
+                    Some(change) => {
+                        let capture = self.capture(block);
+                        let still = Packed::all(Tri::Zero);
+                        Some(Packed::pick(capture, change, still))
+                    }
+                    None => None,
+                }
             }
         }
     }

@@ -21,7 +21,8 @@ use lane_rows::Packed;
 use scan_model::{BridgeKind, Driver, Fault, GateKind, Parts, PinPlace, Point, Steps, Stuck, Tri};
 use std::sync::ledger::Ledger;
 
-fn stuck_at(value: Stuck) -> Tri
+/// The value at which a net or a pin is stuck.
+pub fn stuck_at(value: Stuck) -> Tri
     ensures { result ≡ stuck_value value }
 {
     match value {
@@ -51,7 +52,7 @@ fn is_output_of(output: u32, point: Point) -> bool
 }
 
 /// Whether a pin is the one that a point sees.
-fn is_pin_of(parts: &Parts, pin: u32, point: Point) -> bool
+pub fn is_pin_of(parts: &Parts, pin: u32, point: Point) -> bool
     requires pin { pin < length parts.now.netlist.pins }
     requires point { IsPoint parts.now point }
     ensures { result ≡ place_is_point parts.now (pin_at parts.now.netlist pin).place point }

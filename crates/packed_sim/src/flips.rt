@@ -1,10 +1,10 @@
-ghost use Rattle.std.specs.Prelude.{◌≡◌, ℕ, ◌+◌, ◌<◌, ◌≤◌, [], ◌∷◌, ◌&&◌, ◌↔◌, true, Contains, IsTrue, nat_eq, length, slice_index_or};
+ghost use Rattle.std.specs.Prelude.{◌≡◌, ℕ, ◌+◌, ◌<◌, ◌≤◌, [], ◌∷◌, ◌&&◌, ◌↔◌, true, Contains, IsTrue, MatchOption, nat_eq, length, slice_index_or};
 ghost use Rattle.std.specs.List.{IsDistinct};
-ghost use Rattle.scan_model.specs.Values.{are_opposite};
+ghost use Rattle.scan_model.specs.Values.{are_opposite, tri_xor};
 ghost use Rattle.scan_model.specs.ScanTest.{points_of};
 ghost use Rattle.scan_model.specs.NetValue.{values_of, source_of};
 ghost use Rattle.scan_model.specs.Force.{force, force_taken};
-ghost use Rattle.scan_model.specs.Masks.{flip_shows_from, flip_shows};
+ghost use Rattle.scan_model.specs.Masks.{flipped, flip_shows_from, flip_shows};
 ghost use Rattle.scan_model.proofs.counting.OneSite.{force_two};
 ghost use Rattle.lane_rows.specs.Lanes.{lane};
 ghost use Rattle.lane_rows.specs.Planes.{held};
@@ -154,6 +154,8 @@ impl PackedGood {
             → are_opposite (good_at self.now block j (observed_at parts.now k)) (now_at self.now scratch.new block j (observed_at parts.now k)) ≡ (lane lanes j && flip_shows_from parts.now.netlist (σ.source (pattern_of block j)) net (observed_at parts.now k)) }
         ensures shows { BelongsTo parts.now self.now → (k j : ℕ) → k < length (points_of parts.now) → j < 512 → captures parts.now (pattern_of block j) ≡ true
             → are_opposite (good_at self.now block j (observed_at parts.now k)) (now_at self.now scratch.new block j (observed_at parts.now k)) ≡ (lane lanes j && flip_shows parts.now (pattern_of block j) net k) }
+        ensures values { BelongsTo parts.now self.now → (k j : ℕ) → k < length (points_of parts.now) → j < 512 → captures parts.now (pattern_of block j) ≡ true → lane lanes j ≡ true
+            → now_at self.now scratch.new block j (observed_at parts.now k) ≡ flipped parts.now (pattern_of block j) net (observed_at parts.now k) }
         ensures steps { steps.new ≤ steps.old + length (gates_behind parts.now (net ∷ [])) }
     {
         let _ = parts.circuit();
@@ -183,6 +185,24 @@ impl PackedGood {
     {
         let _ = parts;
         scratch.opposite(self.values(block), net)
+    }
+
+    /// The XOR of the fault-free row of a net and the one that it has now, if it has one of its own.
+    pub fn change(&self, parts: &Parts, scratch: &Scratch, block: usize, net: u32) -> Option<Packed>
+        requires built { IsBuiltFor parts.now self.now }
+        requires scratch { IsScratchIn self.now scratch.now }
+        requires block { block < length self.now.rows }
+        requires net { net < length parts.now.netlist.nets }
+        ensures { MatchOption result ((j : ℕ) → now_at self.now scratch.now block j net ≡ good_at self.now block j net)
+            (λ row. (j : ℕ) → j < 512 → held row j ≡ tri_xor (good_at self.now block j net) (now_at self.now scratch.now block j net)) }
+    {
+        match scratch.overlay.own(net) {
+            Some(now) => {
+                let good = self.row_of(parts, block, net);
+                Some(good.xor(now))
+            }
+            None => None,
+        }
     }
 
     /// Takes all changes out.

@@ -54,10 +54,12 @@ pub fn data_net(circuit: &Circuit, cell: u32) -> u32
 }
 
 /// The net that a point observes.
-fn net_of_point(parts: &Parts, point: Point) -> u32
+pub fn net_of_point(parts: &Parts, point: Point) -> u32
     requires { IsPoint parts.now point }
-    ensures { result ≡ suspect.observed_net parts.now point }
+    ensures value { result ≡ suspect.observed_net parts.now point }
+    ensures in_range { result < length parts.now.netlist.nets }
 {
+    let _ = parts.chains();
     match point {
         Point::Output { place } => parts.circuit().outputs().as_slice()[place as usize],
         Point::Cell { chain, pos } => data_net(parts.circuit(), cell_net(parts, chain, pos)),

@@ -67,6 +67,19 @@ impl Overlay {
         }
     }
 
+    /// The row of its own that a net has, if any.
+    pub fn own(&self, net: u32) -> Option<Packed>
+        requires { net < length self.now }
+        ensures { result ≡ slice_index_or self.now net None }
+    {
+        let slot = self.slots[net as usize];
+        if slot == 0 {
+            None
+        } else {
+            Some(self.rows[slot as usize - 1])
+        }
+    }
+
     /// The nets that have a row of their own.
     pub fn nets(&self) -> &[u32]
         ensures all { (n : ℕ) → Contains result.now n ↔ (slice_index_or self.now n None ≢ None) }
