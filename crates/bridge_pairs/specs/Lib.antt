@@ -3,3 +3,4 @@ pub mod PairSets
 pub mod FieldViews
 pub mod NamedNets
 pub mod Ranks
+pub mod PairRows

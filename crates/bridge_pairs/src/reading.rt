@@ -50,7 +50,7 @@ pub fn read_pairs_named(
 }
 
 /// The pairs that a list of neighbouring nets names, feedback pairs apart, or its first fault: the number of a record,
-/// counted from 1 with the header, and one of the rules 31 to 34. 64 pairs take one sweep over the gates that stand
+/// counted from 1 with the header, and one of the rules 31 to 34. 512 pairs take one sweep over the gates that stand
 /// between their nets in the order of evaluation.
 pub fn read_pairs(alloc: Global, circuit: &Circuit, bytes: &[u8]) -> Result<Pairs, ReadFault>
     ensures reading { Gives (λ pairs. pairs) result (pairs_reading circuit.now bytes.now) }

@@ -1,64 +1,75 @@
-ghost use Rattle.std.specs.Prelude.{◌≡◌, ◌<◌, ◌≤◌, ◌==◌, [], ◌∷◌, ◌++◌, ℕ, if◌then◌else◌, length, filter, not, All, IfOk, OnOk, slice_index_or};
+ghost use Rattle.std.specs.Prelude.{◌≡◌, ◌<◌, ◌≤◌, ◌==◌, [], ◌∷◌, ◌++◌, ◌≢◌, ◌||◌, ℕ, if◌then◌else◌, length, filter, not, All, IfOk, OnOk, slice_index_or};
 ghost use Rattle.std.specs.List.{list_any};
-ghost use Rattle.std.specs.Int.{bit_at};
 ghost use Rattle.scan_model.specs.Netlist.{reads};
-ghost use Rattle.scan_model.specs.BitTable.{table_bit};
+ghost use Rattle.lane_rows.specs.Lanes.{lane};
 ghost use Rattle.bridge_pairs.specs.PairText.{is_feedback, parted};
+ghost use Rattle.bridge_pairs.specs.PairRows.{has_pair};
 ghost use Rattle.bridge_pairs.specs.Ranks.{IsRanked, start_of, target_of};
 
 use crate::ranks::{Ranked, in_order, ranks_of, window};
-use scan_model::{Circuit, NoMemory, Pair, Pairs, Rows, bit, set_bit};
+use lane_rows::Row;
+use scan_model::{Circuit, NoMemory, Pair, Pairs, Rows};
 use std::alloc::Global;
 
-/// How many pairs one sweep tells: a word has a bit for each.
-const BATCH: usize = 64;
+/// How many pairs one sweep tells: a row has a lane for each.
+const BATCH: usize = 512;
 
-/// The bits that a gate's operands have.
-fn read_mask(circuit: &Circuit, words: &[u64], gate: u32) -> u64
+/// The lanes that a gate's operands have.
+fn read_lanes(circuit: &Circuit, rows: &[Row], gate: u32) -> Row
     requires gate { gate < length circuit.now.nets }
-    requires words { length words.now ≡ length circuit.now.nets }
-    ensures { (j : ℕ) → j < 64 → (bit_at result j == 1) ≡ list_any (table_bit words.now (length circuit.now.nets) j) (reads circuit.now gate) }
+    requires rows { length rows.now ≡ length circuit.now.nets }
+    ensures { (j : ℕ) → j < 512 → lane result j ≡ list_any (has_pair rows.now j) (reads circuit.now gate) }
 {
     let net = &circuit.nets().as_slice()[gate as usize];
     let pins = circuit.pins().as_slice();
     let first = net.first_pin as usize;
-    let mut mask = 0;
+    let mut lanes = Row::none();
     for p in first..first + net.pin_count as usize {
-        mask |= words[pins[p].net as usize];
+        lanes = lanes.or(rows[pins[p].net as usize]);
     }
-    mask
+    lanes
 }
 
-/// Sets bit j of the word of the start of pair j, and no other.
-fn set_starts(words: &mut [u64], ranks: &[u32], batch: &[Pair])
-    requires words { length words.old ≡ length ranks.now }
-    requires nets { All (λ p. (p.a < length ranks.now) × (p.b < length ranks.now)) batch.now }
-    requires count { length batch.now ≤ 64 }
-    ensures len { length words.new ≡ length words.old }
-    ensures starts { (j n : ℕ) (d : Pair) → j < length batch.now → n < length words.new → table_bit words.new (length words.new) j n ≡ (n == start_of ranks.now (slice_index_or batch.now j d)) }
+/// Adds lanes to the row of a net.
+fn add_lanes(rows: &mut [Row], net: usize, lanes: Row)
+    requires { net < length rows.old }
+    ensures len { length rows.new ≡ length rows.old }
+    ensures here { (j : ℕ) → j < 512 → has_pair rows.new j net ≡ (has_pair rows.old j net || lane lanes j) }
+    ensures elsewhere { (j n : ℕ) → n ≢ net → has_pair rows.new j n ≡ has_pair rows.old j n }
 {
-    words.fill(0);
+    rows[net] = rows[net].or(lanes);
+}
+
+/// Gives the start of pair j lane j, and no other net.
+fn set_starts(rows: &mut [Row], ranks: &[u32], batch: &[Pair])
+    requires rows { length rows.old ≡ length ranks.now }
+    requires nets { All (λ p. (p.a < length ranks.now) × (p.b < length ranks.now)) batch.now }
+    requires count { length batch.now ≤ 512 }
+    ensures len { length rows.new ≡ length rows.old }
+    ensures starts { (j n : ℕ) (d : Pair) → j < length batch.now → n < length rows.new → has_pair rows.new j n ≡ (n == start_of ranks.now (slice_index_or batch.now j d)) }
+{
+    rows.fill(Row::none());
     for (j, pair) in batch.iter().enumerate() {
         let (start, _) = in_order(ranks, pair);
-        set_bit(words, words.len(), j, start);
+        add_lanes(rows, start, Row::single(j));
     }
 }
 
-/// Sets bit j of the words of the fan-out cone of the start of pair j, up to the batch's highest target.
-fn sweep(ranked: &Ranked<'_>, words: &mut [u64], batch: &[Pair])
+/// Gives the fan-out cone of the start of pair j lane j, up to the batch's highest target.
+fn sweep(ranked: &Ranked<'_>, rows: &mut [Row], batch: &[Pair])
     requires ranked { IsRanked ranked.now.circuit.now ranked.now.order.now ranked.now.ranks.now }
-    requires words { length words.old ≡ length ranked.now.circuit.now.nets }
+    requires rows { length rows.old ≡ length ranked.now.circuit.now.nets }
     requires nets { All (λ p. (p.a < length ranked.now.circuit.now.nets) × (p.b < length ranked.now.circuit.now.nets)) batch.now }
-    requires count { length batch.now ≤ 64 }
-    ensures len { length words.new ≡ length words.old }
-    ensures bits { (j : ℕ) (d : Pair) → j < length batch.now → table_bit words.new (length words.new) j (target_of ranked.now.ranks.now (slice_index_or batch.now j d)) ≡ is_feedback ranked.now.circuit.now (slice_index_or batch.now j d) }
+    requires count { length batch.now ≤ 512 }
+    ensures len { length rows.new ≡ length rows.old }
+    ensures lanes { (j : ℕ) (d : Pair) → j < length batch.now → has_pair rows.new j (target_of ranked.now.ranks.now (slice_index_or batch.now j d)) ≡ is_feedback ranked.now.circuit.now (slice_index_or batch.now j d) }
 {
-    set_starts(words, ranked.ranks, batch);
+    set_starts(rows, ranked.ranks, batch);
     let (low, high) = window(ranked, batch);
     for k in low..high {
         let gate = ranked.order[k];
-        let mask = read_mask(ranked.circuit, words, gate);
-        words[gate as usize] |= mask;
+        let lanes = read_lanes(ranked.circuit, rows, gate);
+        add_lanes(rows, gate as usize, lanes);
     }
 }
 
@@ -74,25 +85,25 @@ fn add_parted(parts: &mut Pairs, pair: Pair, is_feedback: bool) -> Result<(), No
     }
 }
 
-/// Adds a batch of pairs at the ends of those kept and those left out. What the words were before is of no account.
+/// Adds a batch of pairs at the ends of those kept and those left out. What the rows were before is of no account.
 fn part_batch(
     ranked: &Ranked<'_>,
-    words: &mut [u64],
+    rows: &mut [Row],
     batch: &[Pair],
     parts: &mut Pairs,
 ) -> Result<(), NoMemory>
     requires ranked { IsRanked ranked.now.circuit.now ranked.now.order.now ranked.now.ranks.now }
-    requires words { length words.old ≡ length ranked.now.circuit.now.nets }
+    requires rows { length rows.old ≡ length ranked.now.circuit.now.nets }
     requires nets { All (λ p. (p.a < length ranked.now.circuit.now.nets) × (p.b < length ranked.now.circuit.now.nets)) batch.now }
-    requires count { length batch.now ≤ 64 }
-    ensures len { length words.new ≡ length words.old }
+    requires count { length batch.now ≤ 512 }
+    ensures len { length rows.new ≡ length rows.old }
     ensures kept { OnOk result (parts.new.kept ≡ parts.old.kept ++ filter (λ p. not (is_feedback ranked.now.circuit.now p)) batch.now) }
     ensures left_out { OnOk result (parts.new.left_out ≡ parts.old.left_out ++ filter (is_feedback ranked.now.circuit.now) batch.now) }
 {
-    sweep(ranked, words, batch);
+    sweep(ranked, rows, batch);
     for (j, pair) in batch.iter().enumerate() {
         let (_, target) = in_order(ranked.ranks, pair);
-        let is_feedback = bit(words, words.len(), j, target);
+        let is_feedback = rows[target].has(j);
         add_parted(parts, *pair, is_feedback)?;
     }
     Ok(())
@@ -101,12 +112,12 @@ fn part_batch(
 /// Adds all pairs, batch by batch.
 fn part_all(
     ranked: &Ranked<'_>,
-    words: &mut [u64],
+    rows: &mut [Row],
     pairs: &[Pair],
     parts: &mut Pairs,
 ) -> Result<(), NoMemory>
     requires ranked { IsRanked ranked.now.circuit.now ranked.now.order.now ranked.now.ranks.now }
-    requires words { length words.old ≡ length ranked.now.circuit.now.nets }
+    requires rows { length rows.old ≡ length ranked.now.circuit.now.nets }
     requires nets { All (λ p. (p.a < length ranked.now.circuit.now.nets) × (p.b < length ranked.now.circuit.now.nets)) pairs.now }
     requires kept { parts.old.kept ≡ [] }
     requires left_out { parts.old.left_out ≡ [] }
@@ -115,20 +126,20 @@ fn part_all(
     let mut at = 0;
     while at < pairs.len() {
         let end = pairs.len().min(at + BATCH);
-        part_batch(ranked, words, &pairs[at..end], parts)?;
+        part_batch(ranked, rows, &pairs[at..end], parts)?;
         at = end;
     }
     Ok(())
 }
 
-/// Parts the feedback pairs from the others. 64 pairs take one sweep over the gates between their nets.
+/// Parts the feedback pairs from the others. 512 pairs take one sweep over the gates between their nets.
 pub fn part(alloc: Global, circuit: &Circuit, pairs: &[Pair]) -> Result<Pairs, NoMemory>
     requires { All (λ p. (p.a < length circuit.now.nets) × (p.b < length circuit.now.nets)) pairs.now }
     ensures { IfOk result (λ parts. parts ≡ parted circuit.now pairs.now) }
 {
     let order = circuit.order().as_slice();
     let ranks = ranks_of(alloc, circuit, order)?;
-    let mut words = vec![in alloc; 0u64; circuit.nets().len()]?;
+    let mut rows = vec![in alloc; Row::none(); circuit.nets().len()]?;
     let ranked = Ranked {
         circuit,
         order,
@@ -138,6 +149,6 @@ pub fn part(alloc: Global, circuit: &Circuit, pairs: &[Pair]) -> Result<Pairs, N
         kept: Rows::new(alloc),
         left_out: Rows::new(alloc),
     };
-    part_all(&ranked, &mut words, pairs, &mut parts)?;
+    part_all(&ranked, &mut rows, pairs, &mut parts)?;
     Ok(parts)
 }

@@ -8,7 +8,7 @@ invariant-loop-at l =
     let circuit = l.ranked.circuit.now in
     record {
       within : l.at ≤ length l.pairs;
-      len : length l.words ≡ length circuit.nets;
+      len : length l.rows ≡ length circuit.nets;
       kept : l.parts.kept ≡ filter (λ p. not (is_feedback circuit p)) (take l.at l.pairs);
       left_out : l.parts.left_out ≡ filter (is_feedback circuit) (take l.at l.pairs);
     }
