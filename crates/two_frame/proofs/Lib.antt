@@ -9,3 +9,5 @@ pub mod TransitionPlaces
 pub mod BlockReads
 pub mod SlowPlaces
 pub mod FrameLayout
+pub mod FrameFlips
+pub mod FrameSuspects

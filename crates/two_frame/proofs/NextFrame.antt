@@ -1,17 +1,16 @@
 -- What drives the second frame, read off the rows of the first, gives its values.
-use Rattle.std.proofs.Common.{◌≡◌, ℕ, ◌+◌, ◌<◌, ◌++◌, true, ltb, ◌&&◌, List, [], ◌∷◌, length, get_or, None, refl, sym, ap, subst, ◌∙◌, inl, inr, arith}
+use Rattle.std.proofs.Common.{◌≡◌, ℕ, ◌+◌, ◌<◌, ◌++◌, true, ◌&&◌, List, [], ◌∷◌, length, get_or, None, refl, sym, ap, subst, ◌∙◌, inl, inr, arith}
 use Rattle.std.specs.Prelude.{Bool}
 use Rattle.std.proofs.lemmas.Bool.{cases_eq, lt-ltb}
 use Rattle.std.proofs.lemmas.List.{get_or_append_left, get_or_push}
 use Rattle.scan_model.specs.declared.values.Tri.{Tri}
-use Rattle.scan_model.specs.declared.values.Tri.TheVariants.{Unknown}
 use Rattle.scan_model.specs.declared.circuit.Driver.{Driver}
 use Rattle.scan_model.specs.declared.circuit.Driver.TheVariants.{Input, Flop, Gate}
 use Rattle.scan_model.specs.declared.parts.PatternKind.TheVariants.{Capture}
 use Rattle.scan_model.specs.Netlist.{Netlist, IsNetlist, driver_of, pin_at}
 use Rattle.scan_model.specs.Walks.{IsEvaluationOrder}
 use Rattle.scan_model.specs.ScanTest.{ScanTest, IsScanTest, IsFlop, pattern_at, no_pattern}
-use Rattle.scan_model.specs.NetValue.{driven, net_node, values_of, source_of, nothing_forced, good_value}
+use Rattle.scan_model.specs.NetValue.{driven, values_of, source_of, nothing_forced, good_value}
 use Rattle.scan_model.specs.Response.{data_pin}
 use Rattle.scan_model.proofs.NetValues.{values_of-is}
 use Rattle.scan_model.proofs.Cells.{data_pin-in_range}
@@ -20,7 +19,7 @@ use Rattle.lane_rows.specs.declared.block.Block.{Block}
 use Rattle.lane_rows.specs.Lanes.{lane}
 use Rattle.lane_rows.specs.Planes.{Planes}
 use Rattle.lane_rows.specs.Sources.{lane_values}
-use Rattle.lane_rows.specs.GoodRows.{AreBlockRows, AreGoodRows, AreLanesOf, same_kind, pattern_of, no_block}
+use Rattle.lane_rows.specs.GoodRows.{AreBlockRows, AreGoodRows, same_kind, pattern_of, no_block}
 use Rattle.lane_rows.specs.Stimuli.{AreRowsOf, captures}
 use Rattle.lane_rows.proofs.RowsOfTest.{captures_there, captures_kind}
 use Rattle.two_frame.specs.TwoFrame.{second_of, second_source}

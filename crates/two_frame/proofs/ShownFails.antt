@@ -1,5 +1,6 @@
 -- The fails of a slow fault, by the rows that tell them.
 use Rattle.std.proofs.Common.{◌≡◌, ℕ, ◌<◌, Bool, true, false, ◌&&◌, List, length, refl, sym, ap, ◌∙◌, inl, inr}
+use Rattle.std.proofs.Math.Bool.{and_assoc}
 use Rattle.std.proofs.lemmas.Bool.{cases_Bool, both_ways, eq-eqb}
 use Rattle.scan_model.specs.declared.values.Tri.{Tri}
 use Rattle.scan_model.specs.declared.circuit.Driver.{Driver}
@@ -25,10 +26,6 @@ use Rattle.two_frame.proofs.SlowStems.{none_is, slow_stem_law}
 use Rattle.two_frame.proofs.SlowOperands.{slow_operand_law}
 use Rattle.two_frame.proofs.SlowPins.{straight_law}
 use Rattle.two_frame.proofs.Transitions.{frame_fails-is, only_transitions_in}
-
-and_assoc : (a b c : Bool) → (a && (b && c)) ≡ ((a && b) && c)
-and_assoc true b c = refl
-and_assoc false b c = refl
 
 module _ (t : ScanTest) (sound : IsScanTest t) (order : List ℕ) (ordered : IsEvaluationOrder t.netlist order) (w : ℕ) where
   net_sound : IsNetlist t.netlist
@@ -65,7 +62,7 @@ module _ (t : ScanTest) (sound : IsScanTest t) (order : List ℕ) (ordered : IsE
       ∙ slow_operand_law t sound order ordered w q g i kind v q_lt at drives (point_at t k) (point_at-IsPoint t sound k lt)
       ∙ ap (λ (b : Bool). b && (are_opposite (good2 g) output && shows)) (changes_is v m (net_sound.pin_nets q q_lt))
       ∙ ap (λ (b : Bool). net_changes t v w m && (b && shows)) masked
-      ∙ and_assoc (net_changes t v w m) (mask_from t.netlist (second_source t w) (fault.Branch q v) g) shows
+      ∙ sym (and_assoc (net_changes t v w m) (mask_from t.netlist (second_source t w) (fault.Branch q v) g) shows)
 
   pub pin_fails-is : (q : ℕ) (v : Stuck) (k : ℕ) → q < length t.netlist.pins → ((n i : ℕ) → (pin_at t.netlist q).place ≡ place.Operand n i → is_gate t.netlist n ≡ false) → k < length (points_of t)
       → frame_fails t (fault.Branch q v) (bit_of w k) ≡ (net_changes t v w (pin_at t.netlist q).net && place_is_point t (pin_at t.netlist q).place (point_at t k))

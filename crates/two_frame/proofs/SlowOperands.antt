@@ -1,8 +1,8 @@
 -- A slow operand of a gate is the operand stuck at the first value in the second frame, where its net changes the transition.
 use mathlib.Core.Path.{fun_ext}
-use Rattle.std.proofs.Common.{◌≡◌, ◌⊎◌, ℕ, ◌+◌, ◌<◌, Bool, true, false, eqb, ◌&&◌, List, [], ◌∷◌, length, map, Option, Some, None, refl, sym, ap, subst, ◌∙◌, inl, inr}
+use Rattle.std.proofs.Common.{◌≡◌, ℕ, ◌+◌, ◌<◌, Bool, true, false, eqb, ◌&&◌, List, length, map, Option, Some, None, refl, sym, ap, subst, ◌∙◌, inl, inr}
 use Rattle.std.specs.Prelude.{Contains}
-use Rattle.std.proofs.lemmas.Bool.{cases_eq, eq-eqb, ne_eqb}
+use Rattle.std.proofs.lemmas.Bool.{cases_eq, eq-eqb, ne_eqb, and_left}
 use Rattle.scan_model.specs.declared.values.Tri.{Tri}
 use Rattle.scan_model.specs.declared.values.Tri.TheVariants.{Zero, One, Unknown}
 use Rattle.scan_model.specs.declared.circuit.Driver.{Driver}
@@ -15,21 +15,21 @@ use Rattle.scan_model.specs.declared.fault.Stuck.TheVariants as stuck
 use Rattle.scan_model.specs.declared.fault.Fault.{Fault}
 use Rattle.scan_model.specs.declared.fault.Fault.TheVariants as fault
 use Rattle.scan_model.specs.declared.parts.Point.{Point}
-use Rattle.scan_model.specs.Values.{IsAtLeast, AreAtLeast, are_opposite, gate_value}
-use Rattle.scan_model.specs.Netlist.{Netlist, IsNetlist, IsPlacedAt, reads, is_gate, is_gate_driver, driver_of, net_at, pin_at, operands}
+use Rattle.scan_model.specs.Values.{are_opposite, gate_value}
+use Rattle.scan_model.specs.Netlist.{IsNetlist, IsPlacedAt, reads, is_gate, is_gate_driver, driver_of, net_at, pin_at, operands}
 use Rattle.scan_model.specs.Walks.{IsEvaluationOrder}
 use Rattle.scan_model.specs.ScanTest.{ScanTest, IsScanTest, IsPoint}
 use Rattle.scan_model.specs.Faults.{stuck_value}
 use Rattle.scan_model.specs.NetValue.{seen, driven, values_of, nothing_forced, good_value}
 use Rattle.scan_model.specs.Suspect.{observed_net}
 use Rattle.scan_model.specs.Force.{force}
-use Rattle.scan_model.specs.Masks.{point_pin, operand_is_point, place_is_point, flip_shows_from}
-use Rattle.scan_model.proofs.NetValues.{values_of-is}
-use Rattle.scan_model.proofs.Definite.{IsAtLeast-refl, gate-at_least}
+use Rattle.scan_model.specs.BranchMask.{senses}
+use Rattle.scan_model.specs.Masks.{operand_values_from, point_pin, operand_is_point, place_is_point, flip_shows_from}
 use Rattle.scan_model.proofs.FanSweeps.{is_read, reads_in_range}
 use Rattle.scan_model.proofs.counting.Valuations.{valuation_is}
 use Rattle.scan_model.proofs.counting.Branches.{force_pin, branch_is_force, no_loop}
 use Rattle.scan_model.proofs.counting.OneSite.{unflipped, force_outside}
+use Rattle.scan_model.proofs.counting.BranchPins.{forced_gate_flips}
 use Rattle.scan_model.proofs.counting.Flips.{force_shows_from}
 use Rattle.scan_model.proofs.counting.Shown.{point_pin-net, observed_net-in_range, place_is_point-is}
 use Rattle.two_frame.specs.TwoFrame.{slowed, changes, second_source, frame_seen, second_driven, second_value, frame_fails_at}
@@ -53,52 +53,6 @@ made_stuck stuck.One One b e = absurd_or b e
     absurd_or Unknown e = absurd cc
 made_stuck stuck.One Zero b e = absurd cc
 made_stuck stuck.One Unknown b e = absurd cc
-
--- ---- values that compare
-
-compare : (x v : Tri) → are_opposite x v ≡ false → IsAtLeast v x ⊎ IsAtLeast x v
-compare Unknown v e = inl tt
-compare Zero Unknown e = inr tt
-compare One Unknown e = inr tt
-compare Zero Zero e = inl refl
-compare One One e = inl refl
-compare Zero One e = absurd cc
-compare One Zero e = absurd cc
-
-above : (x v : Tri) → IsAtLeast v x → are_opposite x v ≡ false
-above Unknown v h = refl
-above Zero v h = ap (are_opposite Zero) h
-above One v h = ap (are_opposite One) h
-
-below : (x v : Tri) → IsAtLeast x v → are_opposite x v ≡ false
-below Zero Unknown h = refl
-below One Unknown h = refl
-below Unknown v h = refl
-below Zero Zero h = refl
-below One One h = refl
-below Zero One h = absurd (let e : Zero ≡ One = h in cc)
-below One Zero h = absurd (let e : One ≡ Zero = h in cc)
-
--- operands of which one is another
-pins_above : (c : Netlist) (q : ℕ) (x : Tri) (f : ℕ → Tri) → IsAtLeast x (f (pin_at c q).net) → (ps : List ℕ) → AreAtLeast (map (seen c (force_pin q x) f) ps) (map (seen c nothing_forced f) ps)
-pins_above c q x f more [] = tt
-pins_above c q x f more (p ∷ ps) = (
-  elim (cases_eq p q) [
-    | inl is ↦ rw (eq-eqb p q is) (subst (λ (k : ℕ). IsAtLeast x (f (pin_at c k).net)) (sym is) more)
-    | inr other ↦ rw (ne_eqb p q other) (IsAtLeast-refl (f (pin_at c p).net))
-  ],
-  pins_above c q x f more ps,
-)
-
-pins_below : (c : Netlist) (q : ℕ) (x : Tri) (f : ℕ → Tri) → IsAtLeast (f (pin_at c q).net) x → (ps : List ℕ) → AreAtLeast (map (seen c nothing_forced f) ps) (map (seen c (force_pin q x) f) ps)
-pins_below c q x f less [] = tt
-pins_below c q x f less (p ∷ ps) = (
-  elim (cases_eq p q) [
-    | inl is ↦ rw (eq-eqb p q is) (subst (λ (k : ℕ). IsAtLeast (f (pin_at c k).net) x) (sym is) less)
-    | inr other ↦ rw (ne_eqb p q other) (IsAtLeast-refl (f (pin_at c p).net))
-  ],
-  pins_below c q x f less ps,
-)
 
 module _ (t : ScanTest) (sound : IsScanTest t) (order : List ℕ) (ordered : IsEvaluationOrder t.netlist order) (w q g i : ℕ) (kind : GateKind) (v : Stuck) (q_lt : q < length t.netlist.pins)
     (at : (pin_at t.netlist q).place ≡ place.Operand g i) (drives : driver_of t.netlist g ≡ Gate kind) where
@@ -160,17 +114,11 @@ module _ (t : ScanTest) (sound : IsScanTest t) (order : List ℕ) (ordered : IsE
   V_is : (n : ℕ) → n < length t.netlist.nets → V n ≡ values_of t.netlist (second_source t w) (force g (output (slowed v (good_value t w m) (good2 m)))) n
   V_is n lt = forced_own (slowed v (good_value t w m) (good2 m)) (ap (slowed v (good_value t w m)) (sym m_is)) n lt ∙ as_gate (slowed v (good_value t w m) (good2 m)) n lt
 
-  good_gate : good2 g ≡ gate_value kind (map (seen t.netlist nothing_forced good2) (operands t.netlist g))
-  good_gate = values_of-is t.netlist order (second_source t w) nothing_forced ordered g stands.0 ∙ ap (λ (d : Driver). driven t.netlist (second_source t w) nothing_forced d good2 g) drives
-
   -- an operand that isn't the other value doesn't flip the gate
   output_stays : (x : Tri) → are_opposite (good2 m) x ≡ false → are_opposite (good2 g) (output x) ≡ false
-  output_stays x miss = ap (λ (y : Tri). are_opposite y (output x)) good_gate ∙ elim (compare (good2 m) x miss) [
-    | inl more ↦ above (gate_value kind (map (seen t.netlist nothing_forced good2) (operands t.netlist g))) (output x)
-        (gate-at_least kind (map (seen t.netlist (force_pin q x) good2) (operands t.netlist g)) (map (seen t.netlist nothing_forced good2) (operands t.netlist g)) (pins_above t.netlist q x good2 more (operands t.netlist g)))
-    | inr less ↦ below (gate_value kind (map (seen t.netlist nothing_forced good2) (operands t.netlist g))) (output x)
-        (gate-at_least kind (map (seen t.netlist nothing_forced good2) (operands t.netlist g)) (map (seen t.netlist (force_pin q x) good2) (operands t.netlist g)) (pins_below t.netlist q x good2 less (operands t.netlist g)))
-  ]
+  output_stays x miss =
+      forced_gate_flips t.netlist order net_sound ordered (second_source t w) q g i x kind q_lt at drives
+      ∙ and_left (are_opposite (good2 m) x) (senses kind (operand_values_from t.netlist (second_source t w) g) i) miss
 
   at_net : (o : ℕ) → o < length t.netlist.nets → (b : Bool) → changes v (good_value t w m) (good2 m) ≡ b → are_opposite (good2 o) (V o) ≡ (b && (are_opposite (good2 g) (output (stuck_value v)) && flip_shows_from t.netlist (second_source t w) g o))
   at_net o lt true made = ap (are_opposite (good2 o)) (V_is o lt ∙ ap (λ (x : Tri). values_of t.netlist (second_source t w) (force g (output x)) o) (made_stuck v (good_value t w m) (good2 m) made)) ∙ force_shows_from t.netlist order net_sound ordered (second_source t w) g (output (stuck_value v)) o lt

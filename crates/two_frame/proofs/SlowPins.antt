@@ -1,19 +1,18 @@
 -- A slow branch that no gate reads fails at its own point alone, where its net makes the transition.
-use Rattle.std.proofs.Common.{◌≡◌, ◌≢◌, ℕ, zero, suc, ◌+◌, ◌<◌, Bool, true, false, ◌&&◌, List, length, map, Option, Some, refl, sym, ap, ◌∙◌, inl, inr, arith}
+use Rattle.std.proofs.Common.{◌≡◌, ◌≢◌, ℕ, zero, suc, ◌+◌, ◌<◌, ◌&&◌, List, length, map, Option, Some, refl, sym, ap, ◌∙◌, inl, inr, arith}
 use Rattle.std.specs.List.{range_with_len}
+use Rattle.std.proofs.Math.Bool.{and-true, and-false}
 use Rattle.std.proofs.lemmas.Bool.{cases_eq, eq-eqb, ne_eqb}
 use Rattle.scan_model.specs.declared.values.Tri.{Tri}
-use Rattle.scan_model.specs.declared.values.Tri.TheVariants.{Zero, One, Unknown}
 use Rattle.scan_model.specs.declared.circuit.Driver.{Driver}
 use Rattle.scan_model.specs.declared.circuit.Driver.TheVariants.{Input, Flop, Gate}
 use Rattle.scan_model.specs.declared.circuit.GateKind.{GateKind}
 use Rattle.scan_model.specs.declared.circuit.PinPlace.TheVariants as place
 use Rattle.scan_model.specs.declared.fault.Stuck.{Stuck}
-use Rattle.scan_model.specs.declared.fault.Stuck.TheVariants as stuck
 use Rattle.scan_model.specs.declared.fault.Fault.{Fault}
 use Rattle.scan_model.specs.declared.fault.Fault.TheVariants as fault
 use Rattle.scan_model.specs.declared.parts.Point.{Point}
-use Rattle.scan_model.specs.Values.{are_opposite, gate_value}
+use Rattle.scan_model.specs.Values.{gate_value}
 use Rattle.scan_model.specs.Netlist.{IsNetlist, driver_of, net_at, pin_at}
 use Rattle.scan_model.specs.Walks.{IsEvaluationOrder}
 use Rattle.scan_model.specs.ScanTest.{ScanTest, IsScanTest, IsPoint}
@@ -21,37 +20,8 @@ use Rattle.scan_model.specs.NetValue.{seen, driven, values_of, nothing_forced, g
 use Rattle.scan_model.specs.Masks.{point_pin, place_is_point}
 use Rattle.scan_model.proofs.counting.Valuations.{valuation_is}
 use Rattle.scan_model.proofs.counting.Shown.{not_opposite_itself, point_pin-in_range, place_is_point-is}
-use Rattle.two_frame.specs.TwoFrame.{slowed, changes, second_source, frame_seen, second_driven, second_value, frame_fails_at}
-use Rattle.two_frame.proofs.SlowStems.{meets, none_is}
-
--- the slowed value is the other one exactly where the transition is made
-slowed_flips : (v : Stuck) (a b : Tri) → are_opposite b (slowed v a b) ≡ changes v a b
-slowed_flips stuck.Zero Zero Zero = refl
-slowed_flips stuck.Zero Zero One = refl
-slowed_flips stuck.Zero Zero Unknown = refl
-slowed_flips stuck.Zero One Zero = refl
-slowed_flips stuck.Zero One One = refl
-slowed_flips stuck.Zero One Unknown = refl
-slowed_flips stuck.Zero Unknown Zero = refl
-slowed_flips stuck.Zero Unknown One = refl
-slowed_flips stuck.Zero Unknown Unknown = refl
-slowed_flips stuck.One Zero Zero = refl
-slowed_flips stuck.One Zero One = refl
-slowed_flips stuck.One Zero Unknown = refl
-slowed_flips stuck.One One Zero = refl
-slowed_flips stuck.One One One = refl
-slowed_flips stuck.One One Unknown = refl
-slowed_flips stuck.One Unknown Zero = refl
-slowed_flips stuck.One Unknown One = refl
-slowed_flips stuck.One Unknown Unknown = refl
-
-and_false : (b : Bool) → (b && false) ≡ false
-and_false true = refl
-and_false false = refl
-
-and_true : (b : Bool) → (b && true) ≡ b
-and_true true = refl
-and_true false = refl
+use Rattle.two_frame.specs.TwoFrame.{changes, second_source, frame_seen, second_driven, second_value, frame_fails_at}
+use Rattle.two_frame.proofs.SlowStems.{slowed_flips, meets, none_is}
 
 module _ (t : ScanTest) (sound : IsScanTest t) (order : List ℕ) (ordered : IsEvaluationOrder t.netlist order) (w q : ℕ) (v : Stuck) (q_lt : q < length t.netlist.pins)
     (no_gate : (n i : ℕ) (kind : GateKind) → driver_of t.netlist n ≡ Gate kind → (pin_at t.netlist q).place ≡ place.Operand n i → ⊥) where
@@ -97,8 +67,8 @@ module _ (t : ScanTest) (sound : IsScanTest t) (order : List ℕ) (ordered : IsE
         | inl same ↦
             rw (place_is_point-is t sound q p q_lt is_point, eq-eqb pin q same, expected, stays net lt)
             (slowed_flips v (good_value t w net) (good2 net) ∙ ap (λ (k : ℕ). changes v (good_value t w (pin_at t.netlist k).net) (good2 (pin_at t.netlist k).net)) same
-            ∙ sym (and_true (changes v (good_value t w m) (good2 m))))
+            ∙ sym (and-true (changes v (good_value t w m) (good2 m))))
         | inr other ↦
             rw (place_is_point-is t sound q p q_lt is_point, ne_eqb pin q other, expected, stays net lt)
-            (not_opposite_itself (good2 net) ∙ sym (and_false (changes v (good_value t w m) (good2 m))))
+            (not_opposite_itself (good2 net) ∙ sym (and-false (changes v (good_value t w m) (good2 m))))
       ]

@@ -44,26 +44,30 @@ made_flips stuck.One One Unknown e = absurd cc
 made_flips stuck.One Zero b e = absurd cc
 made_flips stuck.One Unknown b e = absurd cc
 
+-- the slowed value is the other one exactly where the transition is made
+pub slowed_flips : (v : Stuck) (a b : Tri) → are_opposite b (slowed v a b) ≡ changes v a b
+slowed_flips stuck.Zero Zero Zero = refl
+slowed_flips stuck.Zero Zero One = refl
+slowed_flips stuck.Zero Zero Unknown = refl
+slowed_flips stuck.Zero One Zero = refl
+slowed_flips stuck.Zero One One = refl
+slowed_flips stuck.Zero One Unknown = refl
+slowed_flips stuck.Zero Unknown Zero = refl
+slowed_flips stuck.Zero Unknown One = refl
+slowed_flips stuck.Zero Unknown Unknown = refl
+slowed_flips stuck.One Zero Zero = refl
+slowed_flips stuck.One Zero One = refl
+slowed_flips stuck.One Zero Unknown = refl
+slowed_flips stuck.One One Zero = refl
+slowed_flips stuck.One One One = refl
+slowed_flips stuck.One One Unknown = refl
+slowed_flips stuck.One Unknown Zero = refl
+slowed_flips stuck.One Unknown One = refl
+slowed_flips stuck.One Unknown Unknown = refl
+
 -- any other site is not flipped, also where the first frame is X
 pub unmade_stays : (v : Stuck) (a b : Tri) → changes v a b ≡ false → are_opposite b (slowed v a b) ≡ false
-unmade_stays stuck.Zero Zero Zero e = refl
-unmade_stays stuck.Zero Zero One e = absurd cc
-unmade_stays stuck.Zero Zero Unknown e = refl
-unmade_stays stuck.Zero One Zero e = refl
-unmade_stays stuck.Zero One One e = refl
-unmade_stays stuck.Zero One Unknown e = refl
-unmade_stays stuck.Zero Unknown Zero e = refl
-unmade_stays stuck.Zero Unknown One e = refl
-unmade_stays stuck.Zero Unknown Unknown e = refl
-unmade_stays stuck.One Zero Zero e = refl
-unmade_stays stuck.One Zero One e = refl
-unmade_stays stuck.One Zero Unknown e = refl
-unmade_stays stuck.One One Zero e = absurd cc
-unmade_stays stuck.One One One e = refl
-unmade_stays stuck.One One Unknown e = refl
-unmade_stays stuck.One Unknown Zero e = refl
-unmade_stays stuck.One Unknown One e = refl
-unmade_stays stuck.One Unknown Unknown e = refl
+unmade_stays v a b e = slowed_flips v a b ∙ e
 
 -- ---- locality
 

@@ -1,5 +1,5 @@
 -- The fault that the list of all modelled faults has at the place of a transition fault.
-use Rattle.std.proofs.Common.{◌≡◌, ℕ, ◌<◌, List, length, get_or, Some, None, sym, subst, ◌∙◌, inl, inr, arith}
+use Rattle.std.proofs.Common.{◌≡◌, ℕ, ◌<◌, length, get_or, Some, None, sym, subst, ◌∙◌, inl, inr, arith}
 use Rattle.std.specs.Prelude.{Contains, filter, slice_get}
 use Rattle.std.proofs.lemmas.List.Elements.{Contains-append_cases, Contains-get_or}
 use Rattle.std.proofs.lemmas.Option.{get_or_from_slice_get, slice_get-get_or}
@@ -27,17 +27,23 @@ not_past t place lt is =
     cc
 
 -- it is a stem or a branch
-one_of : (t : ScanTest) (f : Fault) (place : ℕ) → place < length (transitions t) → Some f ≡ slice_get (universe t) place → Contains (transitions t) f
-one_of t f place lt is = subst (Contains (transitions t)) (transition_is t place f lt is) (Contains-get_or (transitions t) place no_fault lt)
-
-pub no_bridge : (t : ScanTest) (a b : ℕ) (kind : BridgeKind) (place : ℕ) → place < length (transitions t) → Some (fault.Bridge a b kind) ≡ slice_get (universe t) place → ⊥
-no_bridge t a b kind place lt is = elim (Contains-append_cases (stems t) (branches t) (fault.Bridge a b kind) (one_of t (fault.Bridge a b kind) place lt is)) [
+pub no_bridge_in : (t : ScanTest) (a b : ℕ) (kind : BridgeKind) → Contains (transitions t) (fault.Bridge a b kind) → ⊥
+no_bridge_in t a b kind there = elim (Contains-append_cases (stems t) (branches t) (fault.Bridge a b kind) there) [
   | inl stem ↦ only_stems t (fault.Bridge a b kind) stem
   | inr branch ↦ (branch_owner (filter (is_branch t.netlist) (pin_numbers t.netlist)) (fault.Bridge a b kind) branch).2
 ]
 
-pub no_cell : (t : ScanTest) (h i : ℕ) (kind : CellKind) (place : ℕ) → place < length (transitions t) → Some (fault.Cell h i kind) ≡ slice_get (universe t) place → ⊥
-no_cell t h i kind place lt is = elim (Contains-append_cases (stems t) (branches t) (fault.Cell h i kind) (one_of t (fault.Cell h i kind) place lt is)) [
+pub no_cell_in : (t : ScanTest) (h i : ℕ) (kind : CellKind) → Contains (transitions t) (fault.Cell h i kind) → ⊥
+no_cell_in t h i kind there = elim (Contains-append_cases (stems t) (branches t) (fault.Cell h i kind) there) [
   | inl stem ↦ only_stems t (fault.Cell h i kind) stem
   | inr branch ↦ (branch_owner (filter (is_branch t.netlist) (pin_numbers t.netlist)) (fault.Cell h i kind) branch).2
 ]
+
+transition_in : (t : ScanTest) (f : Fault) (place : ℕ) → place < length (transitions t) → Some f ≡ slice_get (universe t) place → Contains (transitions t) f
+transition_in t f place lt is = subst (Contains (transitions t)) (transition_is t place f lt is) (Contains-get_or (transitions t) place no_fault lt)
+
+pub no_bridge : (t : ScanTest) (a b : ℕ) (kind : BridgeKind) (place : ℕ) → place < length (transitions t) → Some (fault.Bridge a b kind) ≡ slice_get (universe t) place → ⊥
+no_bridge t a b kind place lt is = no_bridge_in t a b kind (transition_in t (fault.Bridge a b kind) place lt is)
+
+pub no_cell : (t : ScanTest) (h i : ℕ) (kind : CellKind) (place : ℕ) → place < length (transitions t) → Some (fault.Cell h i kind) ≡ slice_get (universe t) place → ⊥
+no_cell t h i kind place lt is = no_cell_in t h i kind (transition_in t (fault.Cell h i kind) place lt is)

@@ -1,5 +1,5 @@
 -- The rows of both frames of a test's patterns.
-use Rattle.std.specs.Prelude.{◌≡◌, ℕ, ◌<◌, length, All, true, slice_index_or}
+use Rattle.std.specs.Prelude.{◌≡◌, ℕ, ◌<◌, List, length, All, Bool, true, false, slice_index_or}
 use Rattle.scan_model.specs.declared.values.Tri.{Tri}
 use Rattle.scan_model.specs.declared.values.Tri.TheVariants.{Unknown}
 use Rattle.scan_model.specs.declared.circuit.Driver.{Driver}
@@ -7,9 +7,10 @@ use Rattle.scan_model.specs.declared.circuit.Driver.TheVariants.{Input, Flop, Ga
 use Rattle.scan_model.specs.declared.fault.Fault.{Fault}
 use Rattle.scan_model.specs.declared.parts.PatternKind.TheVariants.{Capture}
 use Rattle.scan_model.specs.Netlist.{Netlist, pin_at, driver_of}
-use Rattle.scan_model.specs.ScanTest.{ScanTest}
+use Rattle.scan_model.specs.ScanTest.{ScanTest, points_of}
 use Rattle.scan_model.specs.NetValue.{values_of, nothing_forced}
 use Rattle.scan_model.specs.Response.{data_pin}
+use Rattle.scan_model.specs.Coverage.{bit_of}
 use Rattle.scan_model.specs.ReportText.{no_fault}
 use Rattle.lane_rows.specs.declared.block.Block.{Block}
 use Rattle.lane_rows.specs.Sources.{lane_values}
@@ -18,7 +19,7 @@ use Rattle.lane_rows.specs.Stimuli.{Stimuli, AreRowsOf, captures}
 use Rattle.packed_sim.specs.Belongs.{IsBuiltFor, IsScratchOf}
 use Rattle.two_frame.specs.declared.frame_good.FrameGood.{FrameGood}
 use Rattle.two_frame.specs.declared.frame_good.FrameScratch.{FrameScratch}
-use Rattle.two_frame.specs.TwoFrame.{second_source, transitions}
+use Rattle.two_frame.specs.TwoFrame.{second_source, frame_fails, transitions}
 
 -- what drives a net in a second frame, from the values that the nets have in the first
 abbrev pub next_of : Netlist → (ℕ → Tri) → Driver → ℕ → Tri
@@ -57,3 +58,7 @@ AllCapture t = All (λ w. w.kind ≡ Capture) t.patterns
 -- the transition fault at a place
 abbrev pub transition_at : ScanTest → ℕ → Fault
 transition_at t place = slice_index_or (transitions t) place no_fault
+
+-- a row of points says where the fault predicts a fail in pattern w
+abbrev pub AreFrameFails : ScanTest → Fault → ℕ → List Bool → Type 0
+AreFrameFails t f w out = (k : ℕ) → k < length (points_of t) → slice_index_or out k false ≡ frame_fails t f (bit_of w k)

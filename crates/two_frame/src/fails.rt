@@ -5,13 +5,12 @@ ghost use Rattle.scan_model.specs.declared.fault.Fault.TheVariants as fault;
 ghost use Rattle.scan_model.specs.Values.{are_opposite};
 ghost use Rattle.scan_model.specs.Netlist.{pin_at, is_gate};
 ghost use Rattle.scan_model.specs.ScanTest.{points_of, point_at};
-ghost use Rattle.scan_model.specs.Coverage.{bit_of};
 ghost use Rattle.scan_model.specs.Masks.{flip_shows_from, place_is_point};
 ghost use Rattle.lane_rows.specs.Lanes.{lane};
 ghost use Rattle.packed_sim.specs.Ways.{IsGateOfPin};
 ghost use Rattle.packed_sim.specs.Belongs.{observed_at, gates_behind, cone_gates, IsScratchIn, good_at, now_at};
-ghost use Rattle.two_frame.specs.TwoFrame.{transitions, frame_fails, makes_transition, net_changes, second_source};
-ghost use Rattle.two_frame.specs.FrameRows.{IsFrameGood, IsFrameScratch, AllCapture, transition_at};
+ghost use Rattle.two_frame.specs.TwoFrame.{transitions, makes_transition, net_changes, second_source};
+ghost use Rattle.two_frame.specs.FrameRows.{IsFrameGood, IsFrameScratch, AllCapture, AreFrameFails, transition_at};
 
 use crate::frame_good::{FrameGood, FrameScratch};
 use fault_universe::{branch_count, fault_at, stem_count};
@@ -108,7 +107,7 @@ impl FrameGood {
         requires stem { stem.0 < length parts.now.netlist.nets }
         requires pattern { pattern < length parts.now.patterns }
         requires out { length out.old ≡ length (points_of parts.now) }
-        ensures fails { (k : ℕ) → k < length (points_of parts.now) → slice_index_or out.new k false ≡ frame_fails parts.now (fault.Stem stem.0 stem.1) (bit_of pattern k) }
+        ensures fails { AreFrameFails parts.now (fault.Stem stem.0 stem.1) pattern out.new }
         ensures idle { net_changes parts.now stem.1 pattern stem.0 ≡ false → steps.new ≡ steps.old }
         ensures steps { steps.new ≤ steps.old + length (gates_behind parts.now (stem.0 ∷ [])) }
         ensures scratch { IsFrameScratch self.now scratch.new }
@@ -137,7 +136,7 @@ impl FrameGood {
         requires gate { IsGateOfPin parts.now.netlist branch.0 gate.0 gate.1 }
         requires pattern { pattern < length parts.now.patterns }
         requires out { length out.old ≡ length (points_of parts.now) }
-        ensures fails { (k : ℕ) → k < length (points_of parts.now) → slice_index_or out.new k false ≡ frame_fails parts.now (fault.Branch branch.0 branch.1) (bit_of pattern k) }
+        ensures fails { AreFrameFails parts.now (fault.Branch branch.0 branch.1) pattern out.new }
         ensures idle { net_changes parts.now branch.1 pattern (pin_at parts.now.netlist branch.0).net ≡ false → steps.new ≡ steps.old }
         ensures steps { steps.new ≤ steps.old + length (gates_behind parts.now (gate.0 ∷ [])) }
         ensures scratch { IsFrameScratch self.now scratch.new }
@@ -160,7 +159,7 @@ impl FrameGood {
         requires straight { (n i : ℕ) → (pin_at parts.now.netlist branch.0).place ≡ place.Operand n i → is_gate parts.now.netlist n ≡ false }
         requires pattern { pattern < length parts.now.patterns }
         requires out { length out.old ≡ length (points_of parts.now) }
-        ensures { (k : ℕ) → k < length (points_of parts.now) → slice_index_or out.new k false ≡ frame_fails parts.now (fault.Branch branch.0 branch.1) (bit_of pattern k) }
+        ensures { AreFrameFails parts.now (fault.Branch branch.0 branch.1) pattern out.new }
     {
         let circuit = parts.circuit();
         let _ = circuit.order();
@@ -188,7 +187,7 @@ impl FrameGood {
         requires pin { branch.0 < length parts.now.netlist.pins }
         requires pattern { pattern < length parts.now.patterns }
         requires out { length out.old ≡ length (points_of parts.now) }
-        ensures fails { (k : ℕ) → k < length (points_of parts.now) → slice_index_or out.new k false ≡ frame_fails parts.now (fault.Branch branch.0 branch.1) (bit_of pattern k) }
+        ensures fails { AreFrameFails parts.now (fault.Branch branch.0 branch.1) pattern out.new }
         ensures idle { net_changes parts.now branch.1 pattern (pin_at parts.now.netlist branch.0).net ≡ false → steps.new ≡ steps.old }
         ensures steps { steps.new ≤ steps.old + length (cone_gates parts.now (fault.Branch branch.0 branch.1)) }
         ensures scratch { IsFrameScratch self.now scratch.new }
@@ -216,7 +215,7 @@ impl FrameGood {
         requires place { place < length (transitions parts.now) }
         requires pattern { pattern < length parts.now.patterns }
         requires out { length out.old ≡ length (points_of parts.now) }
-        ensures fails { (k : ℕ) → k < length (points_of parts.now) → slice_index_or out.new k false ≡ frame_fails parts.now (transition_at parts.now place) (bit_of pattern k) }
+        ensures fails { AreFrameFails parts.now (transition_at parts.now place) pattern out.new }
         ensures launched { makes_transition parts.now (transition_at parts.now place) pattern ≡ false → (k : ℕ) → k < length (points_of parts.now) → slice_index_or out.new k false ≡ false }
         ensures idle { makes_transition parts.now (transition_at parts.now place) pattern ≡ false → steps.new ≡ steps.old }
         ensures steps { steps.new ≤ steps.old + length (cone_gates parts.now (transition_at parts.now place)) }

@@ -1,15 +1,18 @@
 //! Two-frame patterns and transition faults.
 #![tactic(auto)]
 
+mod counts;
 mod expected;
 mod fails;
 mod frame_good;
+mod frame_observer;
 mod laws;
 mod names;
 mod reader;
 mod second;
 mod text;
 
+pub use counts::frame_counts;
 pub use expected::frame_expected;
 pub use fails::slow_len;
 pub use frame_good::{FrameGood, FrameScratch};

@@ -1,4 +1,4 @@
-use Rattle.std.proofs.Common.{◌≡◌, ℕ, ◌%◌, map, take}
+use Rattle.std.proofs.Common.{◌≡◌, ◌%◌, map, take}
 use Rattle.lane_rows.specs.Sources.{lane_values}
 use Rattle.two_frame.proofs.expected.row_of_pattern.Given as goal
 

@@ -1,9 +1,7 @@
-use Rattle.std.proofs.Common.{◌≡◌, ℕ, ◌+◌, ◌≤◌, length, Some, sym, ap, subst, ◌∙◌, arith}
-use Rattle.std.specs.Prelude.{slice_get}
+use Rattle.std.proofs.Common.{◌≡◌, ◌+◌, ◌≤◌, length, Some, sym, ap, subst, ◌∙◌}
 use Rattle.scan_model.specs.declared.fault.Fault.{Fault}
 use Rattle.scan_model.specs.declared.fault.Fault.TheVariants as fault
 use Rattle.scan_model.specs.ScanTest.{HasSite}
-use Rattle.scan_model.specs.Universe.{universe}
 use Rattle.scan_model.specs.Coverage.{bit_of}
 use Rattle.packed_sim.specs.Belongs.{cone_gates}
 use Rattle.two_frame.specs.TwoFrame.{frame_fails, makes_transition}
