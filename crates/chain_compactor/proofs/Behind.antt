@@ -21,7 +21,7 @@ use Rattle.scan_model.proofs.counting.Regions.{flip_is_gate, gate_flips, sensed_
 use Rattle.scan_model.proofs.counting.Shown.{observed_net-in_range}
 use Rattle.chain_compactor.specs.Flips.{differs, flip_differs}
 use Rattle.chain_compactor.proofs.Xors.{map_same}
-use Rattle.chain_compactor.proofs.OneFlip.{forced_differs}
+use Rattle.chain_compactor.proofs.OneFlip.{forced_differs, unknown_hides}
 
 module _ (t : ScanTest) (sound : IsScanTest t) (order : List ℕ) (ordered : IsEvaluationOrder t.netlist order) (w : ℕ)
     (p n g i : ℕ) (kind : GateKind) (in_range : p < length t.netlist.pins) (net : (pin_at t.netlist p).net ≡ n) (at : (pin_at t.netlist p).place ≡ place.Operand g i) (drives : driver_of t.netlist g ≡ Gate kind)
@@ -36,12 +36,6 @@ module _ (t : ScanTest) (sound : IsScanTest t) (order : List ℕ) (ordered : IsE
   abbrev output : Tri
   output = gate_value kind (map (seen t.netlist (force_pin p (tri_not (good n))) good) (operands t.netlist g))
 
-  hides : (ps : List Point) → AllByRecursion (IsPoint t) ps → good g ≡ Unknown → flip_differs t w g ps ≡ false
-  hides ps all is =
-      ap (λ (x : Tri). differs t w ps (λ q. values_of t.netlist s (force g (tri_not x)) (observed_net t q))) is
-      ∙ forced_differs t sound order ordered w g Unknown ps all
-      ∙ ap (λ (x : Tri). are_opposite x Unknown && flip_differs t w g ps) is
-
   pub flips_behind : (ps : List Point) → AllByRecursion (IsPoint t) ps → flip_differs t w n ps ≡ (senses kind (operand_values t w g) i && flip_differs t w g ps)
   flips_behind ps all =
       ap (λ (vs : List Tri). are_opposite (xor_of (map (λ q. good (observed_net t q)) ps)) (xor_of vs))
@@ -50,4 +44,4 @@ module _ (t : ScanTest) (sound : IsScanTest t) (order : List ℕ) (ordered : IsE
       (unseen t sound order ordered w p n g i kind in_range net at drives one q is_point)))
       ∙ forced_differs t sound order ordered w g output ps all
       ∙ ap (λ (b : Bool). b && flip_differs t w g ps) (gate_flips t.netlist order sound.circuit.netlist ordered s p n g i kind in_range net at drives one)
-      ∙ sensed_shows t.netlist order sound.circuit.netlist ordered s p n g i kind in_range net at drives one (flip_differs t w g ps) (hides ps all)
+      ∙ sensed_shows t.netlist order sound.circuit.netlist ordered s p n g i kind in_range net at drives one (flip_differs t w g ps) (unknown_hides t sound order ordered w g ps all)

@@ -32,7 +32,7 @@ in_shown u x (n ∷ ns) (suc j) lt shows =
       | inr not_there ↦ rw not_there later
     ]
 
-greatest-above : (ns : List ℕ) (j : ℕ) → j < length ns → get_or ns j 0 ≤ greatest ns
+pub greatest-above : (ns : List ℕ) (j : ℕ) → j < length ns → get_or ns j 0 ≤ greatest ns
 greatest-above [] j lt = absurd (omega arith)
 greatest-above (n ∷ ns) zero lt = omega arith
 greatest-above (n ∷ ns) (suc j) lt = omega (arith, greatest-above ns j (omega arith))

@@ -9,3 +9,10 @@ pub mod Behind
 pub mod Members
 pub mod BlockShows
 pub mod ShownWords
+pub mod XorChanges
+pub mod SeenBehind
+pub mod CompactModel
+pub mod SparseSums
+pub mod ShownFlips
+pub mod CompactShows
+pub mod BlockCounts

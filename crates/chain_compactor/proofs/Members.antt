@@ -36,7 +36,7 @@ cells_are_points t u (h ∷ hs) all = All-append (IsPoint t) (cell_shown t u h) 
       | inr not_there ↦ rw not_there (All-nil (IsPoint t))
     ]
 
-map_contained : (f g : Point → Tri) (ps : List Point) → ((p : Point) → Contains ps p → f p ≡ g p) → map f ps ≡ map g ps
+pub map_contained : (f g : Point → Tri) (ps : List Point) → ((p : Point) → Contains ps p → f p ≡ g p) → map f ps ≡ map g ps
 map_contained f g [] same = refl
 map_contained f g (p ∷ ps) same = rw (same p (contains_here p ps), map_contained f g ps (λ s there. same s (contains_later p s ps there))) refl
 
@@ -69,7 +69,7 @@ module _ (t : ScanTest) (c : Compactor) (made : IsCompactorOf t c) where
   pub members_are_points : (q : ℕ) → q < length c.points → All (IsPoint t) (members_at t c q)
   members_are_points q lt = behind_within (point_among c.points q) (point_within q lt)
 
-  value_is : (fault : Option Fault) (w : ℕ) (s : Point) → compact_value t c fault w s ≡ xor_of (map (observed t fault w) (members t c s))
+  pub value_is : (fault : Option Fault) (w : ℕ) (s : Point) → compact_value t c fault w s ≡ xor_of (map (observed t fault w) (members t c s))
   value_is fault w (Output k) = sym (xor_one (observed t fault w (Output k)))
   value_is fault w (Cell x u) = refl
 

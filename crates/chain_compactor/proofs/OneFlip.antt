@@ -3,8 +3,10 @@
 use Rattle.std.proofs.Common.{◌≡◌, ℕ, ◌<◌, Bool, true, false, cond, eqb, ◌&&◌, ◌||◌, List, [], ◌∷◌, length, map, Some, None, refl, sym, ap, subst, ◌∙◌, inl, inr}
 use Rattle.std.specs.Prelude.{Contains}
 use Rattle.std.specs.List.{list_any, AllByRecursion}
+use Rattle.std.proofs.Math.Bool.{or-false}
 use Rattle.std.proofs.lemmas.Bool.{cases_Bool, eq-eqb}
 use Rattle.scan_model.specs.declared.values.Tri.{Tri}
+use Rattle.scan_model.specs.declared.values.Tri.TheVariants.{Unknown}
 use Rattle.scan_model.specs.declared.circuit.Driver.{Driver}
 use Rattle.scan_model.specs.declared.circuit.Driver.TheVariants.{Input, Flop, Gate}
 use Rattle.scan_model.specs.declared.circuit.GateKind.{GateKind}
@@ -16,7 +18,7 @@ use Rattle.scan_model.specs.declared.fault.Fault.{Fault}
 use Rattle.scan_model.specs.declared.fault.Fault.TheVariants as fault
 use Rattle.scan_model.specs.declared.parts.Point.{Point}
 use Rattle.scan_model.specs.declared.parts.PatternKind.TheVariants.{Capture, Shift}
-use Rattle.scan_model.specs.Values.{IsAtLeast, are_opposite, xor_of}
+use Rattle.scan_model.specs.Values.{IsAtLeast, are_opposite, tri_not, xor_of}
 use Rattle.scan_model.specs.Netlist.{IsNetlist, IsPlacedAt, is_gate, is_gate_driver, pin_at, driver_of}
 use Rattle.scan_model.specs.Walks.{IsEvaluationOrder}
 use Rattle.scan_model.specs.ScanTest.{ScanTest, IsScanTest, IsPoint, HasSite, pattern_at}
@@ -38,10 +40,6 @@ use Rattle.scan_model.proofs.counting.Masks.{bridge_is_force}
 use Rattle.scan_model.proofs.counting.Shown.{not_opposite_itself, logic_keeps, shifted_same, observed_sees, observed_good, observed_net-in_range, point_pin-net, place_is_point-is}
 use Rattle.chain_compactor.specs.Flips.{differs, flip_differs, straight_value}
 use Rattle.chain_compactor.proofs.Xors.{map_above, map_same}
-
-or_false : (b : Bool) → (b || false) ≡ b
-or_false true = refl
-or_false false = refl
 
 abbrev is_operand_place : PinPlace → Bool
 is_operand_place (place.Operand n i) = true
@@ -91,6 +89,13 @@ module _ (t : ScanTest) (sound : IsScanTest t) (order : List ℕ) (ordered : IsE
     ])
   ]
 
+  -- a net that is X shows nothing
+  pub unknown_hides : (n : ℕ) (ps : List Point) → AllByRecursion (IsPoint t) ps → good n ≡ Unknown → flip_differs t w n ps ≡ false
+  unknown_hides n ps all is =
+      ap (λ (x : Tri). differs t w ps (λ q. values_of t.netlist s (force n (tri_not x)) (observed_net t q))) is
+      ∙ forced_differs n Unknown ps all
+      ∙ ap (λ (x : Tri). are_opposite x Unknown && flip_differs t w n ps) is
+
   none_straight : (ps : List Point) → differs t w ps unchanged ≡ false
   none_straight ps = not_opposite_itself (xor_of (map unchanged ps))
 
@@ -110,7 +115,7 @@ module _ (t : ScanTest) (sound : IsScanTest t) (order : List ℕ) (ordered : IsE
     stem_told m v =
         let shown = are_opposite (good m) (stuck_value v) && flip_differs t w m ps in
         forced_fails (fault.Stem m v) m (stuck_value v) (λ p is_point. observed_sees t sound (fault.Stem m v) w p is_point captures (logic_keeps (fault.Stem m v) p tt) ∙ ap (values_of t.netlist s (force m (stuck_value v))) (point_pin-net t sound p is_point))
-        ∙ sym (rw (eq-eqb m m refl, none_straight ps) (or_false (shown || false) ∙ or_false shown))
+        ∙ sym (rw (eq-eqb m m refl, none_straight ps) (or-false (shown || false) ∙ or-false shown))
 
     bridge_told : (a b : ℕ) (kind : BridgeKind) → HasSite t (fault.Bridge a b kind) → IsLoopFree t (fault.Bridge a b kind) → fails_at (fault.Bridge a b kind) ps ≡ is_told (fault.Bridge a b kind) ps
     bridge_told a b kind site free =
@@ -119,7 +124,7 @@ module _ (t : ScanTest) (sound : IsScanTest t) (order : List ℕ) (ordered : IsE
         forced_fails f one.0 (bridged kind (good a) (good b)) (λ p is_point.
         observed_sees t sound f w p is_point captures (logic_keeps f p tt) ∙ ap (net_value t (Some f) w) (point_pin-net t sound p is_point) ∙ one.1.values (observed_net t p) (observed_net-in_range t sound p is_point))
         ∙ sym (one.1.masks (λ n. flip_differs t w n ps))
-        ∙ sym (rw (none_straight ps) (or_false (list_any (λ n. mask t f w n && flip_differs t w n ps) (touched_nets t f))))
+        ∙ sym (rw (none_straight ps) (or-false (list_any (λ n. mask t f w n && flip_differs t w n ps) (touched_nets t f))))
 
     module _ (q : ℕ) (v : Stuck) (site : q < length t.netlist.pins) where
       abbrev f : Fault
@@ -154,7 +159,7 @@ module _ (t : ScanTest) (sound : IsScanTest t) (order : List ℕ) (ordered : IsE
           forced_fails (fault.Branch q v) n (forced_output t w (fault.Branch q v) n) (λ p is_point.
           let apart : eqb (point_pin t p) q ≡ false = sym (place_is_point-is t sound q p site is_point) ∙ off p in
           seen_at p is_point ∙ rw apart (gate_forced n i kind stands.0 at drives (observed_net t p) (observed_net-in_range t sound p is_point)))
-          ∙ sym (rw (nets, own_operand, not_straight, none_straight ps) (or_false (shown || false) ∙ or_false shown))
+          ∙ sym (rw (nets, own_operand, not_straight, none_straight ps) (or-false (shown || false) ∙ or-false shown))
         where
           gate_forced : (n i : ℕ) (kind : GateKind) → n < length t.netlist.nets → (pin_at t.netlist q).place ≡ place.Operand n i → driver_of t.netlist n ≡ Gate kind → (o : ℕ) → o < length t.netlist.nets
               → net_value t (Some (fault.Branch q v)) w o ≡ values_of t.netlist s (force n (forced_output t w (fault.Branch q v) n)) o

@@ -1,5 +1,5 @@
 -- Words of what the compact points show: one more of them, and all as the rows of expected values.
-use Rattle.std.proofs.Common.{◌≡◌, ℕ, ◌+◌, ◌*◌, ◌/◌, ◌%◌, ◌<◌, List, [], ◌∷◌, ◌++◌, length, get_or, None, sym, ap, ◌∙◌, inl, inr, arith}
+use Rattle.std.proofs.Common.{◌≡◌, ℕ, ◌+◌, ◌*◌, ◌/◌, ◌%◌, ◌<◌, List, [], ◌∷◌, ◌++◌, length, get_or, None, sym, ap, subst, ◌∙◌, inl, inr, arith}
 use Rattle.std.proofs.lemmas.Bool.{cases_eq}
 use Rattle.std.specs.Prelude.{All}
 use Rattle.std.proofs.lemmas.List.FromFn.{length-map-range_with_len, get_or-map-range_with_len}
@@ -13,6 +13,7 @@ use Rattle.scan_model.specs.BitTable.{table_rows}
 use Rattle.scan_model.specs.ScanTest.{ScanTest}
 use Rattle.scan_model.proofs.BitTables.{place_inside, tables_are}
 use Rattle.fail_logs.specs.IsFrame.{point_among}
+use Rattle.log_join.specs.Joining.{JoinedBits, IsJoinedOf, FitsExpected}
 use Rattle.chain_compactor.specs.declared.expected.Shown.{Shown}
 use Rattle.chain_compactor.specs.declared.expected.ShownWords.{ShownWords}
 use Rattle.chain_compactor.specs.Channels.{Compactor}
@@ -66,6 +67,10 @@ module _ (t : ScanTest) (c : Compactor) where
 
   rows_whole : All (λ row. length row ≡ length c.points) (compact_rows t c)
   rows_whole w d lt = ap length (row_is w d (omega (arith, length-rows))) ∙ length-map c.points (compact_value t c None w)
+
+  -- they fit joined logs of the compactor
+  pub rows_fit : (joined : JoinedBits) → IsJoinedOf (length t.patterns) (length c.points) joined → FitsExpected (compact_rows t c) joined
+  rows_fit joined is = (length-rows ∙ sym is.0, subst (λ (n : ℕ). All (λ row. length row ≡ n) (compact_rows t c)) (sym is.1) rows_whole)
 
   pub rows_are_shown : (words : ShownWords) → AreShown t c ((length t.patterns + 63) / 64 * length c.points) words
       → table_rows words.known words.ones (length t.patterns) (length c.points) ≡ compact_rows t c

@@ -14,7 +14,7 @@ use Rattle.scan_model.specs.Values.{xor_of, are_opposite}
 use Rattle.scan_model.specs.ChainShift.{value_at}
 use Rattle.scan_model.specs.ScanTest.{ScanTest}
 use Rattle.scan_model.specs.Response.{observed}
-use Rattle.scan_model.specs.Coverage.{bit_of}
+use Rattle.scan_model.specs.Coverage.{bits_over}
 use Rattle.scan_model.specs.Classes.{class_with}
 use Rattle.scan_model.specs.MatchCounts.{counts_by, candidates_by}
 use Rattle.scan_model.specs.Universe.{universe}
@@ -55,7 +55,7 @@ predicts_compact_fail t c f b = are_opposite (value_of_compact_bit t c None b) (
 
 -- all bits, by pattern and then by compact point
 abbrev pub compact_bits : ScanTest → Compactor → List Bit
-compact_bits t c = flat_map (λ w. map (bit_of w) (range_with_len 0 (length c.points))) (range_with_len 0 (length t.patterns))
+compact_bits t c = bits_over (length t.patterns) (length c.points)
 
 -- the class of a bit over the logs of a die
 abbrev pub compact_class : ScanTest → Compactor → List LogFacts → Bit → BitClass

@@ -5,3 +5,8 @@ pub mod CompactLog
 pub mod Compaction
 pub mod Flips
 pub mod Shown
+pub mod CompactReport
+pub mod Seeing
+pub mod CompactModel
+pub mod ShownFlips
+pub mod CompactCounts

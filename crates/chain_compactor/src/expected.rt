@@ -88,7 +88,7 @@ fn point_in_block(parts: &Parts, block: &Block, point: Point) -> Packed
 }
 
 /// How many cells a chain has.
-fn chain_length(parts: &Parts, chain: u32) -> usize
+pub(crate) fn chain_length(parts: &Parts, chain: u32) -> usize
     requires { chain < length parts.now.chains }
     ensures value { result ≡ model_length parts.now chain }
     ensures few { result ≤ 65536 }
@@ -127,7 +127,12 @@ fn channel_in_block(parts: &Parts, block: &Block, chains: &[u32], cycle: u32) ->
 }
 
 /// What a compact point shows in the 512 patterns of a block.
-fn shown_in_block(parts: &Parts, compact: &Compact, block: &Block, point: Point) -> Packed
+pub(crate) fn shown_in_block(
+    parts: &Parts,
+    compact: &Compact,
+    block: &Block,
+    point: Point,
+) -> Packed
     requires values { length block.now.values ≡ length parts.now.netlist.nets }
     requires made { IsCompactorOf parts.now compact.now }
     requires point { IsThere parts.now compact.now point }

@@ -1,17 +1,30 @@
 //! An XOR compactor behind the chains of a test: the channels of a text, their logs, and what a tester sees through them.
 #![tactic(auto)]
 
+mod block_parts;
+mod changes;
 mod channels;
 mod compactor;
+mod counting;
+mod counts;
+mod due;
 mod expected;
 mod in_order;
 mod laws;
 mod logs;
 mod named;
+mod names;
+mod observer;
 mod reading;
+mod showing;
+mod shown_changes;
+mod tables;
+mod text;
 
 pub use compactor::{Channel, Compact};
+pub use counting::compact_counts;
 pub use expected::compact_expected;
 pub use laws::{compact_flips, fails_behind};
 pub use logs::read_compact_log;
 pub use reading::read_channels;
+pub use text::compact_text;

@@ -30,8 +30,8 @@ fn channel_names(alloc: Global, channels: &[Channel]) -> Result<Names<'_>, Alloc
     Ok(names)
 }
 
-// In how many cycles each channel shows something.
-fn channel_cycles(
+/// In how many cycles each channel shows something.
+pub(crate) fn channel_cycles(
     alloc: Global,
     chains: &[Chain],
     channels: &[Channel],

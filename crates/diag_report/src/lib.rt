@@ -12,7 +12,7 @@ mod tally;
 mod text;
 
 pub use fails::{fails_text, fails_text_over};
-pub use names::{ReportNames, push_point};
+pub use names::{ReportNames, push_place, push_point, push_point_words};
 pub use ranking::rank;
 pub use report::{PastEnd, Report};
 pub use summary::summary_text;

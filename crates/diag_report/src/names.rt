@@ -57,7 +57,8 @@ impl ReportNames for PartsNames<'_> {
     }
 }
 
-fn push_point_words(line: &mut Name, parts: &Parts, point: Point) -> Result<(), NoMemory>
+/// Adds the words of a point, a space before each.
+pub fn push_point_words(line: &mut Name, parts: &Parts, point: Point) -> Result<(), NoMemory>
     requires { IsPoint parts.now point }
     ensures { OnOk result (line.new ≡ line.old ++ after_spaces (text_of.point_words parts.now point)) }
 {
@@ -85,7 +86,7 @@ pub fn push_point(line: &mut Name, parts: &Parts, point: u32) -> Result<(), NoMe
 }
 
 /// Adds the words of the fault at a place, a space before each.
-fn push_place(line: &mut Name, parts: &Parts, place: u32) -> Result<(), NoMemory>
+pub fn push_place(line: &mut Name, parts: &Parts, place: u32) -> Result<(), NoMemory>
     requires { place < length (universe parts.now) }
     ensures { OnOk result (line.new ≡ line.old ++ after_spaces (text_of.fault_words parts.now (slice_index_or (universe parts.now) place text_of.no_fault))) }
 {

@@ -1,0 +1,147 @@
+//! What compact points show where what the points behind them show changes.
+
+ghost use Rattle.std.specs.Prelude.{◌≡◌, ℕ, ◌<◌, ◌++◌, ◌∷◌, false, List, All, length, map, MatchOption};
+ghost use Rattle.std.specs.List.{list_any};
+ghost use Rattle.scan_model.specs.declared.values.Tri.{Tri};
+ghost use Rattle.scan_model.specs.Values.{is_unknown, are_opposite, xor_of};
+ghost use Rattle.scan_model.specs.ScanTest.{IsPoint};
+ghost use Rattle.lane_rows.specs.Lanes.{lane};
+ghost use Rattle.lane_rows.specs.Planes.{held};
+ghost use Rattle.packed_sim.specs.Changes.{IsChange};
+ghost use Rattle.chain_compactor.specs.Channels.{IsCompactorOf};
+ghost use Rattle.chain_compactor.specs.Compaction.{cell_shown, cells_shown, members};
+ghost use Rattle.chain_compactor.specs.Shown.{IsThere};
+
+use crate::compactor::Compact;
+use crate::expected::chain_length;
+use lane_rows::{Packed, Row};
+use scan_model::{Parts, Point};
+
+/// What the points of a test show in the lanes of a block, as changes of what they show without a fault.
+pub(crate) trait Changes {
+    ghost use Rattle.std.specs.Prelude.{ℕ};
+    ghost use Rattle.scan_model.specs.ScanTest.{ScanTest};
+    ghost use Rattle.scan_model.specs.declared.values.Tri.{Tri};
+    ghost use Rattle.scan_model.specs.declared.parts.Point.{Point};
+
+    ghost test: { Self → ScanTest };
+
+    /// What it reads belongs together.
+    ghost ready: { Self → Type 0 };
+
+    /// The lanes of which it tells.
+    ghost tells: { Self → ℕ → Type 0 };
+
+    /// What a point shows in a lane without a fault.
+    ghost good: { Self → ℕ → Point → Tri };
+
+    ghost shown: { Self → ℕ → Point → Tri };
+
+    /// By what a point's row changes, if it does.
+    fn change(&self, point: Point) -> Option<Packed>
+        requires ready { ready self.now }
+        requires point { IsPoint (test self.now) point }
+        ensures { MatchOption result ((j : ℕ) → j < 512 → tells self.now j → shown self.now j point ≡ good self.now j point)
+            (λ row. (j : ℕ) → j < 512 → tells self.now j → IsChange (good self.now j point) (held row j) (shown self.now j point)) };
+}
+
+/// A row that is an XOR over fault-free values, with what one point shows.
+fn changed<C: Changes>(changes: &C, row: Packed, point: Point) -> Packed
+    requires ready { C.ready changes.now }
+    requires point { IsPoint (C.test changes.now) point }
+    ensures { (j : ℕ) → j < 512 → C.tells changes.now j → (before after : List Tri) → held row j ≡ xor_of (before ++ C.good changes.now j point ∷ after) → is_unknown (C.good changes.now j point) ≡ false
+        → held result j ≡ xor_of (before ++ C.shown changes.now j point ∷ after) }
+{
+    match changes.change(point) {
+        Some(change) => row.xor(change),
+        None => row,
+    }
+}
+
+/// The same with what a chain shows in an unload cycle, if it shows something.
+fn chain_changed<C: Changes>(
+    changes: &C,
+    parts: &Parts,
+    row: Packed,
+    chain: u32,
+    cycle: u32,
+) -> Packed
+    requires ready { C.ready changes.now }
+    requires test { C.test changes.now ≡ parts.now }
+    requires chain { chain < length parts.now.chains }
+    ensures { (j : ℕ) → j < 512 → C.tells changes.now j → (before after : List Tri)
+        → held row j ≡ xor_of (before ++ (map (C.good changes.now j) (cell_shown parts.now cycle chain) ++ after)) → list_any is_unknown (map (C.good changes.now j) (cell_shown parts.now cycle chain)) ≡ false
+        → held result j ≡ xor_of (before ++ (map (C.shown changes.now j) (cell_shown parts.now cycle chain) ++ after)) }
+{
+    let length = chain_length(parts, chain);
+    if cycle as usize >= length {
+        return row;
+    }
+    let pos = (length - 1 - cycle as usize) as u32;
+    changed(changes, row, Point::Cell { chain, pos })
+}
+
+/// The same with what chains show in an unload cycle.
+fn chains_changed<C: Changes>(
+    changes: &C,
+    parts: &Parts,
+    expected: Packed,
+    chains: &[u32],
+    cycle: u32,
+) -> Packed
+    requires ready { C.ready changes.now }
+    requires test { C.test changes.now ≡ parts.now }
+    requires chains { All (λ h. h < length parts.now.chains) chains.now }
+    ensures { (j : ℕ) → j < 512 → C.tells changes.now j → held expected j ≡ xor_of (map (C.good changes.now j) (cells_shown parts.now cycle chains.now))
+        → list_any is_unknown (map (C.good changes.now j) (cells_shown parts.now cycle chains.now)) ≡ false → held result j ≡ xor_of (map (C.shown changes.now j) (cells_shown parts.now cycle chains.now)) }
+{
+    let mut row = expected;
+    for chain in chains {
+        row = chain_changed(changes, parts, row, *chain, cycle);
+    }
+    row
+}
+
+/// What a compact point shows, where fault-free no point behind it is X.
+fn shown_changed<C: Changes>(
+    changes: &C,
+    parts: &Parts,
+    compact: &Compact,
+    expected: Packed,
+    point: Point,
+) -> Packed
+    requires ready { C.ready changes.now }
+    requires test { C.test changes.now ≡ parts.now }
+    requires made { IsCompactorOf parts.now compact.now }
+    requires point { IsThere parts.now compact.now point }
+    ensures { (j : ℕ) → j < 512 → C.tells changes.now j → held expected j ≡ xor_of (map (C.good changes.now j) (members parts.now compact.now point))
+        → list_any is_unknown (map (C.good changes.now j) (members parts.now compact.now point)) ≡ false → held result j ≡ xor_of (map (C.shown changes.now j) (members parts.now compact.now point)) }
+{
+    match point {
+        Point::Output { .. } => changed(changes, expected, point),
+        Point::Cell { chain, pos } => {
+            let channel = &compact.channels().as_slice()[chain as usize];
+            chains_changed(changes, parts, expected, channel.chains.as_slice(), pos)
+        }
+    }
+}
+
+/// The lanes in which a compact point shows the opposite of what it shows without a fault. Where a point behind it is X without
+/// a fault, it shows no definite value, and nothing is its opposite.
+pub(crate) fn differing<C: Changes>(
+    changes: &C,
+    parts: &Parts,
+    compact: &Compact,
+    expected: Packed,
+    point: Point,
+) -> Row
+    requires ready { C.ready changes.now }
+    requires test { C.test changes.now ≡ parts.now }
+    requires made { IsCompactorOf parts.now compact.now }
+    requires point { IsThere parts.now compact.now point }
+    ensures { (j : ℕ) → j < 512 → C.tells changes.now j → held expected j ≡ xor_of (map (C.good changes.now j) (members parts.now compact.now point))
+        → lane result j ≡ are_opposite (xor_of (map (C.good changes.now j) (members parts.now compact.now point))) (xor_of (map (C.shown changes.now j) (members parts.now compact.now point))) }
+{
+    let shown = shown_changed(changes, parts, compact, expected, point);
+    expected.opposite(shown)
+}

@@ -1,0 +1,133 @@
+//! What points show under a flip of a net, under a stuck pin that goes straight to them, and under a fault of a shift path.
+
+ghost use Rattle.std.specs.Prelude.{◌≡◌};
+
+use crate::changes::Changes;
+use lane_rows::Packed;
+use packed_sim::{PackedGood, Scratch, is_pin_of, net_of_point, stuck_at};
+use scan_model::{CellKind, Parts, Point, Stuck};
+
+/// A flip of a net, as a scratch shows it.
+#[derive(Clone, Copy)]
+pub(crate) struct FlipChanges<'a> {
+    pub(crate) parts: &'a Parts,
+    pub(crate) good: &'a PackedGood,
+    pub(crate) block: usize,
+    pub(crate) net: u32,
+    pub(crate) scratch: &'a Scratch,
+}
+
+impl Changes for FlipChanges<'_> {
+    ghost use Rattle.std.specs.Prelude.{◌≡◌, true};
+    ghost use Rattle.scan_model.specs.NetValue.{good_value};
+    ghost use Rattle.scan_model.specs.Suspect.{observed_net};
+    ghost use Rattle.scan_model.specs.Masks.{flipped};
+    ghost use Rattle.lane_rows.specs.GoodRows.{pattern_of};
+    ghost use Rattle.packed_sim.specs.Belongs.{captures};
+    ghost use Rattle.chain_compactor.specs.ShownFlips.{ShowsFlip};
+
+    ghost test = { λ o. o.parts.now };
+
+    ghost ready = { λ o. ShowsFlip o.parts.now o.good.now o.block o.net o.scratch.now };
+
+    ghost tells = { λ o j. captures o.parts.now (pattern_of o.block j) ≡ true };
+
+    ghost good = { λ o j p. good_value o.parts.now (pattern_of o.block j) (observed_net o.parts.now p) };
+
+    ghost shown = { λ o j p. flipped o.parts.now (pattern_of o.block j) o.net (observed_net o.parts.now p) };
+
+    fn change(&self, point: Point) -> Option<Packed> {
+        let _ = self.parts.chains();
+        let net = net_of_point(self.parts, point);
+        match self.good.change(self.parts, self.scratch, self.block, net) {
+            Some(change) => Some(change),
+            None => None,
+        }
+    }
+}
+
+/// A stuck pin, over fault-free rows.
+#[derive(Clone, Copy)]
+pub(crate) struct PinChanges<'a> {
+    pub(crate) parts: &'a Parts,
+    pub(crate) good: &'a PackedGood,
+    pub(crate) block: usize,
+    pub(crate) pin: u32,
+    pub(crate) value: Stuck,
+}
+
+impl Changes for PinChanges<'_> {
+    ghost use Rattle.std.specs.Prelude.{◌≡◌, true};
+    ghost use Rattle.scan_model.specs.declared.fault.Fault.TheVariants as fault;
+    ghost use Rattle.scan_model.specs.NetValue.{good_value};
+    ghost use Rattle.scan_model.specs.Suspect.{observed_net};
+    ghost use Rattle.lane_rows.specs.GoodRows.{pattern_of};
+    ghost use Rattle.packed_sim.specs.Belongs.{captures};
+    ghost use Rattle.chain_compactor.specs.Flips.{straight_value};
+    ghost use Rattle.chain_compactor.specs.ShownFlips.{IsStuckIn};
+
+    ghost test = { λ o. o.parts.now };
+
+    ghost ready = { λ o. IsStuckIn o.parts.now o.good.now o.block o.pin };
+
+    ghost tells = { λ o j. captures o.parts.now (pattern_of o.block j) ≡ true };
+
+    ghost good = { λ o j p. good_value o.parts.now (pattern_of o.block j) (observed_net o.parts.now p) };
+
+    ghost shown = { λ o j p. straight_value o.parts.now (fault.Branch o.pin o.value) (pattern_of o.block j) p };
+
+    fn change(&self, point: Point) -> Option<Packed> {
+        let _ = self.parts.chains();
+        if !is_pin_of(self.parts, self.pin, point) {
+            return None;
+        }
+        let net = net_of_point(self.parts, point);
+        let good = self.good.blocks()[self.block].values.as_slice()[net as usize];
+        let stuck = Packed::all(stuck_at(self.value));
+        Some(good.xor(stuck))
+    }
+}
+
+/// A fault of a shift path, over the chain loaded as under it.
+#[derive(Clone, Copy)]
+pub(crate) struct CellChanges<'a> {
+    pub(crate) parts: &'a Parts,
+    pub(crate) good: &'a PackedGood,
+    pub(crate) block: usize,
+    pub(crate) behind: (u32, u32),
+    pub(crate) kind: CellKind,
+    pub(crate) scratch: &'a Scratch,
+}
+
+impl Changes for CellChanges<'_> {
+    ghost use Rattle.std.specs.Prelude.{◌<◌, length, Some, None};
+    ghost use Rattle.scan_model.specs.declared.fault.Fault.TheVariants as fault;
+    ghost use Rattle.scan_model.specs.Response.{observed};
+    ghost use Rattle.lane_rows.specs.GoodRows.{pattern_of};
+    ghost use Rattle.chain_compactor.specs.ShownFlips.{ShowsCell};
+
+    ghost test = { λ o. o.parts.now };
+
+    ghost ready = { λ o. ShowsCell o.parts.now o.good.now o.block o.behind.0 o.behind.1 o.kind o.scratch.now };
+
+    ghost tells = { λ o j. pattern_of o.block j < length o.parts.now.patterns };
+
+    ghost good = { λ o j p. observed o.parts.now None (pattern_of o.block j) p };
+
+    ghost shown = { λ o j p. observed o.parts.now (Some (fault.Cell o.behind.0 o.behind.1 o.kind)) (pattern_of o.block j) p };
+
+    fn change(&self, point: Point) -> Option<Packed> {
+        let changed = self.good.shown_change(
+            self.parts,
+            self.scratch,
+            self.block,
+            self.behind,
+            self.kind,
+            point,
+        );
+        match changed {
+            Some(change) => Some(change),
+            None => None,
+        }
+    }
+}
