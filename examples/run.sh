@@ -41,6 +41,8 @@ the_day() {
     expect 0 pack.expected pack block.bench block.scan block.pat block.csv
     expect 0 report.expected diagnose block wafer3.17 block.bench block.scan block.pat block.csv first.log second.log
     expect 0 report.expected diagnose block wafer3.17 block.bench block.scan block.pat block.csv second.log first.log second.log
+    expect 0 loc.expected loc block wafer3.18 block.bench block.scan launch.pat launch.log
+    expect 0 compact.expected compact block wafer3.19 block.bench short.scan short.pat block.csv short.chan short.log
     expect 0 demo.expected demo 7 2
     expect 0 demo.expected demo 7 2
     # 23,000 nets and 512 patterns, for which plain simulation would take hours: it is cut off.
@@ -73,6 +75,19 @@ expect_rule() {
             expect_line 3 "example line $3 rule $2" diagnose s27 D1 s27.bench s27.scan s27.pat none.csv example
             return
             ;;
+        launches)
+            expect_line 3 "example line $3 rule $2" loc s27 D1 s27.bench s27.scan example gone
+            return
+            ;;
+        channels)
+            expect_line 3 "example line $3 rule $2" compact s27 D1 s27.bench s27.scan s27.pat none.csv example gone
+            return
+            ;;
+        compactlog)
+            echo 'CHANNEL x c0' >one.chan
+            expect_line 3 "example line $3 rule $2" compact s27 D1 s27.bench s27.scan s27.pat none.csv one.chan example
+            return
+            ;;
     esac
     expect_line 3 "$name line $3 rule $2" check s27.bench s27.scan s27.pat none.csv
 }
@@ -84,6 +99,8 @@ told_example() {
         9) awk 'BEGIN { for (i = 0; i < 65537; i++) print "INPUT(n" i ")" }' ;;
         15) awk 'BEGIN { for (i = 0; i < 257; i++) print "CHAIN c" i " q" i }' ;;
         25) awk 'BEGIN { for (i = 0; i < 4097; i++) print "SHIFT 101" }' ;;
+        104) awk 'BEGIN { for (i = 0; i < 257; i++) print "CHANNEL x" i " c0" }' ;;
+        105) awk 'BEGIN { for (i = 0; i < 256; i++) print "CHANNEL x" i " c" }' ;;
         34) awk 'BEGIN { print "net_a,net_b"; for (i = 0; n < 65537; i++) for (j = 0; j < i && n < 65537; j++) { print "n" i ",n" j; n++ } }' ;;
     esac
 }
@@ -93,6 +110,7 @@ told_netlist() {
     case $1 in
         15) awk 'BEGIN { print "INPUT(a)"; for (i = 0; i < 257; i++) print "q" i " = DFF(a)" }' ;;
         34) awk 'BEGIN { for (i = 0; i < 363; i++) print "INPUT(n" i ")" }' ;;
+        105) awk 'BEGIN { print "INPUT(a)"; for (i = 0; i < 513; i++) print "q" i " = DFF(a)" }' ;;
     esac
 }
 
@@ -109,6 +127,12 @@ expect_told_rule() {
             { printf 'CAPTURE '; printf '%0363d\n' 0; } >n.pat
             expect_line 3 "example line $3 rule 34" check n.bench empty n.pat example
             ;;
+        105)
+            told_netlist 105 >q.bench
+            awk 'BEGIN { printf "CHAIN c"; for (i = 0; i < 513; i++) printf " q" i; print "" }' >q.scan
+            { printf 'SHIFT '; printf '%0513d\n' 0; } >q.pat
+            expect_line 3 "example line $3 rule 105" compact q D1 q.bench q.scan q.pat none.csv example gone
+            ;;
         *) expect_rule "$@" ;;
     esac
 }
@@ -117,7 +141,7 @@ expect_told_rule() {
 # KIND|RULE|LINE|EXAMPLE.
 rules() {
     awk '
-        /^## / { kind = ""; split("Netlist:netlist Scan:scan Pattern:patterns Neighbour:neighbours Fail:log Bundle:bundle", kinds, " ")
+        /^## / { kind = ""; split("Netlist:netlist Scan:scan Pattern:patterns Two-frame:launches Neighbour:neighbours Channels:channels Fail:log Log:compactlog Bundle:bundle", kinds, " ")
             for (i in kinds) { split(kinds[i], k, ":"); if ($2 ~ "^" k[1]) kind = k[2] } }
         kind != "" && /^\| [0-9]+ \|/ { split($0, cell, " *[|] *"); print kind "|" cell[2] "|" cell[5] "|" cell[4] }
     ' "$top/docs/formats.md"

@@ -1,7 +1,7 @@
 -- The arguments of the commands: the name of each, and what its word must be.
 use Rattle.std.specs.Prelude.{ℕ, List, codes}
 use Rattle.command_words.specs.declared.argument.Argument.{Argument}
-use Rattle.command_words.specs.declared.argument.Argument.TheVariants.{Design, Die, Netlist, Scan, Patterns, Neighbours, Seed, Blocks, Port, Workers, Sessions, Store}
+use Rattle.command_words.specs.declared.argument.Argument.TheVariants.{Design, Die, Netlist, Scan, Patterns, Neighbours, Channels, Seed, Blocks, Port, Workers, Sessions, Store}
 use Rattle.command_words.specs.declared.argument.Kind.{Kind}
 use Rattle.command_words.specs.declared.argument.Kind.TheVariants.{Plain, Tag, Number}
 
@@ -12,6 +12,7 @@ name_of Netlist = codes "netlist"
 name_of Scan = codes "scan"
 name_of Patterns = codes "patterns"
 name_of Neighbours = codes "neighbours"
+name_of Channels = codes "channels"
 name_of Seed = codes "seed"
 name_of Blocks = codes "blocks"
 name_of Port = codes "port"
@@ -27,6 +28,7 @@ kind_of Netlist = Plain
 kind_of Scan = Plain
 kind_of Patterns = Plain
 kind_of Neighbours = Plain
+kind_of Channels = Plain
 kind_of Seed = Number 0 4294967295
 kind_of Blocks = Number 1 200
 kind_of Port = Number 1 65535

@@ -22,11 +22,12 @@ pub record DesignNames : Type 0 where
   pub patterns : List ℕ
   pub neighbours : List ℕ
 
--- and the tags of a design and a die, and the names of the logs
+-- and the tags of a design and a die, the name of the channels of a compactor, and the names of the logs
 pub record Request : Type 0 where
   pub design : List ℕ
   pub die : List ℕ
   pub files : DesignNames
+  pub channels : List ℕ
   pub logs : List (List ℕ)
 
 -- the connections of a port over a store
@@ -77,6 +78,7 @@ module _ (word_of : Argument → List ℕ) (logs : List (List ℕ)) where
       patterns = word_of argument.Patterns;
       neighbours = word_of argument.Neighbours;
     };
+    channels = word_of argument.Channels;
     logs = logs;
   }
 

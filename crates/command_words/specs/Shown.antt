@@ -22,7 +22,7 @@ shown_files files = record {
 }
 
 abbrev pub shown_order : Order → Request
-shown_order r = record { design = r.design.now; die = r.die.now; files = shown_files r.files; logs = map (λ name. name.now) r.logs.items }
+shown_order r = record { design = r.design.now; die = r.die.now; files = shown_files r.files; channels = r.channels.now; logs = map (λ name. name.now) r.logs.items }
 
 abbrev pub shown_service : code_service.Service → Service
 shown_service s = record { port = s.port; workers = s.workers; sessions = s.sessions; store = s.store.now }

@@ -1,9 +1,9 @@
 -- The table of the commands.
-use Rattle.std.specs.Prelude.{ℕ, Bool, true, false, List, [], ◌∷◌, codes}
+use Rattle.std.specs.Prelude.{ℕ, Bool, true, false, List, [], ◌∷◌, ◌++◌, codes}
 use Rattle.scan_model.specs.declared.fault.Profile.TheVariants.{One, Two}
 use Rattle.command_words.specs.declared.argument.Argument.{Argument}
-use Rattle.command_words.specs.declared.argument.Argument.TheVariants.{Design, Die, Netlist, Scan, Patterns, Neighbours, Seed, Blocks, Port, Workers, Sessions, Store}
-use Rattle.command_words.specs.declared.table.Product.TheVariants.{Summary, Bundle, Report}
+use Rattle.command_words.specs.declared.argument.Argument.TheVariants.{Design, Die, Netlist, Scan, Patterns, Neighbours, Channels, Seed, Blocks, Port, Workers, Sessions, Store}
+use Rattle.command_words.specs.declared.table.Product.TheVariants.{Summary, Bundle, Report, TransitionReport, CompactReport}
 use Rattle.command_words.specs.declared.table.Task.{Task}
 use Rattle.command_words.specs.declared.table.Task.TheVariants.{Make, Demo, Serve}
 
@@ -14,9 +14,12 @@ pub record Form : Type 0 where
   pub arguments : List Argument
   pub has_logs : Bool
 
--- the files of a design
+-- the files of a design, and those of one that is tested with two-frame patterns
 abbrev pub design_files : List Argument
 design_files = Netlist ∷ Scan ∷ Patterns ∷ Neighbours ∷ []
+
+abbrev pub launch_files : List Argument
+launch_files = Netlist ∷ Scan ∷ Patterns ∷ []
 
 abbrev pub commands : List Form
 commands =
@@ -26,6 +29,8 @@ commands =
     ∷ record { word = codes "pack2"; task = Make Bundle Two; arguments = design_files; has_logs = false }
     ∷ record { word = codes "diagnose"; task = Make Report One; arguments = Design ∷ Die ∷ design_files; has_logs = true }
     ∷ record { word = codes "diagnose2"; task = Make Report Two; arguments = Design ∷ Die ∷ design_files; has_logs = true }
+    ∷ record { word = codes "loc"; task = Make TransitionReport One; arguments = Design ∷ Die ∷ launch_files; has_logs = true }
+    ∷ record { word = codes "compact"; task = Make CompactReport One; arguments = Design ∷ Die ∷ (design_files ++ Channels ∷ []); has_logs = true }
     ∷ record { word = codes "demo"; task = Demo; arguments = Seed ∷ Blocks ∷ []; has_logs = false }
     ∷ record { word = codes "serve"; task = Serve; arguments = Port ∷ Workers ∷ Sessions ∷ Store ∷ []; has_logs = false }
     ∷ []

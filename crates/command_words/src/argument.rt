@@ -11,6 +11,7 @@ pub enum Argument {
     Scan,
     Patterns,
     Neighbours,
+    Channels,
     Seed,
     Blocks,
     Port,
@@ -41,6 +42,7 @@ impl Argument {
             Argument::Scan => "scan",
             Argument::Patterns => "patterns",
             Argument::Neighbours => "neighbours",
+            Argument::Channels => "channels",
             Argument::Seed => "seed",
             Argument::Blocks => "blocks",
             Argument::Port => "port",
@@ -60,6 +62,7 @@ impl Argument {
             | Argument::Scan
             | Argument::Patterns
             | Argument::Neighbours
+            | Argument::Channels
             | Argument::Store => Kind::Plain,
             Argument::Seed => Kind::Number {
                 least: 0,

@@ -62,6 +62,7 @@ fn order_in<'a>(
         design: word_in(matches, Argument::Design),
         die: word_in(matches, Argument::Die),
         files: files_in(profile, matches),
+        channels: word_in(matches, Argument::Channels),
         logs: logs_in(alloc, matches)?,
     })
 }

@@ -18,6 +18,8 @@ pub struct Order<'a> {
     pub design: &'a str,
     pub die: &'a str,
     pub files: DesignFiles<'a>,
+    /// The channels of a compactor.
+    pub channels: &'a str,
     pub logs: Vec<&'a str>,
 }
 

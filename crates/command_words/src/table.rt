@@ -11,6 +11,10 @@ pub enum Product {
     Bundle,
     /// The report of a die.
     Report,
+    /// The report of a die on transition faults, over two-frame patterns.
+    TransitionReport,
+    /// The report of a die that was seen through a compactor.
+    CompactReport,
 }
 
 /// What a command does.
@@ -54,6 +58,26 @@ const DIE: &[Argument] = &[
     Argument::Neighbours,
 ];
 
+// The tags, and the files of a design that is tested with two-frame patterns.
+const LAUNCHED: &[Argument] = &[
+    Argument::Design,
+    Argument::Die,
+    Argument::Netlist,
+    Argument::Scan,
+    Argument::Patterns,
+];
+
+// The tags, the files of the design, and the channels of a compactor.
+const COMPACTED: &[Argument] = &[
+    Argument::Design,
+    Argument::Die,
+    Argument::Netlist,
+    Argument::Scan,
+    Argument::Patterns,
+    Argument::Neighbours,
+    Argument::Channels,
+];
+
 const MADE: &[Argument] = &[Argument::Seed, Argument::Blocks];
 
 const SERVED: &[Argument] = &[
@@ -64,7 +88,7 @@ const SERVED: &[Argument] = &[
 ];
 
 /// The commands.
-pub const COMMANDS: [Form; 8] = [
+pub const COMMANDS: [Form; 10] = [
     Form {
         word: "check",
         task: Task::Make(Product::Summary, Profile::One),
@@ -99,6 +123,18 @@ pub const COMMANDS: [Form; 8] = [
         word: "diagnose2",
         task: Task::Make(Product::Report, Profile::Two),
         arguments: DIE,
+        has_logs: true,
+    },
+    Form {
+        word: "loc",
+        task: Task::Make(Product::TransitionReport, Profile::One),
+        arguments: LAUNCHED,
+        has_logs: true,
+    },
+    Form {
+        word: "compact",
+        task: Task::Make(Product::CompactReport, Profile::One),
+        arguments: COMPACTED,
         has_logs: true,
     },
     Form {

@@ -1,4 +1,12 @@
 pub mod FilePlaces
+pub mod ReadFiles
 pub mod Pages
 pub mod NoPage
+pub mod DifferentTexts
 pub mod ReadLogs
+pub mod CaseLogs
+pub mod JoinedLogs
+pub mod NoPairs
+pub mod Candidates
+pub mod RowsFit
+pub mod ViewReports

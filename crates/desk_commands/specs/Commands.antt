@@ -2,10 +2,11 @@
 use Rattle.std.specs.Prelude.{ℕ, List, [], Option, None, Some, codes}
 use Rattle.desk_outside.specs.declared.shelf.File.{File}
 use Rattle.command_words.specs.declared.table.Product.{Product}
-use Rattle.command_words.specs.declared.table.Product.TheVariants.{Summary, Bundle, Report}
+use Rattle.command_words.specs.declared.table.Product.TheVariants.{Summary, Bundle, Report, TransitionReport, CompactReport}
 use Rattle.command_words.specs.Asked.{Asked, making, trying, serving, Request, asked}
 use Rattle.desk_commands.specs.Reading.{Reading}
 use Rattle.desk_commands.specs.Work.{Output, output_of, check_reading, pack_reading, report_reading}
+use Rattle.desk_commands.specs.Views.{loc_reading, compact_reading}
 use Rattle.desk_commands.specs.Demo.{demo_output}
 
 abbrev pub misunderstood : Output
@@ -17,6 +18,8 @@ module _ (files : List File) where
   product_reading Summary request = check_reading files request.files
   product_reading Bundle request = pack_reading files request.files
   product_reading Report request = report_reading files request
+  product_reading TransitionReport request = loc_reading files request
+  product_reading CompactReport request = compact_reading files request
 
   -- the status, the bytes to write and the files read of what words ask for; `serve` comes to no page
   abbrev pub output_for : Option Asked → Output

@@ -5,4 +5,5 @@ pub mod Commands
 pub mod Stops
 pub mod Ending
 pub mod Logs
+pub mod Views
 pub mod Designs

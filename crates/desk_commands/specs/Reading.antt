@@ -29,6 +29,10 @@ file_place files name = record { name = name; text = served (text_of files name)
 abbrev pub for_fault : ℕ × ℕ → Refusal
 for_fault fault = Rule (record { line = fault.0; rule = fault.1 })
 
+-- what the text of a file stands for by its rules
+abbrev pub file_reading : {X : Type 0} → List File → (List ℕ → Result X (ℕ × ℕ)) → List ℕ → Reading X
+file_reading files reads name = texts.one_text (file_place files name) (λ text. texts.by_rules for_fault (reads text))
+
 -- the files of a design, in its profile
 abbrev pub files_source : List File → DesignNames → texts.Source (List ℕ) Refusal
 files_source files names = record {

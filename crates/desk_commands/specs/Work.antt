@@ -44,10 +44,13 @@ module _ (files : List File) (frame : LogFrame) where
   abbrev pub logs_reading : List (List ℕ) → Reading (List (List ℕ))
   logs_reading names = logs_after [] names
 
+  -- what is reported of the logs of these names
+  abbrev pub logs_report : List (List ℕ) → (List (List ℕ) → List ℕ) → Reading (List ℕ)
+  logs_report names report = and_then (logs_reading names) (λ texts. value (report texts))
+
 -- the report of the logs of a request, over its scan test
 abbrev pub with_design : List File → Request → ReadTexts → Reading (List ℕ)
-with_design files r d =
-    and_then (logs_reading files (log_frame d.test r.design r.die) r.logs) (λ texts. value (die_report d.test r.design r.die texts))
+with_design files r d = logs_report files (log_frame d.test r.design r.die) r.logs (die_report d.test r.design r.die)
 
 -- the report of the files of a request
 abbrev pub report_reading : List File → Request → Reading (List ℕ)

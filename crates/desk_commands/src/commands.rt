@@ -1,7 +1,9 @@
 //! What a command comes to: its page, or the line of what stopped it.
 pub mod check;
+pub mod compact;
 pub mod demo;
 pub mod diagnose;
+pub mod loc;
 pub mod pack;
 
 ghost use Rattle.std.specs.Prelude.{◌≡◌, ◌≤◌, List, Some, IfOk, true};
@@ -14,8 +16,10 @@ ghost use Rattle.desk_commands.specs.Stops.{Follows, IsPageOfAnswer, ends_by_fau
 ghost use Rattle.desk_commands.specs.Ending.{IsDueOf, is_one_of, page_statuses};
 
 use crate::commands::check::summary_of;
+use crate::commands::compact::compact_report_of;
 use crate::commands::demo::demo_page;
 use crate::commands::diagnose::report_of;
+use crate::commands::loc::transition_report_of;
 use crate::commands::pack::bundle_of;
 use crate::files::Stop;
 use crate::page::{Page, page_of};
@@ -42,6 +46,8 @@ fn product_of<'a, R: Threads + Sync, F: Shelf>(
         Product::Summary => summary_of(alloc, shelf, &order.files),
         Product::Bundle => bundle_of(alloc, shelf, &order.files),
         Product::Report => report_of(rt, alloc, shelf, order),
+        Product::TransitionReport => transition_report_of(alloc, shelf, order),
+        Product::CompactReport => compact_report_of(alloc, shelf, order),
     }
 }
 

@@ -4,7 +4,10 @@
 mod commands;
 mod design;
 mod files;
+mod launches;
+mod logs;
 mod page;
+mod views;
 
 pub use commands::page_of_command;
 pub use page::Page;

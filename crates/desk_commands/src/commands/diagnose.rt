@@ -1,6 +1,4 @@
 //! `diagnose`: the report of the logs of a die.
-mod logs;
-
 ghost use Rattle.std.specs.Prelude.{◌≡◌, ◌≤◌, List, [], Some, map, true};
 ghost use Rattle.desk_outside.specs.declared.shelf.File.{File};
 ghost use Rattle.desk_outside.specs.Faults.{Rose};
@@ -12,9 +10,9 @@ ghost use Rattle.desk_commands.specs.Work.{with_design, report_reading};
 ghost use Rattle.command_words.specs.Shown.{shown_order};
 ghost use Rattle.desk_commands.specs.Stops.{Follows, ends_by_fault};
 
-use crate::commands::diagnose::logs::add_logs;
 use crate::design::read_design;
 use crate::files::Stop;
+use crate::logs::add_logs;
 use command_words::Order;
 use desk_outside::Shelf;
 use diagnosis::{Case, ReadDesign, case_report};

@@ -1,14 +1,22 @@
-use Rattle.std.proofs.Common.{map}
+use Rattle.std.proofs.Common.{◌∙◌, ℕ, List, Ok, Err, map, subst}
 use Rattle.std.proofs.lemmas.Result.{err_from_is_err_and}
-use Rattle.scan_model.specs.ReportText.{joined}
+use Rattle.scan_model.specs.LogText.{log_frame}
+use Rattle.scan_model.specs.DieReport.{die_report}
+use Rattle.diagnosis.specs.Designs.{texts_of}
+use Rattle.desk_commands.specs.Reading.{Reading}
+use Rattle.desk_commands.specs.Stops.{Follows}
 use Rattle.desk_commands.proofs.ReadLogs.{no_report, report_follows}
+use Rattle.desk_commands.proofs.CaseLogs.{report_is, same_reading}
 use Rattle.desk_commands.proofs.commands.diagnose.report_of_case.Goals as goal
 
 pub returns-in_err-add_logs-clause-told : goal.returns-in_err-add_logs-clause-told
 returns-in_err-add_logs-clause-told g c = λ held r d test design die logs e.
+    let k = c.args.case.now in
+    let names = map (λ name. name.now) c.args.names.now in
+    let stop = c.in_err-add_logs.field-0.0 in
     let is = err_from_is_err_and c.from_residual.result c.from_residual.ensures.1 in
-    rw (is.1, is.2) (no_report held r d c.args.case.now (map (λ name. name.now) c.args.names.now) test design die logs c.in_err-add_logs.field-0.0
-    (c.in_err-add_logs.ensures.stops held e))
+    rw (is.1, is.2) (subst (λ (reading : Reading (List ℕ)). Follows {X = List ℕ} (Err stop) reading) (same_reading held r d k names test design die logs)
+    (no_report held (log_frame k.test k.design k.die) names (die_report k.test k.design k.die) stop (c.in_err-add_logs.ensures.stops held e)))
 
 pub returns-in_err-report-clause-told : goal.returns-in_err-report-clause-told
 returns-in_err-report-clause-told g c = λ held r d test design die logs e.
@@ -17,5 +25,10 @@ returns-in_err-report-clause-told g c = λ held r d test design die logs e.
 
 pub returns-clause-told : goal.returns-clause-told
 returns-clause-told g c = λ held r d test design die logs e.
-    report_follows held r d c.args.case.now (map (λ name. name.now) c.args.names.now) test design die logs c.add_logs.new.case (joined c.in_ok-report.report)
-    c.into_text.result c.add_logs.ensures.kept (c.in_ok-add_logs.ensures.read held e) c.in_ok-report.ensures.any_order c.into_text.ensures
+    let k = c.args.case.now in
+    let names = map (λ name. name.now) c.args.names.now in
+    let new = c.add_logs.new.die in
+    let read = c.in_ok-add_logs.ensures.read held e in
+    let written = c.into_text.ensures ∙ c.in_ok-report.ensures.report ∙ report_is k new read.all c.add_logs.ensures.kept read.are_different in
+    subst (λ (reading : Reading (List ℕ)). Follows (Ok c.into_text.result) reading) (same_reading held r d k names test design die logs)
+    (report_follows held (log_frame k.test k.design k.die) names (die_report k.test k.design k.die) (texts_of new.logs) c.into_text.result read written)
