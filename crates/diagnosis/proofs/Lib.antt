@@ -28,6 +28,4 @@ pub mod AnyOrder
 pub mod LogFits
 pub mod Places
 pub mod Reports
-pub mod BlockShows
-pub mod ShownWords
 mod CutReports

@@ -9,4 +9,3 @@ pub mod Designs
 pub mod Adding
 pub mod Cases
 pub mod Subjects
-pub mod FaultFree

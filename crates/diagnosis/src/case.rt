@@ -16,11 +16,11 @@ ghost use Rattle.diagnosis.specs.Cases.{IsLogOver, AddedAmong, IsTextAdded, with
 ghost use Rattle.diagnosis.specs.Subjects.{IsSubject, subject_case};
 
 use crate::diagnosed::{Diagnosis, Subject, diagnosis_of};
-use crate::fault_free::responses_over;
 use crate::log::{ReadLog, log_over};
 use crate::logs::push_log;
 use crate::put::Put;
 use diag_report::{Report, fails_text_over};
+use expected_values::expected_at_points;
 use packed_sim::PackedGood;
 use scan_model::{Expected, Name, NoMemory, Parts, Rows};
 use std::alloc::Global;
@@ -81,7 +81,7 @@ fn simulated(alloc: Global, parts: &Parts) -> Result<Simulation, NoMemory>
     ensures expected { IfOk result (λ made. made.expected ≡ expected_rows parts.now) }
 {
     let good = PackedGood::make(alloc, parts)?;
-    let expected = responses_over(alloc, parts, good.rows())?;
+    let expected = expected_at_points(alloc, parts, good.rows())?;
     Ok(Simulation { good, expected })
 }
 

@@ -8,7 +8,6 @@ ghost use Rattle.scan_model.specs.Ranking.{ranked};
 ghost use Rattle.scan_model.specs.ReportText as text_of;
 ghost use Rattle.diagnosis.specs.Designs.{view_lines, view_report, texts_of, facts_of, HaveSameTexts};
 
-use crate::design::Design;
 use crate::diagnosed::{Diagnosis, Subject, diagnosis_of};
 use crate::view::DieView;
 use diag_report::Report;
@@ -30,7 +29,7 @@ pub fn make_diagnosis<R: Threads + Sync>(
     ensures cut { IfOk result (λ d. pieces (view_report view.now) ≡ d.report) }
     ensures candidates { IfOk result (λ d. d.candidates ≡ ranked (candidates view.now.design.test (facts_of view.now.logs))) }
 {
-    let design: &Design = view.design();
+    let design = view.design();
     let parts = design.parts();
     let good = PackedGood::make(alloc, parts)?;
     let subject = Subject {
@@ -39,7 +38,7 @@ pub fn make_diagnosis<R: Threads + Sync>(
         parts,
         good: &good,
         expected: design.expected(),
-        logs: view.logs(),
+        logs: view.logs().as_slice(),
     };
     diagnosis_of(rt, alloc, &subject)
 }

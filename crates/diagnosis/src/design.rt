@@ -11,9 +11,10 @@ ghost use Rattle.diagnosis.specs.Reading.{four, RefusedBy};
 ghost use Rattle.diag_report.specs.PredictedLog.{HasWordNames};
 
 use crate::bundle::{Sections, bundle_text, split};
-use crate::fault_free::fault_free_responses;
 use crate::section::{BundleFault, Section};
 use crate::texts::read_texts;
+use expected_values::expected_at_points;
+use lane_rows::GoodRows;
 use scan_model::{Digest, Expected, Name, NoMemory, Parts, Profile};
 use sha2::Sha256;
 use std::alloc::Global;
@@ -52,7 +53,8 @@ fn with_responses(alloc: Global, parts: Parts) -> Result<Simulated, NoMemory>
     ensures parts { IfOk result (λ made. made.parts ≡ parts) }
     ensures expected { IfOk result (λ made. made.expected ≡ expected_rows parts) }
 {
-    let expected = fault_free_responses(alloc, &parts)?;
+    let rows = GoodRows::make(alloc, &parts)?;
+    let expected = expected_at_points(alloc, &parts, &rows)?;
     Ok(Simulated { parts, expected })
 }
 

@@ -37,8 +37,8 @@ pub struct Subject<'a> {
     pub logs: &'a [Arc<ReadLog>],
 }
 
-// The logs, joined.
-fn joined_of(alloc: Global, parts: &Parts, logs: &[Arc<ReadLog>]) -> Result<Joined, NoMemory>
+/// The logs of a die, joined.
+pub fn joined_of(alloc: Global, parts: &Parts, logs: &[Arc<ReadLog>]) -> Result<Joined, NoMemory>
     requires stand { All (StandsOver parts.now) (map (λ log. arc_value log) logs.now) }
     ensures size { IfOk result (IsJoinedOf (length parts.now.patterns) (length (points_of parts.now))) }
     ensures stands { IfOk result (StandsFor (facts_of (map (λ log. arc_value log) logs.now))) }

@@ -61,9 +61,9 @@ impl DieView {
     {
         // The copy's invariant is what the view says of itself.
         let _revision = self.revision();
-        let design = Arc::try_clone(self.design())?;
+        let design = Arc::try_clone(&self.design)?;
         let die = Name::copy_of(alloc, self.die())?;
-        let logs = more_references(alloc, self.logs())?;
+        let logs = more_references(alloc, self.logs().as_slice())?;
         Ok(DieView { design, die, logs })
     }
 
@@ -76,8 +76,8 @@ impl DieView {
     }
 
     /// The design.
-    pub fn design(&self) -> &Arc<Design>
-        ensures { arc_value result.now ≡ self.now.design }
+    pub fn design(&self) -> &Design
+        ensures { result.now ≡ self.now.design }
     {
         &self.design
     }
@@ -90,11 +90,11 @@ impl DieView {
     }
 
     /// The logs, in the order in which they were added.
-    pub fn logs(&self) -> &[Arc<ReadLog>]
+    pub fn logs(&self) -> &Rows<Arc<ReadLog>>
         ensures logs { map (λ log. arc_value log) result.now ≡ self.now.logs }
         ensures view { IsView self.now }
     {
-        self.logs.as_slice()
+        &self.logs
     }
 }
 

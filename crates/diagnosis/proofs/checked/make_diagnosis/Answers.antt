@@ -1,4 +1,4 @@
-use Rattle.std.proofs.Common.{◌≡◌, ◌∙◌, Global, ap, sym, subst, map}
+use Rattle.std.proofs.Common.{◌≡◌, ◌∙◌, Global, List, ap, sym, subst, map}
 use Rattle.std.specs.Arc.{arc_value}
 use Rattle.std.specs.declared.sync.Arc.{Arc}
 use Rattle.std.proofs.lemmas.Result.{IfOk-weaker}
@@ -19,10 +19,10 @@ use Rattle.diagnosis.proofs.checked.make_diagnosis.Goals as goal
 pub diagnosis_of-requires-clause-subject : goal.diagnosis_of-requires-clause-subject
 diagnosis_of-requires-clause-subject g c κs within =
     let v = c.args.view.now in
-    let d = c.deref-design.result.now in
-    let logs = map (λ (log : Arc ReadLog Global). arc_value log) c.logs.result.now in
+    let d = c.design-design.result.now in
+    let logs = map (λ (log : Arc ReadLog Global). arc_value log) c.as_slice.result.now in
     let is = case_is v d c.parts-parts.result.now c.name.result.now c.die.result.now logs
-    (c.deref-design.ensures ∙ c.design.ensures) c.parts-parts.ensures.value c.name.ensures.value c.die.ensures c.logs.ensures.logs in
+    c.design-design.ensures c.parts-parts.ensures.value c.name.ensures.value c.die.ensures (ap (λ (ls : List (Arc ReadLog Global)). map (λ (log : Arc ReadLog Global). arc_value log) ls) c.as_slice.ensures ∙ c.logs.ensures.logs) in
     record {
       case = subst IsCase (sym is) (view_is_case v c.logs.ensures.view);
       good_of_test = c.in_ok-good.ensures;
@@ -32,10 +32,10 @@ diagnosis_of-requires-clause-subject g c κs within =
 pub returns-clause-lines : goal.returns-clause-lines
 returns-clause-lines g c =
     let v = c.args.view.now in
-    let d = c.deref-design.result.now in
-    let logs = map (λ (log : Arc ReadLog Global). arc_value log) c.logs.result.now in
+    let d = c.design-design.result.now in
+    let logs = map (λ (log : Arc ReadLog Global). arc_value log) c.as_slice.result.now in
     let is = case_is v d c.parts-parts.result.now c.name.result.now c.die.result.now logs
-    (c.deref-design.ensures ∙ c.design.ensures) c.parts-parts.ensures.value c.name.ensures.value c.die.ensures c.logs.ensures.logs in
+    c.design-design.ensures c.parts-parts.ensures.value c.name.ensures.value c.die.ensures (ap (λ (ls : List (Arc ReadLog Global)). map (λ (log : Arc ReadLog Global). arc_value log) ls) c.as_slice.ensures ∙ c.logs.ensures.logs) in
     IfOk-weaker c.diagnosis_of.result (λ (made : Diagnosis). made.report ≡ case_lines (case_with c.parts-parts.result.now c.name.result.now c.die.result.now logs))
     (λ (made : Diagnosis). made.report ≡ view_lines v) (λ made e. e ∙ ap case_lines is) c.diagnosis_of.ensures.lines
 
@@ -54,10 +54,10 @@ returns-clause-cut g c =
 pub returns-clause-candidates : goal.returns-clause-candidates
 returns-clause-candidates g c =
     let v = c.args.view.now in
-    let d = c.deref-design.result.now in
-    let logs = map (λ (log : Arc ReadLog Global). arc_value log) c.logs.result.now in
+    let d = c.design-design.result.now in
+    let logs = map (λ (log : Arc ReadLog Global). arc_value log) c.as_slice.result.now in
     let is = case_is v d c.parts-parts.result.now c.name.result.now c.die.result.now logs
-    (c.deref-design.ensures ∙ c.design.ensures) c.parts-parts.ensures.value c.name.ensures.value c.die.ensures c.logs.ensures.logs in
+    c.design-design.ensures c.parts-parts.ensures.value c.name.ensures.value c.die.ensures (ap (λ (ls : List (Arc ReadLog Global)). map (λ (log : Arc ReadLog Global). arc_value log) ls) c.as_slice.ensures ∙ c.logs.ensures.logs) in
     IfOk-weaker c.diagnosis_of.result (λ (made : Diagnosis). made.candidates ≡ ranked (candidates c.parts-parts.result.now (facts_of logs)))
     (λ (made : Diagnosis). made.candidates ≡ ranked (candidates v.design.test (facts_of v.logs)))
     (λ made e. e ∙ ap (λ (k : CaseFacts). ranked (candidates k.test (facts_of k.logs))) is) c.diagnosis_of.ensures.candidates

@@ -19,7 +19,7 @@ returns-then-not-is_same_digest g c =
 pub record_sign-requires : goal.record_sign-requires
 record_sign-requires g c =
     let design : IsDesign c.args.checked.now.design =
-    subst IsDesign (c.deref.ensures ∙ c.design.ensures ∙ ap (λ (v : ViewFacts). v.design) c.view-view.ensures) c.name-design.ensures.design in
+    subst IsDesign (c.design.ensures ∙ ap (λ (v : ViewFacts). v.design) c.view-view.ensures) c.name-design.ensures.design in
     record {
       fits =
           sign_fits_at c.self.inside.kept.deeds c.args.self.now.deeds c.args.checked.now c.name-design.result.now c.die-die.result.now c.in_ok-copy_of.field-0 c.as_slice.result.now c.args.digest.now c.revision-revision.result c.in_ok-place.place c.in-Created.number
@@ -30,7 +30,7 @@ record_sign-requires g c =
 pub invariant_of-self-2 : goal.invariant_of-self-2
 invariant_of-self-2 g c =
     let design : IsDesign c.args.checked.now.design =
-    subst IsDesign (c.deref.ensures ∙ c.design.ensures ∙ ap (λ (v : ViewFacts). v.design) c.view-view.ensures) c.name-design.ensures.design in
+    subst IsDesign (c.design.ensures ∙ ap (λ (v : ViewFacts). v.design) c.view-view.ensures) c.name-design.ensures.design in
     let one : fits c.self.inside.kept.deeds (Sign c.name-design.result.now c.die-die.result.now c.revision-revision.result c.in_ok-copy_of.field-0 c.args.digest.now) ≡ true =
     sign_fits_at c.self.inside.kept.deeds c.args.self.now.deeds c.args.checked.now c.name-design.result.now c.die-die.result.now c.in_ok-copy_of.field-0 c.as_slice.result.now c.args.digest.now c.revision-revision.result c.in_ok-place.place c.in-Created.number
     design c.requires.view c.digest.ensures.some (search rules) (subst (λ (r : List ℕ). bytes_eq c.args.digest.now r ≡ true) c.digest.ensures.value (sym c.is_same_digest.ensures ∙ c.if-not-is_same_digest.false)) (sym (ap (λ (b : BookFacts). b.deeds) c.self.view_is))

@@ -5,7 +5,7 @@ use Rattle.scan_model.specs.Netlist.{driver_of}
 use Rattle.scan_model.specs.ScanTest.{IsFlop, chain_at, no_chain}
 use Rattle.scan_model.specs.Loads.{cell}
 use Rattle.scan_model.proofs.Cells.{cell_is_flop_of}
-use Rattle.diagnosis.proofs.fault_free.cell_net.Goals as goal
+use Rattle.expected_values.proofs.point_rows.cell_net.Goals as goal
 
 pub returns-clause-flop : goal.returns-clause-flop
 returns-clause-flop c =

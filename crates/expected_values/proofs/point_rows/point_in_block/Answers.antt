@@ -3,8 +3,8 @@ use Rattle.std.proofs.lemmas.List.{get_or_default}
 use Rattle.scan_model.specs.Suspect.{observed_net}
 use Rattle.lane_rows.specs.Planes.{Planes, held}
 use Rattle.lane_rows.specs.Sources.{no_planes}
-use Rattle.diagnosis.proofs.BlockShows.{block_shows}
-use Rattle.diagnosis.proofs.fault_free.shown_in_block.Goals as goal
+use Rattle.expected_values.proofs.BlockShows.{block_shows}
+use Rattle.expected_values.proofs.point_rows.point_in_block.Goals as goal
 
 pub returns : goal.returns
 returns c = λ b j rows lane_in there.

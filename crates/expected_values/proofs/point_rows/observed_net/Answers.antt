@@ -1,5 +1,5 @@
 use Rattle.scan_model.proofs.Outputs.{output_in_range}
-use Rattle.diagnosis.proofs.fault_free.observed_net.Goals as goal
+use Rattle.expected_values.proofs.point_rows.observed_net.Goals as goal
 
 pub returns-in-Output-clause-below : goal.returns-in-Output-clause-below
 returns-in-Output-clause-below c =

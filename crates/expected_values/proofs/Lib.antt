@@ -1,0 +1,2 @@
+pub mod BlockShows
+mod ShownWords

@@ -1,0 +1,10 @@
+//! Expected values, made of what places show in blocks of 512 patterns.
+#![tactic(auto)]
+
+mod expected;
+mod point_rows;
+mod shown_rows;
+
+pub use expected::expected_of;
+pub use point_rows::{PointRows, expected_at_points, observed_net, point_in_block};
+pub use shown_rows::ShownRows;
