@@ -1,10 +1,8 @@
 -- The transition faults as suspects, and the rows of the logs by the second frame's expected values.
-use Rattle.std.proofs.Common.{◌≡◌, ℕ, ◌+◌, ◌-◌, ◌<◌, ltb, ◌&&◌, List, [], length, get_or, Some, None, refl, sym, ap, ◌∙◌, inl, inr, arith}
+use Rattle.std.proofs.Common.{◌≡◌, ℕ, ◌+◌, ◌-◌, ◌<◌, ltb, ◌&&◌, List, [], length, get_or, Some, None, refl, ap, ◌∙◌, inl, inr, arith}
 use Rattle.std.specs.Prelude.{All, Contains, slice_get}
-use Rattle.std.specs.List.{range_with_len}
 use Rattle.std.proofs.lemmas.Bool.{cases_Bool, ltb-true, ltb-false}
-use Rattle.std.proofs.lemmas.List.{length-map, get_or-map}
-use Rattle.std.proofs.lemmas.List.FromFn.{length-range_with_len, get_or-range_with_len, get_or-map-range_with_len}
+use Rattle.std.proofs.lemmas.List.FromFn.{get_or-map-range_with_len}
 use Rattle.std.proofs.lemmas.Option.{get_or_from_slice_get, slice_get-get_or, slice_get_within}
 use Rattle.scan_model.specs.declared.values.Tri.{Tri}
 use Rattle.scan_model.specs.declared.fault.Fault.{Fault}
@@ -16,7 +14,6 @@ use Rattle.scan_model.specs.Universe.{universe}
 use Rattle.scan_model.specs.Coverage.{bit_of}
 use Rattle.scan_model.specs.Classes.{class_of}
 use Rattle.scan_model.specs.ReportText.{no_fault}
-use Rattle.log_join.specs.Joining.{JoinedBits, IsJoinedOf, FitsExpected}
 use Rattle.lane_rows.specs.Lanes.{lane}
 use Rattle.lane_rows.specs.GoodRows.{pattern_of}
 use Rattle.fault_effects.specs.declared.point_row.PointRow.{PointRow}
@@ -25,32 +22,21 @@ use Rattle.fault_effects.specs.declared.side.Side.TheVariants.{Failing, Passing}
 use Rattle.fault_effects.specs.declared.suspect.Suspect.{Suspect}
 use Rattle.fault_effects.specs.PointRows.{is_on, is_on_at}
 use Rattle.fault_effects.specs.PlaceRows.{ArePlaceRows}
-use Rattle.fault_effects.specs.Owners.{owner, IsSuspectOf, places_of}
+use Rattle.fault_effects.specs.Owners.{owner, IsSuspectOf}
 use Rattle.fault_effects.proofs.Owned.{IsBridgeOrCell, not_past}
 use Rattle.match_counts.specs.Flips.{row_on, point_row_at}
 use Rattle.match_counts.specs.Sides.{classes_by, AreSideRows}
 use Rattle.two_frame.specs.TwoFrame.{transitions, frame_response, frame_rows, frame_class}
 use Rattle.two_frame.specs.FrameModel.{frame_model}
-use Rattle.two_frame.proofs.ShownRows.{length-frame_rows, frame_points}
 use Rattle.two_frame.proofs.SlowPlaces.{slow_at}
 use Rattle.two_frame.proofs.TransitionPlaces.{no_bridge_in, no_cell_in}
 
-module _ (t : ScanTest) (suspects : List Suspect) (are : All (IsSuspectOf t) suspects) (places : places_of suspects ≡ range_with_len 0 (length (transitions t))) where
-  abbrev L : ℕ
-  L = length (transitions t)
-
-  pub suspects_len : length suspects ≡ L
-  suspects_len = sym (length-map suspects (λ (s : Suspect). s.place)) ∙ ap length places ∙ length-range_with_len 0 L
-
-  place_is : (k : ℕ) (d : Suspect) → k < length suspects → (get_or suspects k d).place ≡ k
-  place_is k d lt =
-      sym (get_or-map (λ (s : Suspect). s.place) suspects k d 0 lt) ∙ ap (λ (ps : List ℕ). get_or ps k 0) places ∙ get_or-range_with_len 0 L k 0 (omega (arith, lt, suspects_len)) ∙ omega arith
-
+module _ (t : ScanTest) (suspects : List Suspect) (are : All (IsSuspectOf t) suspects) (below : All (λ s. s.place < length (transitions t)) suspects) where
   -- each stands at its place in the list of transition faults
   pub suspects_in : All (λ s. slice_get (transitions t) s.place ≡ Some s.fault) suspects
   suspects_in k d lt =
       let s = get_or suspects k d in
-      let within : s.place < L = omega (arith, place_is k d lt, lt, suspects_len) in
+      let within = below k d lt in
       slice_get-get_or (transitions t) s.place no_fault within
       ∙ ap Some (slow_at t s.place no_fault within ∙ get_or_from_slice_get (universe t) s.place s.fault no_fault (are k d lt).at)
 
@@ -98,7 +84,3 @@ frame_sides t logs expected patterns places b rows is_expected is_patterns is_pl
     by_side : (side : Side) (q j : ℕ) → q < length (points_of t) → j < 512 → lane (row_on side (point_row_at rows q)) j ≡ (ltb (pattern_of b j) (length t.patterns) && classes_by (frame_class t logs) side (pattern_of b j) q)
     by_side Failing q j q_lt lt = (are.each q (omega (arith, q_lt, are.len, is_places))).failing j lt ∙ frame_on_of t logs expected patterns Failing (pattern_of b j) q is_expected is_patterns
     by_side Passing q j q_lt lt = (are.each q (omega (arith, q_lt, are.len, is_places))).passing j lt ∙ frame_on_of t logs expected patterns Passing (pattern_of b j) q is_expected is_patterns
-
--- the expected values fit logs that are joined for the test
-pub fits_frames : (t : ScanTest) (expected : List (List Tri)) (joined : JoinedBits) → expected ≡ frame_rows t → IsJoinedOf (length t.patterns) (length (points_of t)) joined → FitsExpected expected joined
-fits_frames t expected joined is_expected is_joined = rw (is_expected, is_joined.0, is_joined.1) (length-frame_rows t, frame_points t)

@@ -5,6 +5,7 @@ pub mod Transitions
 pub mod NextFrame
 pub mod ShownFails
 pub mod ShownRows
+pub mod Reaching
 pub mod TransitionPlaces
 pub mod BlockReads
 pub mod SlowPlaces

@@ -1,5 +1,5 @@
 //! The counts of the transition faults, block by block.
-ghost use Rattle.std.specs.Prelude.{◌≡◌, ◌+◌, ◌^◌, ◌<◌, List, [], All, Contains, length, IfOk};
+ghost use Rattle.std.specs.Prelude.{◌≡◌, ◌+◌, ◌^◌, ◌<◌, ◌≤◌, List, [], ◌∷◌, ◌++◌, All, cond, filter, length, IfOk, OnOk};
 ghost use Rattle.std.specs.List.{range_with_len};
 ghost use Rattle.scan_model.specs.declared.logs.LogFacts.{LogFacts};
 ghost use Rattle.scan_model.specs.ScanTest.{points_of};
@@ -8,40 +8,64 @@ ghost use Rattle.scan_model.specs.Coverage.{bits_of};
 ghost use Rattle.fault_effects.specs.Owners.{IsSuspectOf, AreOwners, places_of};
 ghost use Rattle.match_counts.specs.Totals.{AreTotals};
 ghost use Rattle.two_frame.specs.TwoFrame.{transitions, frame_rows, frame_class, frame_fails, frame_candidates};
-ghost use Rattle.two_frame.specs.FrameRows.{IsFrameGood, AllCapture};
+ghost use Rattle.two_frame.specs.FrameRows.{IsFrameGood, AllCapture, transition_at};
+ghost use Rattle.two_frame.specs.Reaching.{reaches};
 
 use crate::fails::slow_len;
 use crate::frame_good::FrameGood;
 use crate::frame_observer::FrameCounts;
+use crate::reach::{is_reaching, reaching_nets};
 use fault_effects::{
-    BlockWork, Suspect, logic_parts, owned_nets, owners_of, reads_of, rows_of_places, suspects_at,
+    BlockWork, Suspect, logic_parts, owned_nets, owners_of, reads_of, rows_of_places,
 };
+use fault_universe::fault_at;
 use lane_rows::Groups;
 use log_join::Joined;
 use match_counts::{BlockTotals, PointCounts, list_candidates};
 use scan_model::{Expected, NoMemory, Parts, Rows, Scored};
 use std::alloc::Global;
 
-/// The numbers below one.
-fn numbers_below(alloc: Global, count: u32) -> Result<Vec<u32>, NoMemory>
-    ensures { IfOk result (λ numbers. numbers.items ≡ range_with_len 0 count) }
+/// Adds the transition fault at a place, if its site leads to a failing bit.
+fn push_reaching(
+    suspects: &mut Rows<Suspect>,
+    parts: &Parts,
+    marks: &[bool],
+    place: u32,
+) -> Result<(), NoMemory>
+    requires place { place < length (transitions parts.now) }
+    requires marks { length marks.now ≡ length parts.now.netlist.nets }
+    ensures each { OnOk result (All (IsSuspectOf parts.now) suspects.old → All (IsSuspectOf parts.now) suspects.new) }
+    ensures few { OnOk result (length suspects.new ≤ length suspects.old + 1) }
+    ensures below { OnOk result (All (λ s. s.place < length (transitions parts.now)) suspects.old → All (λ s. s.place < length (transitions parts.now)) suspects.new) }
+    ensures places { OnOk result (places_of suspects.new ≡ places_of suspects.old ++ cond (reaches parts.now marks.now (transition_at parts.now place)) (place ∷ []) []) }
 {
-    let mut numbers = Vec::with_capacity(alloc, count as usize)?;
-    for number in 0..count {
-        numbers.push(number)?;
+    let Some(fault) = fault_at(parts, place) else {
+        unreachable!()
+    };
+    if !is_reaching(parts, marks, &fault) {
+        return Ok(());
     }
-    Ok(numbers)
+    suspects.push(Suspect { place, fault })?;
+    Ok(())
 }
 
-/// The transition faults, at their places.
-fn transition_suspects(alloc: Global, parts: &Parts) -> Result<Rows<Suspect>, NoMemory>
+/// The transition faults whose sites lead to a failing bit, at their places.
+fn reaching_suspects(
+    alloc: Global,
+    parts: &Parts,
+    marks: &[bool],
+) -> Result<Rows<Suspect>, NoMemory>
+    requires marks { length marks.now ≡ length parts.now.netlist.nets }
     ensures each { IfOk result (All (IsSuspectOf parts.now)) }
     ensures few { IfOk result (λ suspects. length suspects < 2 ^ 32) }
-    ensures places { IfOk result (λ suspects. places_of suspects ≡ range_with_len 0 (length (transitions parts.now))) }
+    ensures below { IfOk result (All (λ s. s.place < length (transitions parts.now))) }
+    ensures places { IfOk result (λ suspects. places_of suspects ≡ filter (λ p. reaches parts.now marks.now (transition_at parts.now p)) (range_with_len 0 (length (transitions parts.now)))) }
 {
-    let _ = parts.circuit();
-    let places = numbers_below(alloc, slow_len(parts))?;
-    suspects_at(alloc, parts, &places)
+    let mut suspects = Rows::new(alloc);
+    for place in 0..slow_len(parts) {
+        push_reaching(&mut suspects, parts, marks, place)?;
+    }
+    Ok(suspects)
 }
 
 /// Adds up, block by block, what the suspects explain and mispredict.
@@ -59,7 +83,7 @@ fn count_blocks(
     requires captures { AllCapture parts.now }
     requires joined { IsJoinedOf (length parts.now.patterns) (length (points_of parts.now)) joined.now }
     requires suspects { All (IsSuspectOf parts.now) suspects.now }
-    requires transitions { places_of suspects.now ≡ range_with_len 0 (length (transitions parts.now)) }
+    requires transitions { All (λ s. s.place < length (transitions parts.now)) suspects.now }
     requires count { length owners.now ≡ length parts.now.netlist.nets + 3 }
     requires owners { AreOwners parts.now suspects.now owners.now }
     ensures len { IfOk result (λ counts. length counts.totals ≡ length suspects.now) }
@@ -98,7 +122,39 @@ fn count_blocks(
 }
 
 /// The transition faults that explain at least one failing bit of the second frame, with their counts, in the order of
-/// their places. All are counted, 512 patterns at a time, in one thread.
+/// their places, from values of both frames that were made before. Those that lead to a failing bit are counted, 512
+/// patterns at a time, in one thread.
+pub fn counts_over(
+    alloc: Global,
+    parts: &Parts,
+    good: &FrameGood,
+    expected: &Expected,
+    joined: &Joined,
+) -> Result<Rows<Scored>, NoMemory>
+    requires good { IsFrameGood parts.now good.now }
+    requires expected { expected.now ≡ frame_rows parts.now }
+    requires captures { AllCapture parts.now }
+    requires joined { IsJoinedOf (length parts.now.patterns) (length (points_of parts.now)) joined.now }
+    ensures { (logs : List LogFacts) → StandsFor logs joined.now → IfOk result (λ rows. rows ≡ frame_candidates parts.now logs) }
+{
+    let _ = parts.circuit().order();
+    let marks = reaching_nets(alloc, parts, good, expected, joined)?;
+    let suspects = reaching_suspects(alloc, parts, &marks)?;
+    let owners = owners_of(alloc, parts, suspects.as_slice())?;
+    let totals = count_blocks(
+        alloc,
+        parts,
+        good,
+        expected,
+        joined,
+        suspects.as_slice(),
+        &owners,
+    )?;
+    list_candidates(alloc, suspects.as_slice(), &totals)
+}
+
+/// The transition faults that explain at least one failing bit of the second frame, with their counts, in the order of
+/// their places. The only error is want of memory.
 pub fn frame_counts(
     alloc: Global,
     parts: &Parts,
@@ -111,16 +167,5 @@ pub fn frame_counts(
     ensures { (logs : List LogFacts) → StandsFor logs joined.now → IfOk result (λ rows. rows ≡ frame_candidates parts.now logs) }
 {
     let good = FrameGood::make(alloc, parts)?;
-    let suspects = transition_suspects(alloc, parts)?;
-    let owners = owners_of(alloc, parts, suspects.as_slice())?;
-    let totals = count_blocks(
-        alloc,
-        parts,
-        &good,
-        expected,
-        joined,
-        suspects.as_slice(),
-        &owners,
-    )?;
-    list_candidates(alloc, suspects.as_slice(), &totals)
+    counts_over(alloc, parts, &good, expected, joined)
 }

@@ -8,12 +8,13 @@ mod frame_good;
 mod frame_observer;
 mod laws;
 mod names;
+mod reach;
 mod reader;
 mod second;
 mod text;
 
-pub use counts::frame_counts;
-pub use expected::frame_expected;
+pub use counts::{counts_over, frame_counts};
+pub use expected::{expected_over, frame_expected};
 pub use fails::slow_len;
 pub use frame_good::{FrameGood, FrameScratch};
 pub use laws::{only_transitions, second_frame, slow_operands, slow_pins, slow_stems};
