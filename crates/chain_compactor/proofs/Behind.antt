@@ -1,8 +1,7 @@
 -- Through a compactor a net that one gate reads through one pin shows where the gate does, if the pin flips the gate.
-use Rattle.std.proofs.Common.{◌≡◌, ℕ, ◌<◌, Bool, false, ◌&&◌, List, length, map, None, ap, ◌∙◌}
+use Rattle.std.proofs.Common.{◌≡◌, ℕ, ◌<◌, Bool, ◌&&◌, List, length, map, None, ap, ◌∙◌}
 use Rattle.std.specs.List.{AllByRecursion}
 use Rattle.scan_model.specs.declared.values.Tri.{Tri}
-use Rattle.scan_model.specs.declared.values.Tri.TheVariants.{Unknown}
 use Rattle.scan_model.specs.declared.circuit.Driver.TheVariants.{Gate}
 use Rattle.scan_model.specs.declared.circuit.GateKind.{GateKind}
 use Rattle.scan_model.specs.declared.circuit.PinPlace.TheVariants as place
@@ -19,7 +18,7 @@ use Rattle.scan_model.specs.Masks.{flipped, operand_values}
 use Rattle.scan_model.proofs.counting.Branches.{force_pin}
 use Rattle.scan_model.proofs.counting.Regions.{flip_is_gate, gate_flips, sensed_shows, unseen}
 use Rattle.scan_model.proofs.counting.Shown.{observed_net-in_range}
-use Rattle.chain_compactor.specs.Flips.{differs, flip_differs}
+use Rattle.chain_compactor.specs.Flips.{flip_differs}
 use Rattle.chain_compactor.proofs.Xors.{map_same}
 use Rattle.chain_compactor.proofs.OneFlip.{forced_differs, unknown_hides}
 

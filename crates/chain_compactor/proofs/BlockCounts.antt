@@ -1,5 +1,5 @@
 -- The Failing and the Passing lanes of compact points in a block.
-use Rattle.std.proofs.Common.{◌≡◌, ℕ, ◌<◌, Bool, ltb, ◌&&◌, List, [], length, get_or, ap, ◌∙◌, arith}
+use Rattle.std.proofs.Common.{◌≡◌, ℕ, ◌<◌, ltb, ◌&&◌, List, length, ap, ◌∙◌, arith}
 use Rattle.scan_model.specs.declared.values.Tri.{Tri}
 use Rattle.scan_model.specs.declared.logs.LogFacts.{LogFacts}
 use Rattle.scan_model.specs.Coverage.{bit_of}

@@ -16,7 +16,6 @@ use Rattle.scan_model.specs.declared.circuit.PinPlace.TheVariants as place
 use Rattle.scan_model.specs.declared.parts.PatternKind.{PatternKind}
 use Rattle.scan_model.specs.declared.parts.PatternKind.TheVariants.{Capture, Shift}
 use Rattle.scan_model.specs.declared.parts.Point.{Point}
-use Rattle.scan_model.specs.declared.fault.Stuck.{Stuck}
 use Rattle.scan_model.specs.declared.fault.Fault.{Fault}
 use Rattle.scan_model.specs.declared.fault.Fault.TheVariants as fault
 use Rattle.scan_model.specs.Values.{are_opposite, xor_of}
@@ -36,7 +35,7 @@ use Rattle.scan_model.proofs.counting.Shown.{not_opposite_itself}
 use Rattle.lane_rows.specs.GoodRows.{same_kind}
 use Rattle.packed_sim.specs.Belongs.{captures}
 use Rattle.packed_sim.proofs.Changes.{point_stands}
-use Rattle.fault_effects.specs.FaultModel.{FaultModel, IsFaultModel, IsChainModel, pin_flips}
+use Rattle.fault_effects.specs.FaultModel.{IsFaultModel, IsChainModel, pin_flips}
 use Rattle.fault_effects.proofs.SoleReader.{pin_flips-is}
 use Rattle.chain_compactor.specs.Channels.{Compactor, IsCompactorOf}
 use Rattle.chain_compactor.specs.Compaction.{predicts_compact_fail}

@@ -1,7 +1,7 @@
 -- Where flips, stuck pins and faults of shift paths show through a compactor.
-use Rattle.std.proofs.Common.{◌≡◌, ℕ, zero, ◌<◌, Bool, true, false, cond, eqb, ltb, ◌&&◌, List, [], ◌∷◌, length, map, get_or, None, Some, refl, sym, ap, subst, ◌∙◌, inl, inr, arith}
+use Rattle.std.proofs.Common.{◌≡◌, ℕ, ◌<◌, Bool, true, false, cond, ltb, ◌&&◌, List, [], ◌∷◌, length, map, get_or, None, Some, refl, sym, ap, subst, ◌∙◌, inl, inr, arith}
 use Rattle.std.specs.Prelude.{Contains, IsTrue, ◌↔◌}
-use Rattle.std.proofs.lemmas.Bool.{cases_Bool, eqb-true, lt-ltb, ltb-true, and_parts}
+use Rattle.std.proofs.lemmas.Bool.{cases_Bool, eqb-true, ltb-true, and_parts}
 use Rattle.std.proofs.lemmas.List.{get_or_default}
 use Rattle.std.proofs.lemmas.List.Elements.{recursion_from_All}
 use Rattle.scan_model.specs.declared.values.Tri.{Tri}
@@ -29,11 +29,9 @@ use Rattle.packed_sim.specs.declared.good.PackedGood.{PackedGood}
 use Rattle.packed_sim.specs.declared.scratch.Scratch.{Scratch}
 use Rattle.packed_sim.specs.Belongs.{BelongsTo, block_at, captures, has_own_row}
 use Rattle.packed_sim.proofs.Belonging.{own_no_row}
-use Rattle.packed_sim.proofs.FaultBits.{and_when}
 use Rattle.fail_logs.specs.IsFrame.{point_among}
 use Rattle.fault_effects.specs.FaultModel.{Table, shown_in, straight_in, fails_in}
 use Rattle.chain_compactor.specs.Channels.{Compactor, IsCompactorOf}
-use Rattle.chain_compactor.specs.Compaction.{compact_value}
 use Rattle.chain_compactor.specs.Flips.{straight_value, members_at, flip_shows_through, straight_through}
 use Rattle.chain_compactor.specs.ShownFlips.{ShowsFlip}
 use Rattle.chain_compactor.specs.CompactCounts.{AreExpected, AreDue, expected_at, differs_in, within_set}

@@ -7,8 +7,7 @@ pub mod Xors
 pub mod OneFlip
 pub mod Behind
 pub mod Members
-pub mod BlockShows
-pub mod ShownWords
+pub mod CompactRows
 pub mod XorChanges
 pub mod SeenBehind
 pub mod CompactModel
@@ -16,3 +15,6 @@ pub mod SparseSums
 pub mod ShownFlips
 pub mod CompactShows
 pub mod BlockCounts
+pub mod Explained
+pub mod AmongSuspects
+pub mod BitLists

@@ -1,5 +1,5 @@
 -- An XOR of which operands change.
-use Rattle.std.proofs.Common.{◌≡◌, ℕ, zero, suc, ◌<◌, Bool, true, false, ◌||◌, List, [], ◌∷◌, ◌++◌, ◌+◌, length, map, drop, get_or, refl, sym, ap, ◌∙◌, inl, inr, arith, add-one, append-nil, append_assoc, drop-cons}
+use Rattle.std.proofs.Common.{◌≡◌, ℕ, zero, suc, ◌<◌, false, List, [], ◌∷◌, ◌++◌, ◌+◌, length, map, drop, get_or, refl, sym, ap, ◌∙◌, inl, inr, arith, add-one, append-nil, append_assoc, drop-cons}
 use Rattle.std.specs.List.{list_any}
 use Rattle.std.proofs.lemmas.Bool.{cases_Bool, or_parts}
 use Rattle.std.proofs.lemmas.List.{map-append}

@@ -1,5 +1,5 @@
 -- What the counting of faults through a compactor works with.
-use Rattle.std.specs.Prelude.{◌≡◌, ℕ, ◌<◌, List, length, map, Bool, ◌&&◌, None, slice_index_or, Contains, true}
+use Rattle.std.specs.Prelude.{◌≡◌, ℕ, ◌<◌, List, length, map, ◌&&◌, None, slice_index_or, Contains, true}
 use Rattle.scan_model.specs.declared.values.Tri.{Tri}
 use Rattle.scan_model.specs.declared.parts.Point.{Point}
 use Rattle.scan_model.specs.Values.{are_opposite, xor_of}
@@ -8,7 +8,7 @@ use Rattle.scan_model.specs.Suspect.{observed_net}
 use Rattle.lane_rows.specs.Lanes.{lane}
 use Rattle.lane_rows.specs.Planes.{Planes, held}
 use Rattle.lane_rows.specs.Sources.{no_planes}
-use Rattle.lane_rows.specs.Places.{has_place, room}
+use Rattle.lane_rows.specs.Places.{has_place}
 use Rattle.lane_rows.specs.GoodRows.{pattern_of}
 use Rattle.fail_logs.specs.IsFrame.{point_among}
 use Rattle.fault_effects.specs.FaultModel.{Table}

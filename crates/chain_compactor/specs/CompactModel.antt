@@ -1,5 +1,5 @@
 -- What faults do in a test that a tester sees through a compactor, as flips of nets tell it. Each compact point is a place.
-use Rattle.std.specs.Prelude.{ℕ, length, nat_lt, ◌==◌}
+use Rattle.std.specs.Prelude.{length, nat_lt, ◌==◌}
 use Rattle.std.specs.List.{list_any}
 use Rattle.scan_model.specs.ScanTest.{ScanTest, point_at}
 use Rattle.scan_model.specs.Coverage.{bit_of}

@@ -10,3 +10,4 @@ pub mod Seeing
 pub mod CompactModel
 pub mod ShownFlips
 pub mod CompactCounts
+pub mod Tracing

@@ -1,7 +1,7 @@
 -- What a scratch shows at the points of a test, and a pin that is stuck.
 use Rattle.std.specs.Prelude.{◌≡◌, ℕ, ◌<◌, length, true}
 use Rattle.scan_model.specs.declared.fault.CellKind.{CellKind}
-use Rattle.scan_model.specs.ScanTest.{ScanTest, points_of, chain_at}
+use Rattle.scan_model.specs.ScanTest.{ScanTest, points_of}
 use Rattle.scan_model.specs.Masks.{flipped}
 use Rattle.lane_rows.specs.GoodRows.{pattern_of}
 use Rattle.packed_sim.specs.declared.good.PackedGood.{PackedGood}

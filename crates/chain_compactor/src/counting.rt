@@ -9,7 +9,7 @@ ghost use Rattle.lane_rows.specs.GoodRows.{AreBlockRows};
 ghost use Rattle.packed_sim.specs.Belongs.{BelongsTo};
 ghost use Rattle.fault_effects.specs.Owners.{IsSuspectOf, AreOwners, owner, suspect_at};
 ghost use Rattle.fault_effects.specs.Readers.{AreReads};
-ghost use Rattle.match_counts.specs.Totals.{AreCounted, AreTotals};
+ghost use Rattle.match_counts.specs.Totals.{AreCounted, AreTotals, candidates_in};
 ghost use Rattle.match_counts.specs.Sides.{classes_by};
 ghost use Rattle.chain_compactor.specs.Channels.{IsCompactorOf};
 ghost use Rattle.chain_compactor.specs.Compaction.{compact_rows, compact_bits, compact_class, predicts_compact_fail, compact_candidates};
@@ -20,6 +20,7 @@ use crate::compactor::Compact;
 use crate::counts::CompactCounts;
 use crate::expected::shown_in_block;
 use crate::tables::Tables;
+use crate::tracing::traced_places;
 use fault_effects::{
     BlockWork, Suspect, owned_nets, owners_of, reads_of, rows_of_places, suspects_at,
 };
@@ -118,9 +119,63 @@ fn all_places(alloc: Global, parts: &Parts) -> Result<Vec<u32>, NoMemory>
     Ok(places)
 }
 
+/// The counts of the faults at some places, of those that explain a Failing bit.
+fn counts_at(
+    alloc: Global,
+    parts: &Parts,
+    compact: &Compact,
+    good: &PackedGood,
+    expected: &Expected,
+    joined: &Joined,
+    places: &[u32],
+) -> Result<Rows<Scored>, NoMemory>
+    requires made { IsCompactorOf parts.now compact.now }
+    requires good { BelongsTo parts.now good.now }
+    requires expected { expected.now ≡ compact_rows parts.now compact.now }
+    requires joined { IsJoinedOf (length parts.now.patterns) (length compact.now.points) joined.now }
+    requires places { All (λ p. p < length (universe parts.now)) places.now }
+    requires few { length places.now < 2 ^ 32 }
+    ensures { (logs : List LogFacts) → StandsFor logs joined.now
+        → IfOk result (λ rows. rows ≡ candidates_in (universe parts.now) (compact_bits parts.now compact.now) (compact_class parts.now compact.now logs) (predicts_compact_fail parts.now compact.now) places.now) }
+{
+    let suspects = suspects_at(alloc, parts, places)?;
+    let owners = owners_of(alloc, parts, suspects.as_slice())?;
+    let totals = count_blocks(
+        alloc,
+        parts,
+        compact,
+        good,
+        expected,
+        joined,
+        suspects.as_slice(),
+        &owners,
+    )?;
+    list_candidates(alloc, suspects.as_slice(), &totals)
+}
+
+/// The same of all faults.
+fn counts_of_all(
+    alloc: Global,
+    parts: &Parts,
+    compact: &Compact,
+    good: &PackedGood,
+    expected: &Expected,
+    joined: &Joined,
+) -> Result<Rows<Scored>, NoMemory>
+    requires made { IsCompactorOf parts.now compact.now }
+    requires good { BelongsTo parts.now good.now }
+    requires expected { expected.now ≡ compact_rows parts.now compact.now }
+    requires joined { IsJoinedOf (length parts.now.patterns) (length compact.now.points) joined.now }
+    ensures { (logs : List LogFacts) → StandsFor logs joined.now → IfOk result (λ rows. rows ≡ compact_candidates parts.now compact.now logs) }
+{
+    let places = all_places(alloc, parts)?;
+    counts_at(alloc, parts, compact, good, expected, joined, &places)
+}
+
 /// The faults that explain at least one failing bit of what a tester saw through a compactor, with their counts, in the order
-/// of their places. All faults are counted, 512 patterns at a time, by flips of nets, and none is simulated by itself: no step
-/// is taken.
+/// of their places. Where the bits of the test behind the failing ones are few, they are traced back, and faults that can explain
+/// none of them aren't counted. Faults are counted 512 patterns at a time, by flips of nets, and none is simulated by itself: no
+/// step is taken.
 pub fn compact_counts<L: Ledger>(
     alloc: Global,
     parts: &Parts,
@@ -138,18 +193,16 @@ pub fn compact_counts<L: Ledger>(
     ensures steps { steps.new ≡ steps.old }
 {
     let _ = steps;
-    let places = all_places(alloc, parts)?;
-    let suspects = suspects_at(alloc, parts, &places)?;
-    let owners = owners_of(alloc, parts, suspects.as_slice())?;
-    let totals = count_blocks(
-        alloc,
-        parts,
-        compact,
-        good,
-        expected,
-        joined,
-        suspects.as_slice(),
-        &owners,
-    )?;
-    list_candidates(alloc, suspects.as_slice(), &totals)
+    match traced_places(alloc, parts, compact, good, expected, joined)? {
+        Some(places) => counts_at(
+            alloc,
+            parts,
+            compact,
+            good,
+            expected,
+            joined,
+            places.as_slice(),
+        ),
+        None => counts_of_all(alloc, parts, compact, good, expected, joined),
+    }
 }

@@ -20,10 +20,11 @@ mod showing;
 mod shown_changes;
 mod tables;
 mod text;
+mod tracing;
 
 pub use compactor::{Channel, Compact};
 pub use counting::compact_counts;
-pub use expected::compact_expected;
+pub use expected::{compact_expected, compact_expected_over};
 pub use laws::{compact_flips, fails_behind};
 pub use logs::read_compact_log;
 pub use reading::read_channels;

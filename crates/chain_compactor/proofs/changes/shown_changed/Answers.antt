@@ -5,7 +5,7 @@ use Rattle.std.proofs.lemmas.Bool.{or_parts}
 use Rattle.std.proofs.lemmas.List.{get_or_default}
 use Rattle.std.proofs.lemmas.List.Elements.{All-get_or}
 use Rattle.scan_model.specs.declared.parts.Point.{Point}
-use Rattle.scan_model.specs.declared.parts.Point.TheVariants.{Output, Cell}
+use Rattle.scan_model.specs.declared.parts.Point.TheVariants.{Output}
 use Rattle.scan_model.specs.Values.{is_unknown, xor_of}
 use Rattle.lane_rows.specs.Planes.{held}
 use Rattle.chain_compactor.specs.declared.compactor.Channel.{Channel}

@@ -1,37 +1,37 @@
-use Rattle.std.proofs.Common.{◌≡◌, ℕ, ◌<◌, List, Some, length, sym, ap, subst, ◌∙◌, arith}
-use Rattle.std.specs.Prelude.{All, IfOk, slice_get}
-use Rattle.std.specs.List.{range_with_len}
-use Rattle.std.proofs.lemmas.List.Elements.{All-weaker}
+use Rattle.std.proofs.Common.{◌≡◌, ◌<◌, ◌^◌, ℕ, List, Some, length, sym, ap, subst, ◌∙◌}
+use Rattle.std.specs.Prelude.{All, Contains, IfOk, slice_get}
+use Rattle.scan_model.specs.declared.fault.Fault.{Fault}
+use Rattle.scan_model.specs.declared.logs.LogFacts.{LogFacts}
 use Rattle.scan_model.specs.declared.logs.Scored.{Scored}
 use Rattle.scan_model.specs.Universe.{universe}
-use Rattle.fail_logs.proofs.Whole.{range_below}
-use Rattle.fault_effects.specs.declared.suspect.Suspect.{Suspect}
-use Rattle.fault_effects.specs.Owners.{IsSuspectOf, places_of}
-use Rattle.match_counts.specs.Totals.{AreTotals, candidates_in}
-use Rattle.match_counts.proofs.CandidateRows.{all_candidates}
-use Rattle.chain_compactor.specs.Compaction.{compact_bits, compact_class, predicts_compact_fail}
+use Rattle.scan_model.specs.Suspect.{suspects}
+use Rattle.match_counts.specs.Totals.{candidates_in}
+use Rattle.match_counts.proofs.CandidateRows.{suspects_below}
+use Rattle.chain_compactor.specs.Compaction.{compact_bits, compact_class, compact_counts_of, predicts_compact_fail}
+use Rattle.chain_compactor.proofs.AmongSuspects.{among_suspects}
 use Rattle.chain_compactor.proofs.counting.compact_counts.Goals as goal
 
-pub owners_of-requires-clause-few : goal.owners_of-requires-clause-few
-owners_of-requires-clause-few g c = omega (arith, ap length c.as_slice.ensures, c.in_ok-suspects.ensures.few, ap length c.deref.ensures.value, c.in_ok-places.ensures.few)
+pub counts_at-requires-clause-places : goal.counts_at-requires-clause-places
+counts_at-requires-clause-places g c =
+    let t = c.args.parts.now in
+    let found : (plain : List LogFacts) × (c.in-Some.places ≡ suspects t plain) = rw c.in-Some.is at c.in_ok-places.ensures.suspects in
+    subst (λ (ps : List ℕ). All (λ p. p < length (universe t)) ps) (sym (c.as_slice.ensures ∙ found.1)) (suspects_below t found.0)
 
-pub returns-clause-counts : goal.returns-clause-counts
-returns-clause-counts g c = λ logs stands.
+pub counts_at-requires-clause-few : goal.counts_at-requires-clause-few
+counts_at-requires-clause-few g c =
+    let few : length c.in-Some.places < 2 ^ 32 = rw c.in-Some.is at c.in_ok-places.ensures.few in
+    subst (λ (ps : List ℕ). length ps < 2 ^ 32) (sym c.as_slice.ensures) few
+
+pub returns-in-Some-clause-counts : goal.returns-in-Some-clause-counts
+returns-in-Some-clause-counts g c = λ logs stands.
     let t = c.args.parts.now in
     let k = c.args.compact.now in
-    let n = length (universe t) in
-    let suspects : List Suspect = c.in_ok-suspects.suspects in
-    let places : c.deref.result.now ≡ range_with_len 0 n = c.deref.ensures.value ∙ c.in_ok-places.ensures.all in
-    let Below : List ℕ → Type 0 = All (λ p. p < n) in
-    let found : places_of suspects ≡ range_with_len 0 n = c.in_ok-suspects.ensures.places (subst Below (sym places) (range_below n)) ∙ places in
-    let same : c.as_slice-3.result.now ≡ suspects = c.as_slice-3.ensures in
-    let Counted : List Suspect → Type 0 = λ xs. AreTotals (compact_bits t k) (compact_class t k logs) (predicts_compact_fail t k) xs c.in_ok-totals.totals in
-    let Standing : List Suspect → Type 0 = All (λ s. slice_get (universe t) s.place ≡ Some s.fault) in
-    let Listed : List Scored → Type 0 = λ rows. IfOk c.list_candidates.result (λ found. found ≡ rows) in
-    let standing : Standing suspects = All-weaker (IsSuspectOf t) (λ (s : Suspect). slice_get (universe t) s.place ≡ Some s.fault) (λ s is. is.at) suspects c.in_ok-suspects.ensures.each in
-    subst Listed (ap (λ (xs : List Suspect). candidates_in (universe t) (compact_bits t k) (compact_class t k logs) (predicts_compact_fail t k) (places_of xs)) same
-    ∙ ap (candidates_in (universe t) (compact_bits t k) (compact_class t k logs) (predicts_compact_fail t k)) found
-    ∙ all_candidates (universe t) (compact_bits t k) (compact_class t k logs) (predicts_compact_fail t k))
-    (c.list_candidates.ensures (universe t) (compact_bits t k) (compact_class t k logs) (predicts_compact_fail t k)
-    (subst Standing (sym same) standing)
-    (subst Counted (c.as_slice-2.ensures ∙ sym same) (c.in_ok-totals.ensures.whole logs stands)))
+    let bits = compact_bits t k in
+    let classes = compact_class t k logs in
+    let found : (plain : List LogFacts) × (c.in-Some.places ≡ suspects t plain) = rw c.in-Some.is at c.in_ok-places.ensures.suspects in
+    let Outside : List ℕ → Type 0 = λ ps. (p : ℕ) (f : Fault) → slice_get (universe t) p ≡ Some f → ¬ (Contains ps p) → (compact_counts_of t k logs f).tfsf ≡ 0 in
+    let outside : Outside c.in-Some.places = rw c.in-Some.is at (c.in_ok-places.ensures.outside logs stands) in
+    let Listed : List Scored → Type 0 = λ rows. IfOk c.counts_at.result (λ counted. counted ≡ rows) in
+    subst Listed (ap (candidates_in (universe t) bits classes (predicts_compact_fail t k)) (c.as_slice.ensures ∙ found.1)
+    ∙ among_suspects t found.0 bits classes (predicts_compact_fail t k) (subst Outside found.1 outside))
+    (c.counts_at.ensures logs stands)

@@ -1,4 +1,4 @@
-use Rattle.std.proofs.Common.{◌≡◌, ℕ, ◌+◌, ◌*◌, ◌<◌, List, [], length, get_or, refl, sym, ap, subst, ◌∙◌, arith}
+use Rattle.std.proofs.Common.{◌≡◌, ℕ, ◌+◌, ◌<◌, List, [], length, get_or, refl, sym, ap, subst, ◌∙◌, arith}
 use Rattle.std.specs.Prelude.{Contains}
 use Rattle.std.proofs.lemmas.List.{get_or_read}
 use Rattle.std.proofs.lemmas.List.Elements.{All-nil}
@@ -29,7 +29,7 @@ use Rattle.match_counts.proofs.BlockSums.{totals_are}
 use Rattle.chain_compactor.specs.Compaction.{compact_class, predicts_compact_fail}
 use Rattle.chain_compactor.specs.CompactModel.{compact_model}
 use Rattle.chain_compactor.specs.CompactCounts.{AreExpected}
-use Rattle.chain_compactor.proofs.ShownWords.{rows_fit}
+use Rattle.chain_compactor.proofs.CompactRows.{rows_fit}
 use Rattle.chain_compactor.proofs.SeenBehind.{seen_are_places}
 use Rattle.chain_compactor.proofs.CompactModel.{compact_model-logic, compact_model-chain}
 use Rattle.chain_compactor.proofs.BlockCounts.{compact_sides}

@@ -1,11 +1,11 @@
-use Rattle.std.proofs.Common.{◌≡◌, ℕ, ◌+◌, ◌<◌, ◌∷◌, ◌++◌, List, [], None, length, get_or, sym, ap, subst, ◌∙◌, inl, inr, arith}
+use Rattle.std.proofs.Common.{◌≡◌, ℕ, ◌∷◌, ◌++◌, List, [], None, length, get_or, ap, subst, ◌∙◌, inl, inr, arith}
 use Rattle.std.proofs.lemmas.Bool.{cases_lt}
 use Rattle.std.proofs.lemmas.List.{get_or_append_left, get_or_push, length-append}
 use Rattle.scan_model.specs.declared.parts.Point.{Point}
 use Rattle.scan_model.specs.declared.parts.Point.TheVariants.{Output}
 use Rattle.lane_rows.specs.Planes.{Planes, held}
 use Rattle.lane_rows.specs.Sources.{no_planes}
-use Rattle.lane_rows.specs.GoodRows.{pattern_of, AreBlockRows}
+use Rattle.lane_rows.specs.GoodRows.{pattern_of}
 use Rattle.fail_logs.specs.IsFrame.{point_among}
 use Rattle.chain_compactor.specs.Compaction.{compact_value}
 use Rattle.chain_compactor.specs.CompactCounts.{expected_at}

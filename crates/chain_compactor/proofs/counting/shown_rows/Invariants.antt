@@ -1,4 +1,4 @@
-use Rattle.std.proofs.Common.{◌≡◌, ℕ, ◌<◌, None, length, get_or}
+use Rattle.std.proofs.Common.{◌≡◌, ℕ, ◌<◌, None, length}
 use Rattle.lane_rows.specs.Planes.{held}
 use Rattle.lane_rows.specs.GoodRows.{pattern_of, AreBlockRows}
 use Rattle.fail_logs.specs.IsFrame.{point_among}

@@ -1,4 +1,4 @@
-use Rattle.std.proofs.Common.{sym, append-nil}
+use Rattle.std.proofs.Common.{append-nil}
 use Rattle.chain_compactor.proofs.tables.push_if.Goals as goal
 
 pub returns-then-not-asked : goal.returns-then-not-asked

@@ -1,11 +1,10 @@
 use Rattle.std.proofs.Common.{◌≡◌, ℕ, List, length, ap, subst, ◌∙◌, arith}
-use Rattle.scan_model.specs.declared.logs.LogFacts.{LogFacts}
 use Rattle.scan_model.specs.declared.logs.Scored.{Scored}
 use Rattle.scan_model.specs.Coverage.{bits_over}
 use Rattle.scan_model.specs.Classes.{class_with}
 use Rattle.scan_model.specs.Ranking.{ranked}
 use Rattle.scan_model.specs.ReportText.{layout_with, joined}
-use Rattle.chain_compactor.specs.Compaction.{compact_class, compact_candidates}
+use Rattle.chain_compactor.specs.Compaction.{compact_candidates}
 use Rattle.chain_compactor.specs.CompactReport.{compact_form, compact_layout}
 use Rattle.chain_compactor.proofs.text.compact_text.Goals as goal
 

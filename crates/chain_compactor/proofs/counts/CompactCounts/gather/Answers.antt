@@ -1,12 +1,8 @@
-use Rattle.std.proofs.Common.{◌≡◌, ℕ, ◌<◌, true, List, length, get_or, sym, ap, ◌∙◌}
-use Rattle.std.proofs.lemmas.List.{get_or_default}
-use Rattle.lane_rows.specs.declared.block.Block.{Block}
-use Rattle.lane_rows.specs.Lanes.{lane}
-use Rattle.lane_rows.specs.GoodRows.{no_block, pattern_of}
+use Rattle.std.proofs.Common.{length, get_or, sym, ◌∙◌}
+use Rattle.lane_rows.specs.GoodRows.{pattern_of}
 use Rattle.scan_model.specs.NetValue.{good_value}
 use Rattle.scan_model.specs.Suspect.{observed_net}
 use Rattle.scan_model.specs.Masks.{flipped}
-use Rattle.packed_sim.specs.Belongs.{block_at, captures}
 use Rattle.fault_effects.specs.FaultModel.{shown_in}
 use Rattle.fault_effects.proofs.NetPoints.{own_all_below}
 use Rattle.chain_compactor.specs.CompactModel.{compact_model}

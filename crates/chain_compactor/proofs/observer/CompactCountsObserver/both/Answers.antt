@@ -1,4 +1,4 @@
-use Rattle.std.proofs.Common.{◌≡◌, ℕ, ◌+◌, ◌<◌, ◌≤◌, ◌^◌, ◌&&◌, ◌||◌, false, length, sym, ap, ◌∙◌, arith}
+use Rattle.std.proofs.Common.{◌≡◌, ℕ, ◌+◌, ◌<◌, ◌≤◌, ◌&&◌, ◌||◌, false, length, sym, ap, ◌∙◌, arith}
 use Rattle.fault_effects.specs.declared.side.Side.{Side}
 use Rattle.fault_effects.specs.declared.side.Side.TheVariants.{Failing, Passing}
 use Rattle.fault_effects.specs.FaultModel.{Table}

@@ -1,9 +1,9 @@
-use Rattle.std.proofs.Common.{◌≡◌, ℕ, ◌<◌, length, sym, ap, subst, ◌∙◌}
+use Rattle.std.proofs.Common.{ℕ, ◌<◌, length, sym, ap, subst, ◌∙◌}
 use Rattle.std.specs.Prelude.{Contains}
 use Rattle.scan_model.specs.declared.fault.Fault.{Fault}
 use Rattle.scan_model.specs.Netlist.{pin_at}
 use Rattle.scan_model.specs.ScanTest.{HasSite}
-use Rattle.scan_model.specs.Masks.{mask, touched_nets, IsLogic}
+use Rattle.scan_model.specs.Masks.{mask, touched_nets}
 use Rattle.lane_rows.specs.GoodRows.{pattern_of}
 use Rattle.fault_effects.proofs.Owned.{gate_kind, stem_mask, touched_pin, only_one, one_of_two}
 use Rattle.chain_compactor.proofs.observer.CompactCountsObserver.mask.Goals as goal

@@ -1,4 +1,4 @@
-use Rattle.std.proofs.Common.{◌≡◌, ℕ, ◌<◌, ◌≤◌, Bool, true, ◌&&◌, List, [], ◌∷◌, length, get_or, sym, ap, ◌∙◌, arith}
+use Rattle.std.proofs.Common.{◌≡◌, Bool, ◌&&◌, length, get_or, sym, ap, ◌∙◌, arith}
 use Rattle.std.proofs.Math.Bool.{and-true}
 use Rattle.lane_rows.specs.Lanes.{lane}
 use Rattle.lane_rows.specs.GoodRows.{pattern_of}
@@ -6,13 +6,12 @@ use Rattle.scan_model.specs.declared.fault.Fault.TheVariants as fault
 use Rattle.scan_model.specs.Netlist.{Netlist, pin_at}
 use Rattle.scan_model.specs.NetValue.{good_value}
 use Rattle.scan_model.specs.Suspect.{observed_net}
-use Rattle.packed_sim.specs.Belongs.{captures}
 use Rattle.fault_effects.specs.declared.side.Side.{Side}
 use Rattle.fault_effects.specs.declared.side.Side.TheVariants.{Failing, Passing}
 use Rattle.fault_effects.specs.FaultModel.{Table, straight_in}
 use Rattle.match_counts.specs.declared.block_count.BlockCount.{BlockCount}
 use Rattle.match_counts.specs.Flips.{count_on}
-use Rattle.match_counts.specs.Tables.{HasTable, IsCount, sum_of_table}
+use Rattle.match_counts.specs.Tables.{HasTable, sum_of_table}
 use Rattle.match_counts.specs.SameTables.{count_same}
 use Rattle.match_counts.proofs.TableSums.{few_kept}
 use Rattle.chain_compactor.specs.Flips.{straight_value}
