@@ -8,5 +8,4 @@ pub mod CaseLogs
 pub mod JoinedLogs
 pub mod NoPairs
 pub mod Candidates
-pub mod RowsFit
 pub mod ViewReports

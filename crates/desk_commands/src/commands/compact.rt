@@ -4,6 +4,7 @@ ghost use Rattle.desk_outside.specs.declared.shelf.File.{File};
 ghost use Rattle.desk_outside.specs.Faults.{Rose};
 ghost use Rattle.scan_model.specs.declared.logs.LogFacts.{LogFacts};
 ghost use Rattle.log_join.specs.Joining.{StandsFor, IsJoinedOf};
+ghost use Rattle.packed_sim.specs.Belongs.{BelongsTo};
 ghost use Rattle.chain_compactor.specs.Channels.{IsCompactorOf};
 ghost use Rattle.chain_compactor.specs.ChannelText.{channel_reading};
 ghost use Rattle.chain_compactor.specs.Compaction.{compact_candidates, compact_rows};
@@ -18,7 +19,7 @@ use crate::design::read_design;
 use crate::files::{Stop, named, read_text};
 use crate::views::{View, view_report};
 use chain_compactor::{
-    Compact, compact_counts, compact_expected, compact_text, read_channels, read_compact_log,
+    Compact, compact_counts, compact_expected_over, compact_text, read_channels, read_compact_log,
 };
 use command_words::Order;
 use desk_outside::Shelf;
@@ -40,16 +41,18 @@ struct Compacted<'v> {
     die: &'v [u8],
 }
 
-// The counts of all faults, with a ledger for steps of simulation.
+// The counts of the faults that explain a fail, with a ledger for steps of simulation.
 fn counts_in<L: Ledger>(
     alloc: Global,
     parts: &Parts,
     compact: &Compact,
+    good: &PackedGood,
     expected: &Expected,
     joined: &Joined,
     blank: Blank,
 ) -> Result<Rows<Scored>, NoMemory>
     requires made { IsCompactorOf parts.now compact.now }
+    requires good { BelongsTo parts.now good.now }
     requires expected { expected.now ≡ compact_rows parts.now compact.now }
     requires joined { IsJoinedOf (length parts.now.patterns) (length compact.now.points) joined.now }
     requires name { blank.name ≡ L.name }
@@ -57,25 +60,26 @@ fn counts_in<L: Ledger>(
     requires some { 0 < blank.parts }
     ensures { (logs : List LogFacts) → StandsFor logs joined.now → IfOk result (λ rows. rows ≡ compact_candidates parts.now compact.now logs) }
 {
-    let good = PackedGood::make(alloc, parts)?;
     let mut steps = Steps::<L>::open(blank);
-    compact_counts(alloc, parts, compact, &good, expected, joined, &mut steps)
+    compact_counts(alloc, parts, compact, good, expected, joined, &mut steps)
 }
 
-// The counts of all faults.
+// The counts of the faults that explain a fail.
 fn counts_of(
     alloc: Global,
     parts: &Parts,
     compact: &Compact,
+    good: &PackedGood,
     expected: &Expected,
     joined: &Joined,
 ) -> Result<Rows<Scored>, NoMemory>
     requires made { IsCompactorOf parts.now compact.now }
+    requires good { BelongsTo parts.now good.now }
     requires expected { expected.now ≡ compact_rows parts.now compact.now }
     requires joined { IsJoinedOf (length parts.now.patterns) (length compact.now.points) joined.now }
     ensures { (logs : List LogFacts) → StandsFor logs joined.now → IfOk result (λ rows. rows ≡ compact_candidates parts.now compact.now logs) }
 {
-    counts_in::<Brand>(alloc, parts, compact, expected, joined, Blank::new(1))
+    counts_in::<Brand>(alloc, parts, compact, good, expected, joined, Blank::new(1))
 }
 
 // The report of joined logs of a compactor.
@@ -92,8 +96,9 @@ fn text_over(
     ensures { (logs : List LogFacts) → StandsFor logs joined.now → head.now.logs ≡ length logs
         → IfOk result (λ text. text ≡ compact_report parts.now compact.now head.now.design head.now.die logs) }
 {
-    let expected = compact_expected(alloc, parts, compact)?;
-    let mut rows = counts_of(alloc, parts, compact, &expected, joined)?;
+    let good = PackedGood::make(alloc, parts)?;
+    let expected = compact_expected_over(alloc, parts, compact, good.rows())?;
+    let mut rows = counts_of(alloc, parts, compact, &good, &expected, joined)?;
     rank(&mut rows);
     compact_text(alloc, parts, compact, head, &expected, joined, &rows)
 }

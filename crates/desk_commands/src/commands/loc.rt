@@ -23,7 +23,7 @@ use log_join::Joined;
 use scan_model::{LogFacts, Name, NoMemory, Parts};
 use std::alloc::Global;
 use text_parts::ReadFault;
-use two_frame::{frame_counts, frame_expected, frame_text};
+use two_frame::{FrameGood, counts_over, expected_over, frame_text};
 
 // A die that was tested with two-frame patterns.
 #[derive(Clone, Copy)]
@@ -40,8 +40,9 @@ fn text_over(alloc: Global, parts: &Parts, head: &Head, joined: &Joined) -> Resu
     requires stands { StandsForSome joined.now }
     ensures { (logs : List LogFacts) → StandsFor logs joined.now → head.now.logs ≡ length logs → IfOk result (λ text. text ≡ frame_report parts.now head.now.design head.now.die logs) }
 {
-    let expected = frame_expected(alloc, parts)?;
-    let mut rows = frame_counts(alloc, parts, &expected, joined)?;
+    let good = FrameGood::make(alloc, parts)?;
+    let expected = expected_over(alloc, parts, &good)?;
+    let mut rows = counts_over(alloc, parts, &good, &expected, joined)?;
     rank(&mut rows);
     frame_text(alloc, parts, head, &expected, joined, &rows)
 }

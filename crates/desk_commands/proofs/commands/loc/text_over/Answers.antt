@@ -1,15 +1,10 @@
-use Rattle.std.proofs.Common.{None, length}
-use Rattle.scan_model.specs.ScanTest.{points_of}
 use Rattle.scan_model.specs.Coverage.{bits_of}
-use Rattle.two_frame.specs.TwoFrame.{frame_class, frame_fails, frame_observed, transitions}
+use Rattle.two_frame.specs.TwoFrame.{frame_class, frame_fails, transitions}
 use Rattle.desk_commands.proofs.Candidates.{in_order, places}
-use Rattle.desk_commands.proofs.RowsFit.{rows_fit}
 use Rattle.desk_commands.proofs.commands.loc.text_over.Goals as goal
 
 pub frame_text-requires-clause-expected : goal.frame_text-requires-clause-expected
-frame_text-requires-clause-expected c =
-    let t = c.args.parts.now in
-    rows_fit (length t.patterns) (points_of t) (frame_observed t None) c.in_ok-expected.expected c.args.joined.now c.in_ok-expected.ensures c.requires.joined
+frame_text-requires-clause-expected c = c.in_ok-expected.ensures.fits c.args.joined.now c.requires.joined
 
 pub frame_text-requires-clause-places : goal.frame_text-requires-clause-places
 frame_text-requires-clause-places c =
@@ -21,4 +16,4 @@ pub returns : goal.returns
 returns c = λ logs stands count.
     let t = c.args.parts.now in
     let ranked = in_order (bits_of t) (frame_class t logs) (frame_fails t) (transitions t) c.in_ok-rows.rows c.rank.new.rows (c.in_ok-rows.ensures logs stands) c.rank.ensures.one in
-    c.frame_text.ensures.report logs stands c.in_ok-expected.ensures count ranked
+    c.frame_text.ensures.report logs stands c.in_ok-expected.ensures.value count ranked
