@@ -61,7 +61,7 @@ ended() {
 }
 
 cd "$top/examples/day" || exit 1
-serve 1 13
+serve 1 15
 ask put-design --upload-file pack.expected "$desk/designs/block"
 ask put-design-again --upload-file pack.expected "$desk/designs/block"
 ask post-first-log --data-binary @first.log "$die/logs"
@@ -76,6 +76,8 @@ cmp -s "$work/printed" report.expected || {
     echo 'report: the bytes are not those of diagnose'
 }
 ask get-page "$die/reports/2/pages/1"
+ask get-slat "$die/reports/2/slat"
+ask get-slat-pattern "$die/reports/2/slat/49"
 digest=$(sha256sum <report.expected)
 sign="{\"revision\": 2, \"signer\": \"kim\", \"digest\": \"${digest%% *}\"}"
 ask post-signoff --data-binary "$sign" "$die/signoffs"

@@ -60,6 +60,19 @@ module _ (s : List (List ℕ)) (r : Resource) where
       let l = part_of (number_at 3 s) (λ line. Some (resource.Page d.0 x.0 n.0 line)) r n.2 in
       let is : resource.Page d.0 x.0 n.0 l.0 ≡ r = let same = l.2 in cc in
       subst HasTags is (tagged 0 s d.0 d.1, tagged 1 s x.0 x.1)
+  named_tags route.Slat e =
+      let d = part_of (tag_at 0 s) (λ design. tag_at 1 s >>= (λ die. number_at 2 s >>= (λ revision. Some (resource.Slat design die revision)))) r e in
+      let x = part_of (tag_at 1 s) (λ die. number_at 2 s >>= (λ revision. Some (resource.Slat d.0 die revision))) r d.2 in
+      let n = part_of (number_at 2 s) (λ revision. Some (resource.Slat d.0 x.0 revision)) r x.2 in
+      let is : resource.Slat d.0 x.0 n.0 ≡ r = let same = n.2 in cc in
+      subst HasTags is (tagged 0 s d.0 d.1, tagged 1 s x.0 x.1)
+  named_tags route.SlatPattern e =
+      let d = part_of (tag_at 0 s) (λ design. tag_at 1 s >>= (λ die. number_at 2 s >>= (λ revision. number_at 3 s >>= (λ pattern. Some (resource.SlatPattern design die revision pattern))))) r e in
+      let x = part_of (tag_at 1 s) (λ die. number_at 2 s >>= (λ revision. number_at 3 s >>= (λ pattern. Some (resource.SlatPattern d.0 die revision pattern)))) r d.2 in
+      let n = part_of (number_at 2 s) (λ revision. number_at 3 s >>= (λ pattern. Some (resource.SlatPattern d.0 x.0 revision pattern))) r x.2 in
+      let p = part_of (number_at 3 s) (λ pattern. Some (resource.SlatPattern d.0 x.0 n.0 pattern)) r n.2 in
+      let is : resource.SlatPattern d.0 x.0 n.0 p.0 ≡ r = let same = p.2 in cc in
+      subst HasTags is (tagged 0 s d.0 d.1, tagged 1 s x.0 x.1)
   named_tags route.Signs e =
       let d = part_of (tag_at 0 s) (λ design. tag_at 1 s >>= (λ die. Some (resource.Signs design die))) r e in
       let x = part_of (tag_at 1 s) (λ die. Some (resource.Signs d.0 die)) r d.2 in

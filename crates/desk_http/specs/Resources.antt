@@ -57,6 +57,17 @@ named route.Page segments = do
   revision ← number_at 2 segments
   line ← number_at 3 segments
   Some (resource.Page design die revision line)
+named route.Slat segments = do
+  design ← tag_at 0 segments
+  die ← tag_at 1 segments
+  revision ← number_at 2 segments
+  Some (resource.Slat design die revision)
+named route.SlatPattern segments = do
+  design ← tag_at 0 segments
+  die ← tag_at 1 segments
+  revision ← number_at 2 segments
+  pattern ← number_at 3 segments
+  Some (resource.SlatPattern design die revision pattern)
 named route.Signs segments = do
   design ← tag_at 0 segments
   die ← tag_at 1 segments
@@ -100,5 +111,7 @@ HasTags (resource.Logs design die) = (is_tag design ≡ true) × (is_tag die ≡
 HasTags (resource.LastReport design die) = (is_tag design ≡ true) × (is_tag die ≡ true)
 HasTags (resource.Report design die revision) = (is_tag design ≡ true) × (is_tag die ≡ true)
 HasTags (resource.Page design die revision line) = (is_tag design ≡ true) × (is_tag die ≡ true)
+HasTags (resource.Slat design die revision) = (is_tag design ≡ true) × (is_tag die ≡ true)
+HasTags (resource.SlatPattern design die revision pattern) = (is_tag design ≡ true) × (is_tag die ≡ true)
 HasTags (resource.Signs design die) = (is_tag design ≡ true) × (is_tag die ≡ true)
 HasTags (resource.Sign design die number) = (is_tag design ≡ true) × (is_tag die ≡ true)

@@ -1,5 +1,5 @@
 -- What a request is answered at its route, after a list of deeds, where the deeds may number so many.
-use Rattle.std.specs.Prelude.{ℕ, ◌==◌, ◌||◌, nat_lt, if◌then◌else◌, List, ◌++◌, length, codes, Option, Some, None, Result, Ok, Err}
+use Rattle.std.specs.Prelude.{ℕ, ◌==◌, ◌&&◌, ◌||◌, nat_lt, if◌then◌else◌, List, ◌++◌, length, codes, Option, Some, None, Result, Ok, Err}
 use Rattle.sha2.specs.Sha256.{sha256}
 use Rattle.scan_model.specs.declared.logs.LogFacts.{LogFacts}
 use Rattle.scan_model.specs.ScanTest.{ScanTest}
@@ -14,6 +14,8 @@ use Rattle.diag_report.specs.PredictedLog.{predicted_log, fault_of}
 use Rattle.diagnosis.specs.declared.section.Section.{Section}
 use Rattle.diagnosis.specs.declared.section.Section.TheVariants as section
 use Rattle.diagnosis.specs.Bundle.{bundle_reading}
+use Rattle.slat_view.specs.Slat.{is_explained, slat_rows}
+use Rattle.slat_view.specs.SlatText.{slat_text, pattern_text}
 use Rattle.book.specs.Deeds.{test_of_text}
 use Rattle.book.specs.Answers.{design_answer, log_answer, sign_answer, design_look, die_look, sign_look}
 use Rattle.desk_replies.specs.declared.status.Status.TheVariants as status
@@ -26,7 +28,7 @@ use Rattle.desk_http.specs.declared.routes.resource.Resource.TheVariants as reso
 use Rattle.book.specs.declared.sign.Sign.{Sign}
 use Rattle.desk_replies.specs.Methods.{allows}
 use Rattle.desk_http.specs.Resources.{methods_of}
-use Rattle.desk_replies.specs.Bodies.{design_body, log_body, sign_off_line, sign_off_body, design_head, unknown_fault_body, unknown_line_body}
+use Rattle.desk_replies.specs.Bodies.{design_body, log_body, sign_off_line, sign_off_body, design_head, unknown_fault_body, unknown_line_body, unknown_pattern_body}
 use Rattle.desk_replies.specs.Answers.{Answer, plain, refused, other_method, unprocessable, put, look}
 
 -- ---- designs that are there
@@ -45,6 +47,12 @@ abbrev pub page_of_lines : List (List ℕ) → ℕ → Answer
 page_of_lines lines from =
     if (from == 0) || nat_lt (length lines) from then plain status.NotFound (unknown_line_body (length lines))
     else plain status.Ok (page_of lines from)
+
+-- the faults that fit an explained pattern
+abbrev pub pattern_page : ScanTest → List LogFacts → ℕ → Answer
+pattern_page t logs w =
+    if nat_lt w (length t.patterns) && is_explained t logs w then plain status.Ok (pattern_text t logs w)
+    else plain status.NotFound (unknown_pattern_body (length (slat_rows t logs)))
 
 -- ---- what is got
 
@@ -73,6 +81,14 @@ module _ (deeds : List Deed) where
   abbrev pub page_get : List ℕ → List ℕ → ℕ → ℕ → Answer
   page_get design die revision from =
       with_die design die (Some revision) (λ t texts. page_of_lines (report_lines t design die (logs_of_texts t design die texts)) from)
+
+  -- how many faults fit each explained pattern of a die at a revision
+  abbrev pub slat_get : List ℕ → List ℕ → ℕ → Answer
+  slat_get design die revision = with_die design die (Some revision) (λ t texts. plain status.Ok (slat_text t design die (logs_of_texts t design die texts)))
+
+  -- which faults fit one of them
+  abbrev pub slat_pattern_get : List ℕ → List ℕ → ℕ → ℕ → Answer
+  slat_pattern_get design die revision w = with_die design die (Some revision) (λ t texts. pattern_page t (logs_of_texts t design die texts) w)
 
   -- a sign-off by its number
   abbrev pub sign_get : List ℕ → List ℕ → ℕ → Answer
@@ -122,6 +138,8 @@ answer_at limit deeds (resource.Logs design die) _ body sign = log_post limit de
 answer_at limit deeds (resource.LastReport design die) _ body sign = report_get deeds design die None
 answer_at limit deeds (resource.Report design die revision) _ body sign = report_get deeds design die (Some revision)
 answer_at limit deeds (resource.Page design die revision line) _ body sign = page_get deeds design die revision line
+answer_at limit deeds (resource.Slat design die revision) _ body sign = slat_get deeds design die revision
+answer_at limit deeds (resource.SlatPattern design die revision pattern) _ body sign = slat_pattern_get deeds design die revision pattern
 answer_at limit deeds (resource.Signs design die) _ body sign = sign_post limit deeds design die sign
 answer_at limit deeds (resource.Sign design die number) _ body sign = sign_get deeds design die number
 

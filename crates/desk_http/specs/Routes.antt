@@ -21,10 +21,12 @@ unfoldable pub routes : RowsOf (RouteOf Route)
 routes =
     with_route (codes "/designs/{design}/dies/{die}/signoffs/{number}") route.Sign
     (with_route (codes "/designs/{design}/dies/{die}/signoffs") route.Signs
+    (with_route (codes "/designs/{design}/dies/{die}/reports/{revision}/slat/{pattern}") route.SlatPattern
+    (with_route (codes "/designs/{design}/dies/{die}/reports/{revision}/slat") route.Slat
     (with_route (codes "/designs/{design}/dies/{die}/reports/{revision}/pages/{line}") route.Page
     (with_route (codes "/designs/{design}/dies/{die}/reports/{revision}") route.Report
     (with_route (codes "/designs/{design}/dies/{die}/report") route.LastReport
     (with_route (codes "/designs/{design}/dies/{die}/logs") route.Logs
     (with_route (codes "/designs/{design}/faults/{fault}/fails") route.Fails
     (with_route (codes "/designs/{design}") route.Design
-    [])))))))
+    [])))))))))

@@ -17,10 +17,12 @@ ghost use Rattle.desk_http.specs.Answering.{IsAnswer, IsAnswerAt, Answered};
 use self::designs::{get_design, get_fails, put_design};
 use self::dies::{get_page, get_report, post_log};
 use self::signs::{get_sign, post_sign};
+use self::slats::{get_slat, get_slat_pattern};
 
 mod designs;
 mod dies;
 mod signs;
+mod slats;
 
 use crate::routes::Routes;
 use crate::routes::resource::Resource;
@@ -164,6 +166,25 @@ fn get_at<R: Threads + Sync, D, S: SeatAt<R, D>>(
             let (revision, line) = (u64::from(*revision), u64::from(*line));
             let (design, die) = (design.as_slice(), die.as_slice());
             get_page(rt, alloc, desk, seat, cache, design, die, revision, line)
+        }
+        Resource::Slat {
+            design,
+            die,
+            revision,
+        } => {
+            let revision = u64::from(*revision);
+            let (design, die) = (design.as_slice(), die.as_slice());
+            get_slat(rt, alloc, desk, seat, design, die, revision)
+        }
+        Resource::SlatPattern {
+            design,
+            die,
+            revision,
+            pattern,
+        } => {
+            let revision = u64::from(*revision);
+            let (design, die) = (design.as_slice(), die.as_slice());
+            get_slat_pattern(rt, alloc, desk, seat, design, die, revision, *pattern)
         }
         Resource::Sign {
             design,

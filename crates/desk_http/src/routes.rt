@@ -25,6 +25,10 @@ pub enum Route {
     Report,
     /// `/designs/{design}/dies/{die}/reports/{revision}/pages/{line}`
     Page,
+    /// `/designs/{design}/dies/{die}/reports/{revision}/slat`
+    Slat,
+    /// `/designs/{design}/dies/{die}/reports/{revision}/slat/{pattern}`
+    SlatPattern,
     /// `/designs/{design}/dies/{die}/signoffs`
     Signs,
     /// `/designs/{design}/dies/{die}/signoffs/{number}`
@@ -52,7 +56,7 @@ impl Model for Routes {
 }
 
 impl Routes {
-    /// The eight routes.
+    /// The ten routes.
     pub fn make(alloc: Global) -> Result<Self, NoMemory>
         ensures { IfOk result (λ table. table ≡ routes) }
     {
@@ -79,6 +83,14 @@ fn add_routes(router: &mut Router<Route>) -> Result<(), InsertError>
     router.insert(
         "/designs/{design}/dies/{die}/reports/{revision}/pages/{line}",
         Route::Page,
+    )?;
+    router.insert(
+        "/designs/{design}/dies/{die}/reports/{revision}/slat",
+        Route::Slat,
+    )?;
+    router.insert(
+        "/designs/{design}/dies/{die}/reports/{revision}/slat/{pattern}",
+        Route::SlatPattern,
     )?;
     router.insert("/designs/{design}/dies/{die}/signoffs", Route::Signs)?;
     router.insert(

@@ -64,12 +64,15 @@ refusal_body refusal.MethodNotAllowed = codes "method not allowed\n"
 refusal_body refusal.UnknownDesign = codes "rule 83\n"
 refusal_body refusal.UnknownDie = codes "rule 84\n"
 
--- how many faults, lines, revisions or sign-offs there are
+-- how many faults, lines, explained patterns, revisions or sign-offs there are
 abbrev pub unknown_fault_body : ℕ → List ℕ
 unknown_fault_body faults = number_line (codes "rule 41 faults") faults
 
 abbrev pub unknown_line_body : ℕ → List ℕ
 unknown_line_body lines = number_line (codes "rule 71 lines") lines
+
+abbrev pub unknown_pattern_body : ℕ → List ℕ
+unknown_pattern_body patterns = number_line (codes "rule 72 patterns") patterns
 
 abbrev pub unknown_revision_body : ℕ → List ℕ
 unknown_revision_body have = number_line (codes "rule 85 have") have

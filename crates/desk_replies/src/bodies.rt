@@ -169,6 +169,13 @@ pub fn unknown_line_body(lines: u64) -> Short
     number_body(b"rule 71 lines", lines)
 }
 
+/// Rule 72: single faults explain so many patterns, and the one of the number isn't among them.
+pub fn unknown_pattern_body(patterns: u64) -> Short
+    ensures { result ≡ body.unknown_pattern_body patterns }
+{
+    number_body(b"rule 72 patterns", patterns)
+}
+
 /// Rule 82: the name has another text, with this digest.
 pub fn name_taken_body(kept: &Digest) -> Short
     ensures { result ≡ body.name_taken_body kept.now }

@@ -46,6 +46,19 @@ pub enum Resource {
         revision: u32,
         line: u32,
     },
+    /// `/designs/{design}/dies/{die}/reports/{revision}/slat`: the patterns that single faults explain, by so many first logs of a die.
+    Slat {
+        design: Name,
+        die: Name,
+        revision: u32,
+    },
+    /// `/designs/{design}/dies/{die}/reports/{revision}/slat/{pattern}`: the faults that explain one of them, by its number from 0.
+    SlatPattern {
+        design: Name,
+        die: Name,
+        revision: u32,
+        pattern: u32,
+    },
     /// `/designs/{design}/dies/{die}/signoffs`: the sign-offs of a die.
     Signs {
         design: Name,
@@ -136,6 +149,17 @@ fn named(alloc: Global, route: Route, params: &Params<'_, '_>) -> Result<Resourc
             die: tag_at(alloc, params, 1)?,
             revision: number_at(params, 2)?,
             line: number_at(params, 3)?,
+        },
+        Route::Slat => Resource::Slat {
+            design,
+            die: tag_at(alloc, params, 1)?,
+            revision: number_at(params, 2)?,
+        },
+        Route::SlatPattern => Resource::SlatPattern {
+            design,
+            die: tag_at(alloc, params, 1)?,
+            revision: number_at(params, 2)?,
+            pattern: number_at(params, 3)?,
         },
         Route::Signs => Resource::Signs {
             design,

@@ -1,0 +1,13 @@
+mod Fitting
+mod Texts
+pub mod PlaceSums
+mod Disagreeing
+pub mod Tables
+mod PinTables
+mod Listed
+mod Ranges
+mod Carries
+mod Trying
+mod BlockFits
+pub mod Serving
+pub mod Counting

@@ -1,0 +1,1 @@
+use Rattle.slat_view.proofs.observer.FitsObserver.flip.Goals as goal

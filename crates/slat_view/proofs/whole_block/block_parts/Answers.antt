@@ -1,0 +1,34 @@
+use Rattle.std.proofs.Common.{◌≡◌, ℕ, ◌+◌, ◌<◌, List, [], ◌++◌, length, get_or, sym, ap, subst, ◌∙◌, inl, inr, arith}
+use Rattle.std.proofs.lemmas.Bool.{cases_eq}
+use Rattle.scan_model.specs.Netlist.{Netlist}
+use Rattle.fault_effects.specs.declared.share.Share.{Share}
+use Rattle.fault_effects.specs.declared.work_kind.WorkKind.TheVariants.{Cells}
+use Rattle.fault_effects.specs.Owners.{owner, suspect_at}
+use Rattle.fault_effects.specs.Pieces.{IsServed}
+use Rattle.fault_effects.specs.Shares.{Shares}
+use Rattle.fault_effects.proofs.PieceShares.{shares_behind}
+use Rattle.fault_effects.proofs.ShareLists.{shares_join}
+use Rattle.fault_effects.proofs.OwnerGroups.{owned_in}
+use Rattle.slat_view.proofs.whole_block.block_parts.Goals as goal
+
+pub returns : goal.returns
+returns g c =
+    let w = c.args.work.now in
+    let t = w.parts.now in
+    let o = w.observer.now in
+    let suspects = w.suspects.now in
+    let N = length t.netlist.nets in
+    let owner_at : ℕ → ℕ = λ i. owner t (suspect_at suspects i).fault in
+    let cells = c.group.result.now in
+    let served = IsServed t suspects Cells cells in
+    let logic = c.in_ok-shares.shares in
+    let count : c.len-count.result ≡ N = c.len-count.ensures ∙ ap length (c.nets.ensures.value ∙ ap (λ (n : Netlist). n.nets) c.circuit.ensures.value) in
+    let cells_are : cells ≡ get_or w.owners.now (N + 2) [] = c.group.ensures ∙ ap (λ (n : ℕ). get_or w.owners.now (n + 2) []) count in
+    let Joined : List (Share g.row.O-Part.Denot) → Type 0 = Shares (g.O.Observer.means o) (g.O.Observer.model o) (g.O.Observer.block o) suspects served logic in
+    let behind : Joined c.append.new.shares = subst Joined (sym (c.in_ok-append.ensures ∙ ap (λ (piece : List (Share g.row.O-Part.Denot)). logic ++ piece) c.as_slice.ensures))
+    (shares_behind (g.O.Observer.means o) (g.O.Observer.model o) (g.O.Observer.block o) suspects served logic c.in_ok-cells.cells c.in_ok-cells.ensures) in
+    shares_join (g.O.Observer.means o) (g.O.Observer.model o) (g.O.Observer.block o) suspects (λ i. owner_at i < N + 2) served (λ i. owner_at i < N + 3) [] logic c.append.new.shares c.in_ok-shares.ensures behind
+    (λ i lt below. elim (cases_eq (owner_at i) (N + 2)) [
+      | inl same ↦ inr (owned_in t suspects w.owners.now (N + 2) cells c.requires.work.owners cells_are i lt same)
+      | inr other ↦ inl (omega (arith, below, other))
+    ])

@@ -1,0 +1,26 @@
+//! Patterns that one location explains: failing patterns whose fails one single fault predicts exactly.
+#![tactic(auto)]
+
+mod chain_observer;
+mod counts;
+mod failing;
+mod fit;
+mod fits;
+mod lane_counter;
+mod laws;
+mod observer;
+mod places;
+mod prepared;
+mod shares;
+mod slat;
+mod straight;
+mod tested;
+mod text;
+mod views;
+mod whole_block;
+
+pub use lane_counter::LaneCounter;
+pub use laws::{bad_moves, fits_by_sum, fits_is_candidate};
+pub use slat::{Slat, SlatCount};
+pub use text::{pattern_text, slat_text};
+pub use views::{slat_counts, slat_places};

@@ -1,0 +1,16 @@
+//! Counts of the patterns that one fault explains.
+use scan_model::Rows;
+
+/// A pattern that some fault fits, and how many do.
+#[derive(Clone, Copy, Debug)]
+pub struct SlatCount {
+    pub pattern: u32,
+    pub faults: u32,
+}
+
+/// How many patterns are failing, and those of them that some fault fits, in rising order.
+#[derive(Debug, Drop)]
+pub struct Slat {
+    pub failing: u32,
+    pub rows: Rows<SlatCount>,
+}

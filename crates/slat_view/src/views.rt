@@ -1,0 +1,65 @@
+//! The explained patterns of a view of a die.
+ghost use Rattle.std.specs.Prelude.{◌≡◌, ◌<◌, All, Contains, length, map, IfOk};
+ghost use Rattle.scan_model.specs.MatchCounts.{candidates};
+ghost use Rattle.diagnosis.specs.Designs.{facts_of};
+ghost use Rattle.slat_view.specs.Slat.{failing_patterns, slat_rows, fitting_places};
+
+use crate::counts::counts_of;
+use crate::places::places_with;
+use crate::prepared::Prepared;
+use crate::slat::Slat;
+use crate::tested::Tested;
+use diagnosis::{DieView, joined_of};
+use scan_model::{NoMemory, Rows};
+use std::alloc::Global;
+use std::thread::Threads;
+
+/// How many patterns of a die are failing, and which of them single faults explain, each with the number of faults that fit.
+/// Suspects alone are tried, 512 patterns at a time: one flip serves all faults of a net.
+pub fn slat_counts<R: Threads + Sync>(
+    _rt: &R,
+    alloc: Global,
+    view: &DieView,
+) -> Result<Slat, NoMemory>
+    ensures failing { IfOk result (λ slat. slat.failing ≡ failing_patterns view.now.design.test (facts_of view.now.logs)) }
+    ensures rows { IfOk result (λ slat. slat.rows ≡ slat_rows view.now.design.test (facts_of view.now.logs)) }
+{
+    let design = view.design();
+    let parts = design.parts();
+    let expected = design.expected();
+    let joined = joined_of(alloc, parts, view.logs().as_slice())?;
+    let die = Prepared::make(alloc, parts, expected, joined)?;
+    let tested = Tested {
+        parts,
+        expected,
+        die: &die,
+    };
+    counts_of(alloc, &tested)
+}
+
+/// The places of the faults that fit a pattern, rising: none where it isn't failing. Each is a candidate of the report over the
+/// same logs. That costs the block of 512 patterns that has it.
+pub fn slat_places<R: Threads + Sync>(
+    _rt: &R,
+    alloc: Global,
+    view: &DieView,
+    pattern: u32,
+) -> Result<Rows<u32>, NoMemory>
+    requires { pattern < length view.now.design.test.patterns }
+    ensures places { IfOk result (λ places. places ≡ fitting_places view.now.design.test (facts_of view.now.logs) pattern) }
+    ensures candidates { IfOk result (All (Contains (map (λ row. row.place) (candidates view.now.design.test (facts_of view.now.logs))))) }
+{
+    let design = view.design();
+    let parts = design.parts();
+    let _ = parts.patterns();
+    let expected = design.expected();
+    let joined = joined_of(alloc, parts, view.logs().as_slice())?;
+    let die = Prepared::make(alloc, parts, expected, joined)?;
+    let tested = Tested {
+        parts,
+        expected,
+        die: &die,
+    };
+    let tried = tested.block(alloc, pattern / 512)?;
+    places_with(alloc, tried.fits.as_slice(), pattern % 512)
+}
