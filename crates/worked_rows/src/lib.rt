@@ -1,4 +1,5 @@
-//! Worked rows: small designs and logs whose answers are known from outside, tried across the readers and the engines.
+//! Worked rows of calls that no command reaches: small designs and logs whose answers are known from
+//! outside, and the counts beside those by plain simulation.
 #![tactic(auto)]
 
 #[cfg(test)]

@@ -1,9 +1,8 @@
-mod circuits;
-mod dies;
+mod counts;
+mod designs;
 mod faults;
-mod netlists;
-mod predicted;
-mod profiles;
+mod logs;
 mod readers;
-mod reports;
 mod responses;
+mod steps;
+mod suspects;

@@ -58,8 +58,8 @@ fn outside(rt: &impl Abort, alloc: Global, read: u64) -> Outside {
     }
 }
 
-/// Whether a run ends so where the read and the write with these numbers fail, none where a number is 0.
-pub fn ends<R: Abort + Threads + Wait + Sync>(
+// Whether a run ends so where the read and the write with these numbers fail, none where a number is 0.
+fn ends<R: Abort + Threads + Wait + Sync>(
     rt: &R,
     alloc: Global,
     words: &[&str],
@@ -85,43 +85,17 @@ fn each_call_fails_in_turn(rt: HostRuntime) {
     }
 }
 
-// Over a sink that takes a byte at a time and fails at the write with this number, the run ends so.
-fn is_cut<R: Abort + Threads + Wait + Sync>(
-    rt: &R,
-    alloc: Global,
-    words: &[&str],
-    write: u64,
-    due: u8,
-    text: &[u8],
-) -> bool {
+// Whether the report's run over a sink that takes a byte at a time, and fails behind so many, ends with 6 and leaves these.
+fn is_cut<R: Abort + Threads + Wait + Sync>(rt: &R, alloc: Global, text: &[u8]) -> bool {
     let mut outside = outside(rt, alloc, 0);
-    let mut sink = ByteSink::over(sink(rt, alloc, write));
-    let status = status(rt, alloc, words, &mut outside, &mut sink);
-    status == due && sink.sink().bytes() == text
-}
-
-// Byte by byte, each write of the text fails in turn: what was written before it stays, and the status is 6.
-fn is_cut_anywhere<R: Abort + Threads + Wait + Sync>(
-    rt: &R,
-    alloc: Global,
-    words: &[&str],
-    due: u8,
-    text: &[u8],
-) {
-    for before in 0..text.len() {
-        assert!(rt;
-            is_cut(rt, alloc, words, before as u64 + 1, 6, &text[..before]),
-            "byte {before}"
-        );
-    }
-    assert!(rt;
-        is_cut(rt, alloc, words, text.len() as u64 + 1, due, text),
-        "the end"
-    );
+    let mut sink = ByteSink::over(sink(rt, alloc, text.len() as u64 + 1));
+    let status = status(rt, alloc, &REPORTED, &mut outside, &mut sink);
+    status == 6 && sink.sink().bytes() == text
 }
 
 #[test]
 fn each_byte_fails_in_turn(rt: HostRuntime) {
-    is_cut_anywhere(&rt, rt.alloc(), &REPORTED, 0, REPORT);
-    is_cut_anywhere(&rt, rt.alloc(), &GONE, 4, b"gone absent\n");
+    for before in 0..REPORT.len() {
+        assert!(rt; is_cut(&rt, rt.alloc(), &REPORT[..before]), "byte {before}");
+    }
 }

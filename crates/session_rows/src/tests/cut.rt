@@ -1,5 +1,6 @@
 //! Connections that fail, in each of their calls. Those that are cut off anywhere are among the
 //! examples (examples/sessions.py).
+use super::piece_link::PieceLink;
 use super::texts::*;
 use super::*;
 
@@ -19,27 +20,16 @@ const SENT: [&[u8]; 4] = [
 ];
 
 // A connection that asks for all and fails in the call with this number.
-fn failing(alloc: Global, call: u64, by_bytes: bool) -> Result<PieceLink<MemLink>, NoMemory> {
-    let mut calls = Rows::new(alloc);
-    calls.push(call)?;
-    let link = MemLink::make_failing(alloc, joined(alloc, &ASKED)?, calls)?;
-    Ok(PieceLink::over(link, by_bytes))
+fn failing(rt: &impl Abort, alloc: Global, call: u64, by_bytes: bool) -> PieceLink<MemLink> {
+    let asked = joined(rt, alloc, &ASKED);
+    let link = MemLink::make_failing(alloc, asked, only(rt, alloc, call)).expect(rt, "memory");
+    PieceLink::over(link, by_bytes)
 }
 
 // There are as many deeds as the last mark says.
 fn has_its_deeds(outcome: &Outcome, end: SessionEnd) -> bool {
     let last = outcome.note.marks.as_slice().last().copied();
     outcome.note.end == end && outcome.book.deeds() == last.unwrap_or(0)
-}
-
-fn ends_with_its_deeds<R: Threads + Wait + Sync, L: Link>(
-    rt: &R,
-    alloc: Global,
-    link: &mut L,
-    end: SessionEnd,
-) -> Result<bool, NoMemory> {
-    let outcome = serve_new(rt, alloc, keeper_of(alloc, &[])?, 100, link)?;
-    Ok(has_its_deeds(&outcome, end))
 }
 
 // Connections that fail in the call with a number from the first to before the second, and how
@@ -75,43 +65,27 @@ const FAILS: [Fails; 4] = [
     },
 ];
 
-// Whether a session over the connection ends so, and sends a front of what is due.
-fn sends_front<R: Threads + Wait + Sync>(
+// Whether a session over the connection that fails in this call ends so, with its deeds, and sends a
+// front of what is due.
+fn sends_front<R: Abort + Threads + Wait + Sync>(
     rt: &R,
     alloc: Global,
-    link: &mut Result<PieceLink<MemLink>, NoMemory>,
+    call: u64,
+    fails: &Fails,
     due: &[u8],
-    end: SessionEnd,
 ) -> bool {
-    match link {
-        Ok(link) => {
-            matches!(ends_with_its_deeds(rt, alloc, link, end), Ok(true))
-                && due.starts_with(link.link().sent())
-        }
-        Err(_) => false,
-    }
-}
-
-fn send_fronts<R: Threads + Wait + Sync>(rt: &R, alloc: Global, fails: &Fails, due: &[u8]) -> bool {
-    for call in fails.calls.0..fails.calls.1 {
-        let mut link = failing(alloc, call, fails.by_bytes);
-        if !sends_front(rt, alloc, &mut link, due, fails.end) {
-            return false;
-        }
-    }
-    true
+    let mut link = failing(rt, alloc, call, fails.by_bytes);
+    let outcome = serve_over(rt, alloc, new_keeper(rt, alloc), 100, &mut link);
+    has_its_deeds(&outcome, fails.end) && due.starts_with(link.link().sent())
 }
 
 #[test]
-fn a_connection_that_fails_ends_its_session(rt: HostRuntime) -> Result<(), NoMemory> {
-    let due = joined(rt.alloc(), &SENT)?;
+fn a_connection_that_fails_ends_its_session(rt: HostRuntime) {
+    let due = joined(&rt, rt.alloc(), &SENT);
     for fails in &FAILS {
-        assert!(rt;
-            send_fronts(&rt, rt.alloc(), fails, due.as_slice()),
-            "from call {} by bytes {}",
-            fails.calls.0,
-            fails.by_bytes
-        );
+        for call in fails.calls.0..fails.calls.1 {
+            let is_front = sends_front(&rt, rt.alloc(), call, fails, due.as_slice());
+            assert!(rt; is_front, "call {call} by bytes {}", fails.by_bytes);
+        }
     }
-    Ok(())
 }

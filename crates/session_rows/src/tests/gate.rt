@@ -1,5 +1,5 @@
 //! No session waits for another that is held in its gate.
-ghost use Rattle.std.specs.Prelude.{◌≡◌, All, IfOk};
+ghost use Rattle.std.specs.Prelude.{◌≡◌, All};
 ghost use Rattle.desk_http.specs.DeskSeats.{IsSeatOf};
 
 use super::desks::start_two;
@@ -107,47 +107,45 @@ struct Meeting<'a> {
 }
 
 // The keeper behind the connection that comes before both.
-fn keeper_behind<R: Threads + Wait + Sync>(
+fn keeper_behind<R: Abort + Threads + Wait + Sync>(
     rt: &R,
     alloc: Global,
     texts: &[&[u8]],
-) -> Result<MemKeeper, NoMemory> {
-    let mut link = link_of(alloc, texts, false)?;
-    let outcome = serve_new(rt, alloc, keeper_of(alloc, &[])?, 100, &mut link)?;
-    Ok(outcome.book.close())
+) -> MemKeeper {
+    let mut link = link_of(rt, alloc, texts);
+    let outcome = serve_over(rt, alloc, new_keeper(rt, alloc), 100, &mut link);
+    outcome.book.close()
 }
 
 // Whether both connections were sent what is due, and the first was held until the second was answered.
-fn is_met(sides: &[Side<PieceLink<MemLink>>], meeting: &Meeting<'_>) -> bool {
+fn is_met(sides: &[Side<MemLink>], meeting: &Meeting<'_>) -> bool {
     matches!(sides, [held, free] if held.opened
-        && are_parts(held.link.link().sent(), meeting.held_sent)
-        && are_parts(free.link.link().sent(), meeting.free_sent))
+        && are_parts(held.link.sent(), meeting.held_sent)
+        && are_parts(free.link.sent(), meeting.free_sent))
 }
 
-fn do_not_wait<R: Threads + Wait + Sync>(
+fn do_not_wait<R: Abort + Threads + Wait + Sync>(
     rt: &R,
     alloc: Global,
     meeting: &Meeting<'_>,
-) -> Result<bool, NoMemory> {
-    let keeper = keeper_behind(rt, alloc, meeting.before)?;
-    let held_link = link_of(alloc, meeting.held, false)?;
-    let free_link = link_of(alloc, meeting.free, false)?;
-    let (desk, first, second) = start_two(rt, alloc, keeper, 100)?;
+) -> bool {
+    let keeper = keeper_behind(rt, alloc, meeting.before);
+    let (desk, first, second) = start_two(rt, alloc, keeper, 100);
     let held = Side {
         seat: first,
-        link: held_link,
+        link: link_of(rt, alloc, meeting.held),
         is_held: true,
         opened: false,
     };
     let free = Side {
         seat: second,
-        link: free_link,
+        link: link_of(rt, alloc, meeting.free),
         is_held: false,
         opened: false,
     };
     let mut sides = [held, free];
     serve_both(rt, alloc, &desk, &mut sides, &AtomicU64::new(0));
-    Ok(is_met(&sides, meeting))
+    is_met(&sides, meeting)
 }
 
 const MEETINGS: [(&str, Meeting<'static>); 3] = [
@@ -186,9 +184,6 @@ const MEETINGS: [(&str, Meeting<'static>); 3] = [
 #[test]
 fn a_session_that_is_held_holds_no_other(rt: HostRuntime) {
     for (shown, meeting) in &MEETINGS {
-        assert!(rt;
-            matches!(do_not_wait(&rt, rt.alloc(), meeting), Ok(true)),
-            "{shown}"
-        );
+        assert!(rt; do_not_wait(&rt, rt.alloc(), meeting), "{shown}");
     }
 }

@@ -1,52 +1,47 @@
-//! The readers of scan texts and of neighbour lists, called by themselves.
-use super::circuits::{c17, s27, s27_chain};
+//! The readers of netlists, scan texts and neighbour lists, called by themselves, and the cones of
+//! nets.
+use super::designs::{C17, S27, S27_CHAIN};
 use bench_reader::read_netlist;
 use bridge_pairs::read_pairs;
-use scan_model::{Chain, Circuit, Pair, Pairs, Rows};
+use scan_model::{Circuit, NoMemory, Pair, Rows};
 use scan_text::read_scan;
 use std::alloc::Global;
-use text_parts::ReadFault;
+use std::process::Abort;
 
-// Whether there is one chain, of the nets 4, 5 and 6.
-fn has_its_cells(chains: &Result<Rows<Chain>, ReadFault>) -> bool {
-    match chains {
-        Ok(chains) =>
-            matches!(chains.as_slice(), [chain] if chain.cells.as_slice() == [4, 5, 6].as_slice()),
-        Err(_) => false,
-    }
+fn circuit(rt: &impl Abort, alloc: Global, netlist: &str) -> Circuit {
+    read_netlist(alloc, netlist.as_bytes()).expect(rt, "a netlist")
 }
 
-fn reads_chain(alloc: Global, circuit: &Result<Circuit, ReadFault>) -> bool {
-    match circuit {
-        Ok(circuit) => has_its_cells(&read_scan(alloc, circuit, s27_chain().as_bytes())),
-        Err(_) => false,
-    }
+fn lists(cone: &Result<Rows<u32>, NoMemory>, nets: &[u32]) -> bool {
+    matches!(cone, Ok(found) if found.as_slice() == nets)
 }
 
+// The fan-out cone of net 11, by number 6, and the fan-in cones of the input 3, by number 2, and of
+// net 10, by number 5.
+#[test]
+fn cones_to_both_outputs_and_back_to_inputs(rt: HostRuntime) {
+    let c17 = circuit(&rt, rt.alloc(), C17);
+    assert!(rt; c17.nets().len() == 11);
+    assert!(rt; lists(&c17.cone_out(6), &[6, 7, 8, 9, 10]));
+    assert!(rt; lists(&c17.cone_in(2), &[2]));
+    assert!(rt; lists(&c17.cone_in(5), &[0, 2, 5]));
+}
+
+// One chain, of the nets 4, 5 and 6.
 #[test]
 fn a_chain_of_s27(rt: HostRuntime) {
-    assert!(rt; reads_chain(rt.alloc(), &read_netlist(rt.alloc(), s27().as_bytes())));
+    let s27 = circuit(&rt, rt.alloc(), S27);
+    let chains = read_scan(rt.alloc(), &s27, S27_CHAIN.as_bytes()).expect(&rt, "a scan text");
+    assert!(rt;
+        matches!(chains.as_slice(), [chain] if chain.cells.as_slice() == [4, 5, 6].as_slice())
+    );
 }
 
-// Whether the pair of 10 and 19 is kept, and that of 3 and 10 left out.
-fn are_parted(pairs: &Result<Pairs, ReadFault>) -> bool {
-    match pairs {
-        Ok(pairs) => {
-            pairs.kept.as_slice() == [Pair { a: 5, b: 8, row: 2 }].as_slice()
-                && pairs.left_out.as_slice() == [Pair { a: 2, b: 5, row: 3 }].as_slice()
-        }
-        Err(_) => false,
-    }
-}
-
-fn parts_pairs(alloc: Global, circuit: &Result<Circuit, ReadFault>) -> bool {
-    match circuit {
-        Ok(circuit) => are_parted(&read_pairs(alloc, circuit, b"net_a,net_b\n10,19\n3,10\n")),
-        Err(_) => false,
-    }
-}
-
+// The pair of 10 and 19 is kept, and that of 3 and 10 left out.
 #[test]
 fn pairs_of_c17(rt: HostRuntime) {
-    assert!(rt; parts_pairs(rt.alloc(), &read_netlist(rt.alloc(), c17().as_bytes())));
+    let c17 = circuit(&rt, rt.alloc(), C17);
+    let pairs = read_pairs(rt.alloc(), &c17, b"net_a,net_b\n10,19\n3,10\n").expect(&rt, "pairs");
+    assert!(rt; pairs.kept.as_slice() == [Pair { a: 5, b: 8, row: 2 }].as_slice());
+    assert!(rt; pairs.left_out.as_slice() == [Pair { a: 2, b: 5, row: 3 }].as_slice());
 }

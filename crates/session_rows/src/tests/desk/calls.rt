@@ -1,6 +1,5 @@
 //! What a worker asks of a desk.
-ghost use Rattle.std.specs.Prelude.{◌≡◌, ◌<◌, length, true};
-ghost use Rattle.scan_model.specs.Words.{is_tag};
+ghost use Rattle.std.specs.Prelude.{◌≡◌, ◌<◌, length};
 ghost use Rattle.book.specs.Changes.{IsViewIn};
 
 use book::{Design, DieView, Put, PutFault, check_report, log_of, read_bundle};
@@ -8,18 +7,16 @@ use desk_outside::MemKeeper;
 use scan_model::{Digest, Name, NoMemory};
 use shared_desk::{Desk, DeskSeat, Marked};
 use std::alloc::Global;
+use std::process::Abort;
 use std::sync::{Arc, Wait};
 use std::thread::Threads;
 
-/// The design of that name and bundle.
-pub(super) fn design_of_name(
-    alloc: Global,
-    name: &[u8],
-    bundle: &[u8],
-) -> Result<Arc<Design>, NoMemory>
-    requires { is_tag name.now ≡ true }
-{
-    match read_bundle(alloc, name, bundle) {
+const BUNDLE: &[u8] =
+    b"%netlist\nINPUT(1)\nINPUT(2)\nINPUT(3)\nINPUT(6)\nINPUT(7)\nOUTPUT(22)\nOUTPUT(23)\n10 = NAND(1, 3)\n11 = NAND(3, 6)\n16 = NAND(2, 11)\n19 = NAND(11, 7)\n22 = NAND(10, 16)\n23 = NAND(16, 19)\n%scan\n%patterns\nCAPTURE 11111\n%neighbours\n";
+
+/// The design c17.
+pub(super) fn c17(alloc: Global) -> Result<Arc<Design>, NoMemory> {
+    match read_bundle(alloc, b"c17", BUNDLE) {
         Ok(design) => Ok(Arc::new(alloc, design)?),
         Err(_) => Err(NoMemory),
     }
@@ -51,45 +48,41 @@ pub(super) fn put_log<R: Wait>(
 }
 
 // Signs the revision that the seat has seen.
-fn sign_view<R: Threads + Wait + Sync>(
+fn sign_view<R: Abort + Threads + Wait + Sync>(
     rt: &R,
     alloc: Global,
     desk: &Desk<MemKeeper>,
     seat: &mut DeskSeat,
     view: &DieView,
     digest: &Digest,
-) -> Result<Marked<Result<Put, PutFault>>, NoMemory>
+) -> Marked<Result<Put, PutFault>>
     requires desk { seat.old.desk ≡ desk.now }
     requires logs { 0 < length view.now.logs }
     requires view { IsViewIn seat.old.seen view.now }
     ensures desk { seat.new.desk ≡ seat.old.desk }
     ensures number { seat.new.number ≡ seat.old.number }
 {
-    let checked = check_report(rt, alloc, view)?;
-    let signer = Name::copy_of(alloc, b"ann")?;
-    Ok(desk.sign(rt, seat, &checked, &signer, digest))
+    let checked = check_report(rt, alloc, view).expect(rt, "memory");
+    let signer = Name::copy_of(alloc, b"ann").expect(rt, "memory");
+    desk.sign(rt, seat, &checked, &signer, digest)
 }
 
-/// Signs a revision of die D1 of c17, as a worker does that looks at the die first. `None` where there is no such revision.
-pub(super) fn sign_die<R: Threads + Wait + Sync>(
+/// Signs the first revision of die D1 of c17, as a worker does that looks at the die first.
+pub(super) fn sign_first<R: Abort + Threads + Wait + Sync>(
     rt: &R,
     alloc: Global,
     desk: &Desk<MemKeeper>,
     seat: &mut DeskSeat,
-    revision: u64,
     digest: &Digest,
-) -> Result<Option<Marked<Result<Put, PutFault>>>, NoMemory>
+) -> Marked<Result<Put, PutFault>>
     requires { seat.old.desk ≡ desk.now }
     ensures desk { seat.new.desk ≡ seat.old.desk }
     ensures number { seat.new.number ≡ seat.old.number }
 {
-    let looked = desk.look_die(rt, seat, b"c17", b"D1", Some(revision));
+    let looked = desk.look_die(rt, seat, b"c17", b"D1", Some(1));
     let Ok(view) = looked.answer else {
-        return Ok(None);
+        rt.panic("the die is there");
     };
-    if view.revision() == 0 {
-        return Ok(None);
-    }
-    let signed = sign_view(rt, alloc, desk, seat, &view, digest)?;
-    Ok(Some(signed))
+    assert!(rt; view.revision() != 0);
+    sign_view(rt, alloc, desk, seat, &view, digest)
 }

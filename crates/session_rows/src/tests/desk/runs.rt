@@ -1,158 +1,107 @@
-//! What two seats of a desk are told, one after the other: a full book, a keeper that fails once,
-//! and sign-offs.
+//! What two seats of a desk are told: one that did nothing finds what the other put, and a sign-off
+//! stays with its revision.
 ghost use Rattle.std.specs.Prelude.{◌≡◌};
 
-use super::asks::{Ask, Deed, Look, Told, is_told};
-use super::*;
-use book::Book;
+use super::super::desks::{finish_two, start_two};
+use super::super::new_keeper;
+use super::calls::{c17, put_log, sign_first};
+use book::{LookFault, Put, PutFault, Sign};
 use desk_outside::MemKeeper;
-use scan_model::{NoMemory, Rows};
-use shared_desk::{Desk, DeskSeat};
+use scan_model::Digest;
+use shared_desk::{Desk, DeskSeat, Marked};
 use std::alloc::Global;
+use std::process::Abort;
 use std::sync::Wait;
 use std::thread::Threads;
 
-// What a seat asks, and what it is told.
-type Step = (Ask, Told);
+const FAILS: &[u8] = b"FAILLOG 1\ndie D1\ndesign c17\ntested 0 0\nfail 0 out 22\nend\n";
 
-// A desk whose keeper fails in these calls; what its seats are told, the first before and after the
-// second; and the seats of the deeds at the end. The opening asks for row 0, and each deed is a
-// call.
-#[derive(Clone, Copy)]
-struct Run {
-    shown: &'static str,
-    failing: &'static [u64],
-    max_deeds: u32,
-    first: &'static [Step],
-    second: &'static [Step],
-    last: &'static [Step],
-    by: &'static [u32],
-}
+const PASSES: &[u8] = b"FAILLOG 1\ndie D1\ndesign c17\ntested 0 0\nend\n";
 
-const RUNS: [Run; 3] = [
-    Run {
-        shown: "a full book knows what it has",
-        failing: &[],
-        max_deeds: 1,
-        first: &[
-            (Ask::Do(Deed::C17), (1, "created", 1)),
-            (Ask::Do(Deed::Fails), (1, "full", 1)),
-            (Ask::Do(Deed::C17), (1, "same", 1)),
-        ],
-        second: &[],
-        last: &[],
-        by: &[0],
-    },
-    Run {
-        shown: "an idle seat finds what another put, and a sign-off stays with its revision",
-        failing: &[],
-        max_deeds: 10,
-        first: &[
-            (Ask::Do(Deed::C17), (1, "created", 1)),
-            (Ask::Do(Deed::Fails), (2, "created", 1)),
-        ],
-        second: &[
-            (Ask::See(Look::Die), (2, "revision", 1)),
-            (Ask::Do(Deed::SignWrong), (2, "differs", 0)),
-            (Ask::Do(Deed::SignRight), (3, "created", 1)),
-        ],
-        last: &[
-            (Ask::See(Look::SecondRevision), (3, "no more than", 1)),
-            (Ask::Do(Deed::Passes), (4, "created", 2)),
-            (Ask::Do(Deed::SignRight), (4, "same", 1)),
-            (Ask::See(Look::FirstSign), (4, "signed", 1)),
-        ],
-        by: &[0, 0, 1, 0],
-    },
-    Run {
-        shown: "the first log fails once",
-        failing: &[4],
-        max_deeds: 10,
-        first: &[],
-        second: &[
-            (Ask::Do(Deed::C17), (1, "created", 1)),
-            (Ask::Do(Deed::Other), (2, "created", 2)),
-            (Ask::Do(Deed::Fails), (2, "failed", 0)),
-            (Ask::Do(Deed::Fails), (3, "created", 1)),
-            (Ask::Do(Deed::Passes), (4, "created", 2)),
-            (Ask::Do(Deed::OtherPasses), (5, "created", 1)),
-        ],
-        last: &[],
-        by: &[1, 1, 1, 1, 1],
-    },
+// SHA-256 of the report of c17's die of which 22 fails.
+const RIGHT: [u8; 32] = [
+    0xf8, 0xb6, 0x58, 0xff, 0x1c, 0x75, 0x35, 0xfc, 0xdb, 0x3e, 0x94, 0xbb, 0xc5, 0x99, 0x98, 0xac,
+    0xa3, 0xc6, 0x39, 0xea, 0x60, 0xab, 0xb6, 0x00, 0xf8, 0x5c, 0x4b, 0x97, 0x4f, 0xf6, 0xae, 0x23,
 ];
 
-fn are_told<R: Threads + Wait + Sync>(
+// Whether the answer at this mark is that a deed was made, or was there already, with this number.
+fn is_put(put: &Marked<Result<Put, PutFault>>, mark: u64, due: &Put) -> bool {
+    put.mark == mark && matches!(&put.answer, Ok(told) if told == due)
+}
+
+fn is_refused(put: &Marked<Result<Put, PutFault>>, mark: u64) -> bool {
+    put.mark == mark
+        && matches!(&put.answer, Err(PutFault::DigestDiffers { right }) if right.as_bytes() == &RIGHT)
+}
+
+// The design and a log are put.
+fn put_both<R: Abort + Threads + Wait + Sync>(
     rt: &R,
     alloc: Global,
     desk: &Desk<MemKeeper>,
     seat: &mut DeskSeat,
-    steps: &[Step],
-) -> bool
+)
     requires { seat.old.desk ≡ desk.now }
     ensures desk { seat.new.desk ≡ seat.old.desk }
     ensures number { seat.new.number ≡ seat.old.number }
 {
-    for step in steps {
-        if !is_told(rt, alloc, desk, seat, step.0, step.1) {
-            return false;
-        }
-    }
-    true
+    let c17 = c17(alloc).expect(rt, "memory");
+    let design = desk.put_design(rt, seat, &c17);
+    assert!(rt; is_put(&design, 1, &Put::Created { number: 1 }));
+    let log = put_log(rt, alloc, desk, seat, b"c17", FAILS).expect(rt, "memory");
+    assert!(rt; is_put(&log, 2, &Put::Created { number: 1 }));
 }
 
-// Whether both seats are told so.
-fn both_are_told<R: Threads + Wait + Sync>(
+// A look finds the log, and its report is signed by the right digest alone.
+fn find_and_sign<R: Abort + Threads + Wait + Sync>(
     rt: &R,
     alloc: Global,
     desk: &Desk<MemKeeper>,
-    first: &mut DeskSeat,
-    second: &mut DeskSeat,
-    run: &Run,
-) -> bool
-    requires first { first.old.desk ≡ desk.now }
-    requires second { second.old.desk ≡ desk.now }
-    ensures desks { (first.new.desk ≡ first.old.desk) × (second.new.desk ≡ second.old.desk) }
-    ensures numbers { (first.new.number ≡ first.old.number) × (second.new.number ≡ second.old.number) }
+    seat: &mut DeskSeat,
+)
+    requires { seat.old.desk ≡ desk.now }
+    ensures desk { seat.new.desk ≡ seat.old.desk }
+    ensures number { seat.new.number ≡ seat.old.number }
 {
-    are_told(rt, alloc, desk, first, run.first)
-        && are_told(rt, alloc, desk, second, run.second)
-        && are_told(rt, alloc, desk, first, run.last)
+    let looked = desk.look_die(rt, seat, b"c17", b"D1", None);
+    assert_eq!(rt; looked.mark, 2);
+    assert!(rt; matches!(&looked.answer, Ok(view) if view.revision() == 1));
+    let wrong = sign_first(rt, alloc, desk, seat, &Digest::from_bytes([0; 32]));
+    assert!(rt; is_refused(&wrong, 2));
+    let right = sign_first(rt, alloc, desk, seat, &Digest::from_bytes(RIGHT));
+    assert!(rt; is_put(&right, 3, &Put::Created { number: 1 }));
 }
 
-fn are_by(deeds: &[desk_outside::Deed], seats: &[u32]) -> bool {
-    for (deed, seat) in deeds.iter().zip(seats) {
-        if deed.by != *seat {
-            return false;
-        }
-    }
-    deeds.len() == seats.len()
+fn is_signed(sign: &Result<Sign, LookFault>) -> bool {
+    matches!(sign, Ok(sign) if sign.revision == 1 && sign.digest.as_bytes() == &RIGHT)
 }
 
-// Whether the deeds are of these seats, and the keeper has failed as often as was listed.
-fn is_left(book: Book<MemKeeper>, run: &Run) -> bool {
-    let faults = book.faults();
-    let keeper = book.close();
-    faults == run.failing.len() as u64
-        && matches!(&keeper.copy_rows(), Ok(rows) if are_by(rows.as_slice(), run.by))
-}
-
-fn goes<R: Threads + Wait + Sync>(rt: &R, alloc: Global, run: &Run) -> Result<bool, NoMemory> {
-    let failing = Rows::from_vec(Vec::from_slice(alloc, run.failing)?);
-    let keeper = MemKeeper::make_failing(alloc, Rows::new(alloc), failing)?;
-    let (desk, mut first, mut second) = start_two(rt, alloc, keeper, run.max_deeds)?;
-    let went = both_are_told(rt, alloc, &desk, &mut first, &mut second, run);
-    let book = finish_two(alloc, desk, first, second)?;
-    Ok(went && is_left(book, run))
+// Behind another log the sign-off is there as it was.
+fn find_signed<R: Abort + Threads + Wait + Sync>(
+    rt: &R,
+    alloc: Global,
+    desk: &Desk<MemKeeper>,
+    seat: &mut DeskSeat,
+)
+    requires { seat.old.desk ≡ desk.now }
+    ensures desk { seat.new.desk ≡ seat.old.desk }
+    ensures number { seat.new.number ≡ seat.old.number }
+{
+    let log = put_log(rt, alloc, desk, seat, b"c17", PASSES).expect(rt, "memory");
+    assert!(rt; is_put(&log, 4, &Put::Created { number: 2 }));
+    let again = sign_first(rt, alloc, desk, seat, &Digest::from_bytes(RIGHT));
+    assert!(rt; is_put(&again, 4, &Put::Same { number: 1 }));
+    let sign = desk.look_sign(rt, seat, b"c17", b"D1", 1);
+    assert!(rt; is_signed(&sign.answer));
 }
 
 #[test]
 fn seats_are_told(rt: HostRuntime) {
-    for run in &RUNS {
-        assert!(rt;
-            matches!(goes(&rt, rt.alloc(), run), Ok(true)),
-            "{}",
-            run.shown
-        );
-    }
+    let alloc = rt.alloc();
+    let (desk, mut first, mut second) = start_two(&rt, alloc, new_keeper(&rt, alloc), 10);
+    put_both(&rt, alloc, &desk, &mut first);
+    find_and_sign(&rt, alloc, &desk, &mut second);
+    find_signed(&rt, alloc, &desk, &mut first);
+    let book = finish_two(&rt, alloc, desk, first, second);
+    assert_eq!(rt; book.deeds(), 4);
 }

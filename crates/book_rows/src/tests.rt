@@ -1,6 +1,0 @@
-mod bundles;
-mod changes;
-mod opening;
-mod outside;
-mod signing;
-mod texts;

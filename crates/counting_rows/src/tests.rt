@@ -1,9 +1,0 @@
-mod counts;
-mod demo;
-mod designs;
-mod fails;
-mod joined;
-mod logs;
-mod plain;
-mod steps;
-mod suspects;
