@@ -1,0 +1,4 @@
+mod cases;
+mod counted;
+mod frames;
+mod slow;
