@@ -1,0 +1,4 @@
+mod designs;
+mod dies;
+mod rows;
+mod written_out;
