@@ -12,6 +12,7 @@ mod expected;
 mod fault;
 mod logs;
 mod masks;
+mod observed;
 mod pair_index;
 mod parts;
 mod rows;
