@@ -1,7 +1,5 @@
 ghost use Rattle.std.specs.Prelude.{◌≡◌, ℕ, ◌<◌, length, IfOk};
-ghost use Rattle.scan_model.specs.declared.parts.Point.TheVariants as variant;
-ghost use Rattle.scan_model.specs.Netlist.{driver_of};
-ghost use Rattle.scan_model.specs.ScanTest.{IsPoint, IsFlop, points_of};
+ghost use Rattle.scan_model.specs.ScanTest.{IsPoint, points_of};
 ghost use Rattle.scan_model.specs.Loads.{cell};
 ghost use Rattle.scan_model.specs.Suspect as reach;
 ghost use Rattle.back_trace.specs.Keys.{is_key, IsKeyBelow, AreKeys};
@@ -9,30 +7,6 @@ ghost use Rattle.back_trace.specs.Traces.{observes};
 
 use scan_model::{NoMemory, Parts, Point};
 use std::alloc::Global;
-
-/// The net that a point observes.
-fn observed_net(parts: &Parts, point: Point) -> u32
-    requires { IsPoint parts.now point }
-    ensures net { result ≡ reach.observed_net parts.now point }
-    ensures below { result < length parts.now.netlist.nets }
-{
-    match point {
-        Point::Output { place } => parts.circuit().outputs().as_slice()[place as usize],
-        Point::Cell { chain, pos } => {
-            let cell = cell_net(parts, chain, pos);
-            parts.circuit().read_at(cell, 0)
-        }
-    }
-}
-
-/// The net of a cell.
-fn cell_net(parts: &Parts, chain: u32, pos: u32) -> u32
-    requires { IsPoint parts.now (variant.Cell chain pos) }
-    ensures net { result ≡ cell parts.now chain pos }
-    ensures flop { (result < length parts.now.netlist.nets) × IsFlop (driver_of parts.now.netlist result) }
-{
-    parts.chains().as_slice()[chain as usize].cells.as_slice()[pos as usize]
-}
 
 /// The net of the cell that a point is, if it is one.
 fn own_net(parts: &Parts, point: Point) -> Option<u32>
@@ -42,7 +16,7 @@ fn own_net(parts: &Parts, point: Point) -> Option<u32>
 {
     match point {
         Point::Output { .. } => None,
-        Point::Cell { chain, pos } => Some(cell_net(parts, chain, pos)),
+        Point::Cell { chain, pos } => Some(parts.cell_net(chain, pos)),
     }
 }
 
@@ -53,7 +27,7 @@ pub(crate) fn observed_keys(alloc: Global, parts: &Parts) -> Result<Vec<Option<u
     let points = parts.points().as_slice();
     let mut keys = Vec::new(alloc);
     for k in 0..points.len() {
-        keys.push(Some(observed_net(parts, points[k])))?;
+        keys.push(Some(parts.observed_net(points[k])))?;
     }
     Ok(keys)
 }

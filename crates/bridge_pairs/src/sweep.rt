@@ -3,7 +3,7 @@ ghost use Rattle.std.specs.List.{list_any};
 ghost use Rattle.scan_model.specs.Netlist.{reads};
 ghost use Rattle.lane_rows.specs.Lanes.{lane};
 ghost use Rattle.bridge_pairs.specs.PairText.{is_feedback, parted};
-ghost use Rattle.bridge_pairs.specs.PairRows.{has_pair};
+ghost use Rattle.bridge_pairs.specs.PairRows.{has_pair, IsBlank};
 ghost use Rattle.bridge_pairs.specs.Ranks.{IsRanked, start_of, target_of};
 
 use crate::ranks::{Ranked, in_order, ranks_of, window};
@@ -40,15 +40,15 @@ fn add_lanes(rows: &mut [Row], net: usize, lanes: Row)
     rows[net] = rows[net].or(lanes);
 }
 
-/// Gives the start of pair j lane j, and no other net.
+/// Gives the start of pair j lane j.
 fn set_starts(rows: &mut [Row], ranks: &[u32], batch: &[Pair])
     requires rows { length rows.old ≡ length ranks.now }
     requires nets { All (λ p. (p.a < length ranks.now) × (p.b < length ranks.now)) batch.now }
     requires count { length batch.now ≤ 512 }
+    requires blank { IsBlank rows.old }
     ensures len { length rows.new ≡ length rows.old }
     ensures starts { (j n : ℕ) (d : Pair) → j < length batch.now → n < length rows.new → has_pair rows.new j n ≡ (n == start_of ranks.now (slice_index_or batch.now j d)) }
 {
-    rows.fill(Row::none());
     for (j, pair) in batch.iter().enumerate() {
         let (start, _) = in_order(ranks, pair);
         add_lanes(rows, start, Row::single(j));
@@ -61,6 +61,7 @@ fn sweep(ranked: &Ranked<'_>, rows: &mut [Row], batch: &[Pair])
     requires rows { length rows.old ≡ length ranked.now.circuit.now.nets }
     requires nets { All (λ p. (p.a < length ranked.now.circuit.now.nets) × (p.b < length ranked.now.circuit.now.nets)) batch.now }
     requires count { length batch.now ≤ 512 }
+    requires blank { IsBlank rows.old }
     ensures len { length rows.new ≡ length rows.old }
     ensures lanes { (j : ℕ) (d : Pair) → j < length batch.now → has_pair rows.new j (target_of ranked.now.ranks.now (slice_index_or batch.now j d)) ≡ is_feedback ranked.now.circuit.now (slice_index_or batch.now j d) }
 {
@@ -85,7 +86,7 @@ fn add_parted(parts: &mut Pairs, pair: Pair, is_feedback: bool) -> Result<(), No
     }
 }
 
-/// Adds a batch of pairs at the ends of those kept and those left out. What the rows were before is of no account.
+/// Adds a batch of pairs at the ends of those kept and those left out.
 fn part_batch(
     ranked: &Ranked<'_>,
     rows: &mut [Row],
@@ -96,6 +97,7 @@ fn part_batch(
     requires rows { length rows.old ≡ length ranked.now.circuit.now.nets }
     requires nets { All (λ p. (p.a < length ranked.now.circuit.now.nets) × (p.b < length ranked.now.circuit.now.nets)) batch.now }
     requires count { length batch.now ≤ 512 }
+    requires blank { IsBlank rows.old }
     ensures len { length rows.new ≡ length rows.old }
     ensures kept { OnOk result (parts.new.kept ≡ parts.old.kept ++ filter (λ p. not (is_feedback ranked.now.circuit.now p)) batch.now) }
     ensures left_out { OnOk result (parts.new.left_out ≡ parts.old.left_out ++ filter (is_feedback ranked.now.circuit.now) batch.now) }
@@ -107,6 +109,17 @@ fn part_batch(
         add_parted(parts, *pair, is_feedback)?;
     }
     Ok(())
+}
+
+/// Takes all lanes away that an earlier batch has left.
+fn clear_behind(rows: &mut [Row], at: usize)
+    requires { at ≡ 0 → IsBlank rows.old }
+    ensures len { length rows.new ≡ length rows.old }
+    ensures blank { IsBlank rows.new }
+{
+    if at > 0 {
+        rows.fill(Row::none());
+    }
 }
 
 /// Adds all pairs, batch by batch.
@@ -121,10 +134,12 @@ fn part_all(
     requires nets { All (λ p. (p.a < length ranked.now.circuit.now.nets) × (p.b < length ranked.now.circuit.now.nets)) pairs.now }
     requires kept { parts.old.kept ≡ [] }
     requires left_out { parts.old.left_out ≡ [] }
+    requires blank { IsBlank rows.old }
     ensures { OnOk result (parts.new ≡ parted ranked.now.circuit.now pairs.now) }
 {
     let mut at = 0;
     while at < pairs.len() {
+        clear_behind(rows, at);
         let end = pairs.len().min(at + BATCH);
         part_batch(ranked, rows, &pairs[at..end], parts)?;
         at = end;

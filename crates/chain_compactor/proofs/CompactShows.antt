@@ -23,7 +23,7 @@ use Rattle.scan_model.proofs.counting.Shown.{not_opposite_itself, observed_good,
 use Rattle.lane_rows.specs.declared.block.Block.{Block}
 use Rattle.lane_rows.specs.Lanes.{lane}
 use Rattle.lane_rows.specs.Planes.{Planes, held}
-use Rattle.lane_rows.specs.Places.{has_place}
+use Rattle.place_sets.specs.Places.{has_place}
 use Rattle.lane_rows.specs.GoodRows.{no_block, pattern_of, same_kind}
 use Rattle.packed_sim.specs.declared.good.PackedGood.{PackedGood}
 use Rattle.packed_sim.specs.declared.scratch.Scratch.{Scratch}

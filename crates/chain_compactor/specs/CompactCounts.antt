@@ -8,7 +8,7 @@ use Rattle.scan_model.specs.Suspect.{observed_net}
 use Rattle.lane_rows.specs.Lanes.{lane}
 use Rattle.lane_rows.specs.Planes.{Planes, held}
 use Rattle.lane_rows.specs.Sources.{no_planes}
-use Rattle.lane_rows.specs.Places.{has_place}
+use Rattle.place_sets.specs.Places.{has_place}
 use Rattle.lane_rows.specs.GoodRows.{pattern_of}
 use Rattle.fail_logs.specs.IsFrame.{point_among}
 use Rattle.fault_effects.specs.FaultModel.{Table}

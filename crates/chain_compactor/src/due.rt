@@ -2,13 +2,13 @@
 
 ghost use Rattle.std.specs.Prelude.{◌≡◌, ℕ, ◌<◌, ◌≤◌, true, All, Contains, length, IfOk};
 ghost use Rattle.scan_model.specs.ScanTest.{points_of, point_at};
-ghost use Rattle.lane_rows.specs.Places.{has_place, room};
+ghost use Rattle.place_sets.specs.Places.{has_place, room};
 ghost use Rattle.packed_sim.specs.Belongs.{IsBuiltFor, observed_at};
 ghost use Rattle.chain_compactor.specs.Seeing.{seeing};
 ghost use Rattle.chain_compactor.specs.CompactCounts.{AreDue};
 
 use crate::counts::CompactCounts;
-use lane_rows::PlaceSet;
+use place_sets::PlaceSet;
 use scan_model::NoMemory;
 
 impl CompactCounts<'_> {

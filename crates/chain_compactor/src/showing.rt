@@ -4,15 +4,16 @@ ghost use Rattle.std.specs.Prelude.{◌≡◌, ℕ, ◌<◌, ◌≤◌, true, le
 ghost use Rattle.scan_model.specs.Values.{xor_of};
 ghost use Rattle.lane_rows.specs.Lanes.{lane};
 ghost use Rattle.lane_rows.specs.Planes.{held};
-ghost use Rattle.lane_rows.specs.Places.{has_place, IsNextWithin};
+ghost use Rattle.place_sets.specs.Places.{has_place, IsNextWithin};
 ghost use Rattle.match_counts.specs.Tables.{HasTable};
 ghost use Rattle.chain_compactor.specs.Flips.{members_at};
 ghost use Rattle.chain_compactor.specs.CompactCounts.{expected_at, differs_in, within_set};
 
 use crate::changes::{Changes, differing};
 use crate::counts::CompactCounts;
-use lane_rows::{PlaceSet, Row};
+use lane_rows::Row;
 use match_counts::Shown;
+use place_sets::PlaceSet;
 use scan_model::NoMemory;
 
 /// The least place of a set from one on, if it lies before an end.

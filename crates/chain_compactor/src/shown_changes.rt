@@ -4,7 +4,7 @@ ghost use Rattle.std.specs.Prelude.{◌≡◌};
 
 use crate::changes::Changes;
 use lane_rows::Packed;
-use packed_sim::{PackedGood, Scratch, is_pin_of, net_of_point, stuck_at};
+use packed_sim::{PackedGood, Scratch, is_pin_of, stuck_at};
 use scan_model::{CellKind, Parts, Point, Stuck};
 
 /// A flip of a net, as a scratch shows it.
@@ -38,7 +38,7 @@ impl Changes for FlipChanges<'_> {
 
     fn change(&self, point: Point) -> Option<Packed> {
         let _ = self.parts.chains();
-        let net = net_of_point(self.parts, point);
+        let net = self.parts.observed_net(point);
         match self.good.change(self.parts, self.scratch, self.block, net) {
             Some(change) => Some(change),
             None => None,
@@ -81,7 +81,7 @@ impl Changes for PinChanges<'_> {
         if !is_pin_of(self.parts, self.pin, point) {
             return None;
         }
-        let net = net_of_point(self.parts, point);
+        let net = self.parts.observed_net(point);
         let good = self.good.blocks()[self.block].values.as_slice()[net as usize];
         let stuck = Packed::all(stuck_at(self.value));
         Some(good.xor(stuck))

@@ -1,5 +1,5 @@
 //! Expected values from what places show.
-ghost use Rattle.std.specs.Prelude.{◌≡◌, ℕ, ◌+◌, ◌*◌, ◌/◌, ◌<◌, ◌≤◌, min, List, All, length, IfOk, OnOk};
+ghost use Rattle.std.specs.Prelude.{◌≡◌, ℕ, ◌+◌, ◌*◌, ◌/◌, ◌<◌, min, List, All, length, IfOk, OnOk};
 ghost use Rattle.scan_model.specs.declared.values.Tri.{Tri};
 ghost use Rattle.expected_values.specs.ShownWords.{AreShown, ShowsBlock};
 

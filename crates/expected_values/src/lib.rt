@@ -6,5 +6,5 @@ mod point_rows;
 mod shown_rows;
 
 pub use expected::expected_of;
-pub use point_rows::{PointRows, expected_at_points, observed_net, point_in_block};
+pub use point_rows::{PointRows, expected_at_points, point_in_block};
 pub use shown_rows::ShownRows;

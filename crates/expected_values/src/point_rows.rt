@@ -1,11 +1,8 @@
 //! What the points of a test show, from fault-free values of its nets in rows of 512 patterns.
 ghost use Rattle.std.specs.Prelude.{◌≡◌, ℕ, ◌<◌, length, None, IfOk};
-ghost use Rattle.scan_model.specs.declared.parts.Point.TheVariants as variant;
 ghost use Rattle.scan_model.specs.declared.parts.PatternKind.TheVariants as kind;
-ghost use Rattle.scan_model.specs.Netlist.{driver_of};
-ghost use Rattle.scan_model.specs.ScanTest.{IsScanTest, IsPoint, IsFlop, pattern_at};
+ghost use Rattle.scan_model.specs.ScanTest.{IsPoint, pattern_at};
 ghost use Rattle.scan_model.specs.Loads.{cell};
-ghost use Rattle.scan_model.specs.Suspect as suspect;
 ghost use Rattle.scan_model.specs.Response.{observed, expected_rows};
 ghost use Rattle.lane_rows.specs.Planes.{held};
 ghost use Rattle.lane_rows.specs.GoodRows.{pattern_of, AreBlockRows, AreGoodRows};
@@ -16,31 +13,6 @@ use lane_rows::{Block, GoodRows, Packed};
 use scan_model::{Expected, NoMemory, Parts, Point, Tri};
 use std::alloc::Global;
 
-/// The net of a cell.
-fn cell_net(parts: &Parts, chain: u32, pos: u32) -> u32
-    requires { IsPoint parts.now (variant.Cell chain pos) }
-    ensures net { result ≡ cell parts.now chain pos }
-    ensures flop { (result < length parts.now.netlist.nets) × IsFlop (driver_of parts.now.netlist result) }
-{
-    parts.chains().as_slice()[chain as usize].cells.as_slice()[pos as usize]
-}
-
-/// The net that a point observes.
-pub fn observed_net(parts: &Parts, point: Point) -> u32
-    requires { IsPoint parts.now point }
-    ensures net { result ≡ suspect.observed_net parts.now point }
-    ensures below { result < length parts.now.netlist.nets }
-    ensures fits { IsScanTest parts.now }
-{
-    match point {
-        Point::Output { place } => parts.circuit().outputs().as_slice()[place as usize],
-        Point::Cell { chain, pos } => {
-            let cell = cell_net(parts, chain, pos);
-            parts.circuit().read_at(cell, 0)
-        }
-    }
-}
-
 /// What a point shows where patterns only shift: a cell its load, and an output nothing known.
 fn shifted(parts: &Parts, block: &Block, point: Point) -> Packed
     requires values { length block.now.values ≡ length parts.now.netlist.nets }
@@ -50,7 +22,7 @@ fn shifted(parts: &Parts, block: &Block, point: Point) -> Packed
 {
     match point {
         Point::Output { .. } => Packed::all(Tri::Unknown),
-        Point::Cell { chain, pos } => block.values.as_slice()[cell_net(parts, chain, pos) as usize],
+        Point::Cell { chain, pos } => block.values.as_slice()[parts.cell_net(chain, pos) as usize],
     }
 }
 
@@ -60,7 +32,7 @@ pub fn point_in_block(parts: &Parts, block: &Block, point: Point) -> Packed
     requires point { IsPoint parts.now point }
     ensures { (b j : ℕ) → AreBlockRows parts.now b block.now → j < 512 → pattern_of b j < length parts.now.patterns → held result j ≡ observed parts.now None (pattern_of b j) point }
 {
-    let net = observed_net(parts, point);
+    let net = parts.observed_net(point);
     let captured = block.values.as_slice()[net as usize];
     Packed::pick(block.capture, captured, shifted(parts, block, point))
 }

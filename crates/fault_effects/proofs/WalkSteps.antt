@@ -18,7 +18,7 @@ use Rattle.scan_model.proofs.counting.Shown.{point_at-IsPoint}
 use Rattle.lane_rows.specs.Planes.{Planes, held}
 use Rattle.lane_rows.specs.Lanes.{lane}
 use Rattle.lane_rows.specs.GoodRows.{pattern_of, same_kind}
-use Rattle.lane_rows.specs.Places.{has_place, room}
+use Rattle.place_sets.specs.Places.{has_place, room}
 use Rattle.packed_sim.specs.declared.good.PackedGood.{PackedGood}
 use Rattle.packed_sim.specs.declared.scratch.Scratch.{Scratch}
 use Rattle.packed_sim.specs.Spread.{HasMoved, lane_now}

@@ -2,12 +2,10 @@
 ghost use Rattle.std.specs.Prelude.{◌≡◌, ◌≢◌, ℕ, ◌+◌, ◌<◌, ◌≤◌, All, MatchOption, length, true, false, OnOk};
 ghost use Rattle.scan_model.specs.declared.fault.Fault.TheVariants as fault;
 ghost use Rattle.scan_model.specs.declared.parts.Point.TheVariants as point;
-ghost use Rattle.scan_model.specs.ScanTest.{IsFlop, IsPoint, points_of, point_at, chain_at};
-ghost use Rattle.scan_model.specs.Netlist.{driver_of, pin_at};
+ghost use Rattle.scan_model.specs.ScanTest.{points_of, point_at, chain_at};
 ghost use Rattle.scan_model.specs.Loads.{cell};
-ghost use Rattle.scan_model.specs.Response.{data_pin};
 ghost use Rattle.scan_model.specs.Suspect.{observed_net};
-ghost use Rattle.lane_rows.specs.Places.{has_place};
+ghost use Rattle.place_sets.specs.Places.{has_place};
 ghost use Rattle.packed_sim.specs.Belongs.{has_own_row};
 ghost use Rattle.packed_sim.specs.Loaded.{IsLoaded};
 ghost use Rattle.fault_effects.specs.Notes.{AreNotes};
@@ -39,47 +37,6 @@ fn chain_cells(parts: &Parts, chain: u32) -> &[u32]
     ensures { result.now ≡ (chain_at parts.now chain).cells }
 {
     parts.chains().as_slice()[chain as usize].cells.as_slice()
-}
-
-fn listed_net(parts: &Parts, chain: u32, pos: u32) -> u32
-    requires { IsPoint parts.now (point.Cell chain pos) }
-    ensures { result ≡ cell parts.now chain pos }
-{
-    chain_cells(parts, chain)[pos as usize]
-}
-
-/// The net of a cell.
-fn cell_net(parts: &Parts, chain: u32, pos: u32) -> u32
-    requires { IsPoint parts.now (point.Cell chain pos) }
-    ensures value { result ≡ cell parts.now chain pos }
-    ensures in_range { result < length parts.now.netlist.nets }
-    ensures flop { IsFlop (driver_of parts.now.netlist result) }
-{
-    let _ = parts.chains();
-    let net = listed_net(parts, chain, pos);
-    net
-}
-
-/// The net that a cell observes.
-fn data_net(parts: &Parts, cell: u32) -> u32
-    requires in_range { cell < length parts.now.netlist.nets }
-    requires flop { IsFlop (driver_of parts.now.netlist cell) }
-    ensures value { result ≡ (pin_at parts.now.netlist (data_pin parts.now.netlist cell)).net }
-    ensures in_range { result < length parts.now.netlist.nets }
-{
-    let circuit = parts.circuit();
-    let pin = circuit.nets().as_slice()[cell as usize].first_pin;
-    circuit.pins().as_slice()[pin as usize].net
-}
-
-/// The net that a position of a chain observes.
-fn position_net(parts: &Parts, chain: u32, pos: u32) -> u32
-    requires { IsPoint parts.now (point.Cell chain pos) }
-    ensures value { result ≡ observed_net parts.now (point.Cell chain pos) }
-    ensures in_range { result < length parts.now.netlist.nets }
-{
-    let cell = cell_net(parts, chain, pos);
-    data_net(parts, cell)
 }
 
 /// The position below that of a point, if the point is a cell of the chain above its first.
@@ -167,7 +124,11 @@ impl<O: ChainObserver> Loaded<'_, O> {
         ensures renoted { IsRenoted (O.model self.now.work.now.observer.now) self.now.work.now.block (fault.Cell self.now.chain self.now.pos self.now.kind) notes.old.rows.items notes.new.rows.items }
         ensures fresh { AreFreshAt self.now.work.now.parts.now (O.model self.now.work.now.observer.now) self.now.work.now.block (fault.Cell self.now.chain self.now.pos self.now.kind) notes.new.rows.items (observed_net self.now.work.now.parts.now (point.Cell self.now.chain pos)) }
     {
-        let net = position_net(self.work.parts, self.chain, pos);
+        let shown_at = Point::Cell {
+            chain: self.chain,
+            pos,
+        };
+        let net = self.work.parts.observed_net(shown_at);
         self.note_net(notes, net);
     }
 
@@ -227,9 +188,10 @@ impl<O: ChainObserver> Loaded<'_, O> {
             → AreFreshAt self.now.work.now.parts.now (O.model self.now.work.now.observer.now) self.now.work.now.block (fault.Cell self.now.chain self.now.pos self.now.kind) notes.new.rows.items (observed_net self.now.work.now.parts.now (point.Cell self.now.chain i)) }
     {
         let _ = self.work.parts.chains();
+        let circuit = self.work.parts.circuit();
         let cells = chain_cells(self.work.parts, self.chain);
         for cell in cells {
-            let net = data_net(self.work.parts, *cell);
+            let net = circuit.data_net(*cell);
             self.note_net(notes, net);
         }
     }

@@ -1,7 +1,7 @@
 //! A walk down a chain: at each step one cell's load changes, and what that touches is noted again.
 ghost use Rattle.std.specs.Prelude.{◌≡◌, ◌+◌, ◌<◌, ◌≤◌, Some, None, true, length, IfSome, OnOk};
 ghost use Rattle.scan_model.specs.ScanTest.{chain_at};
-ghost use Rattle.lane_rows.specs.Places.{has_place, room};
+ghost use Rattle.place_sets.specs.Places.{has_place, room};
 ghost use Rattle.packed_sim.specs.Belongs.{IsScratchOf, IsScratchIn};
 ghost use Rattle.packed_sim.specs.Loaded.{IsLoaded};
 ghost use Rattle.fault_effects.specs.Walks.{IsWalk, IsWalkAt, IsStepNoted};
@@ -12,8 +12,8 @@ use crate::block_work::BlockWork;
 use crate::loaded::Loaded;
 use crate::notes::Notes;
 use crate::observer::ChainObserver;
-use lane_rows::PlaceSet;
 use packed_sim::Scratch;
+use place_sets::PlaceSet;
 use scan_model::{CellKind, NoMemory, Steps};
 use std::sync::ledger::Ledger;
 

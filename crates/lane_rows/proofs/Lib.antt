@@ -9,7 +9,6 @@ pub mod Packing
 pub mod GoodValues
 pub mod GoodBlocks
 pub mod RowsOfTest
-pub mod PlaceWords
 pub mod SortedGroups
 pub mod RenamedGroups
 pub mod Once

@@ -18,7 +18,7 @@ use Rattle.scan_model.proofs.counting.Flips.{force_shows_from}
 use Rattle.lane_rows.specs.Planes.{Planes, held}
 use Rattle.lane_rows.specs.GoodRows.{pattern_of}
 use Rattle.lane_rows.specs.Stimuli.{Stimuli, AreRowsOf, stimuli_of}
-use Rattle.lane_rows.specs.Places.{has_place, room}
+use Rattle.place_sets.specs.Places.{has_place, room}
 use Rattle.lane_rows.proofs.RowsOfTest.{good_rows-rows}
 use Rattle.lane_rows.proofs.Once.{counted_once, order_short}
 use Rattle.packed_sim.specs.declared.good.PackedGood.{PackedGood}

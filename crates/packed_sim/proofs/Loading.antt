@@ -34,7 +34,7 @@ use Rattle.scan_model.proofs.counting.Shown.{observed_net-in_range}
 use Rattle.scan_model.proofs.counting.ChainSteps.{own_shows, captured_net, shift_shows}
 use Rattle.lane_rows.specs.Planes.{Planes, held}
 use Rattle.lane_rows.specs.GoodRows.{pattern_of, same_kind}
-use Rattle.lane_rows.specs.Places.{has_place, room}
+use Rattle.place_sets.specs.Places.{has_place, room}
 use Rattle.lane_rows.specs.Wired.{Covers}
 use Rattle.lane_rows.specs.Stimuli.{stimuli_of}
 use Rattle.lane_rows.proofs.RowsOfTest.{captures_there, captures_kind}

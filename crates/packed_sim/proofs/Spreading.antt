@@ -17,7 +17,7 @@ use Rattle.scan_model.proofs.counting.Valuations.{IsValuation, agree_apart, valu
 use Rattle.scan_model.proofs.counting.Branches.{no_loop}
 use Rattle.lane_rows.specs.Planes.{Planes}
 use Rattle.lane_rows.specs.Planes.{held}
-use Rattle.lane_rows.specs.Places.{has_place}
+use Rattle.place_sets.specs.Places.{has_place}
 use Rattle.lane_rows.specs.Wired.{sinks_of, IsWired, Covers, LeadsUp}
 use Rattle.packed_sim.specs.declared.scratch.Scratch.{Scratch}
 use Rattle.packed_sim.specs.Rows.{IsClean, no_row, row_now}

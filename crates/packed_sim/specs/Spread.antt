@@ -7,7 +7,7 @@ use Rattle.scan_model.specs.Netlist.{Netlist, reads, is_gate}
 use Rattle.scan_model.specs.NetValue.{Forced, net_node, values_of, nothing_forced}
 use Rattle.scan_model.specs.Cone.{in_fan_in}
 use Rattle.lane_rows.specs.Planes.{Planes, held}
-use Rattle.lane_rows.specs.Places.{has_place, room}
+use Rattle.place_sets.specs.Places.{has_place, room}
 use Rattle.lane_rows.specs.Wired.{sinks_of, Covers, LeadsUp}
 use Rattle.packed_sim.specs.declared.scratch.Scratch.{Scratch}
 use Rattle.packed_sim.specs.Rows.{row_now, no_row}

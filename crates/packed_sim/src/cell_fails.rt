@@ -17,7 +17,7 @@ ghost use Rattle.packed_sim.specs.Changes.{IsSameShown, IsShownChange};
 
 use crate::chains::cell_at;
 use crate::good::PackedGood;
-use crate::made::{data_net, net_of_point, point_of};
+use crate::made::point_of;
 use crate::scratch::Scratch;
 use lane_rows::{Packed, Row};
 use scan_model::{CellKind, Parts, Point, Steps, Tri};
@@ -54,7 +54,7 @@ impl PackedGood {
     {
         let _ = parts.chains();
         let net = cell_at(parts, chain, at as usize);
-        let data = data_net(parts.circuit(), net);
+        let data = parts.circuit().data_net(net);
         let captured = self.row_of(parts, block, data);
         let loaded = self.row_of(parts, block, net);
         let capture = self.capture(block);
@@ -142,7 +142,7 @@ impl PackedGood {
                 Some(expected.xor(shown))
             }
             None => {
-                let net = net_of_point(parts, point);
+                let net = parts.observed_net(point);
                 match self.change(parts, scratch, block, net) {
                     Some(change) => {
                         let capture = self.capture(block);

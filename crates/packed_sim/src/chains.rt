@@ -1,9 +1,9 @@
-ghost use Rattle.std.specs.Prelude.{◌≡◌, ℕ, ◌+◌, ◌-◌, ◌<◌, ◌≤◌, Some, true, drop, length, if◌then◌else◌};
+ghost use Rattle.std.specs.Prelude.{◌≡◌, ℕ, ◌+◌, ◌-◌, ◌<◌, ◌≤◌, Some, drop, length, if◌then◌else◌};
 ghost use Rattle.scan_model.specs.declared.fault.Fault.TheVariants as fault;
 ghost use Rattle.scan_model.specs.declared.parts.Point.TheVariants as point;
 ghost use Rattle.scan_model.specs.ScanTest.{IsFlop, chain_at};
 ghost use Rattle.scan_model.specs.Netlist.{driver_of};
-ghost use Rattle.scan_model.specs.ChainShift.{passed, value_at, unload_passes};
+ghost use Rattle.scan_model.specs.ChainShift.{passed, unload_passes};
 ghost use Rattle.scan_model.specs.Loads.{load, cell};
 ghost use Rattle.scan_model.specs.Response.{observed};
 ghost use Rattle.scan_model.specs.Suspect.{observed_net};
@@ -11,13 +11,12 @@ ghost use Rattle.scan_model.specs.declared.values.Tri.TheVariants.{Unknown};
 ghost use Rattle.lane_rows.specs.Lanes.{lane};
 ghost use Rattle.lane_rows.specs.Planes.{held};
 ghost use Rattle.lane_rows.specs.GoodRows.{pattern_of};
-ghost use Rattle.lane_rows.specs.Places.{room};
+ghost use Rattle.place_sets.specs.Places.{room};
 ghost use Rattle.packed_sim.specs.Spread.{HasMoved, IsWithin, is_behind};
 ghost use Rattle.packed_sim.specs.Belongs.{IsBuiltFor, BelongsTo, IsScratchIn, IsScratchOf, block_at, good_at, now_at, gates_behind};
 ghost use Rattle.packed_sim.specs.Loaded.{IsOpenLoad, IsLoaded, passed_value};
 
 use crate::good::PackedGood;
-use crate::made::data_net;
 use crate::scratch::Scratch;
 use lane_rows::Packed;
 use scan_model::{CellKind, Parts, Steps, Tri};
@@ -251,7 +250,7 @@ impl PackedGood {
             then now_at self.now scratch.now block j (observed_net parts.now (point.Cell chain at)) else now_at self.now scratch.now block j (cell parts.now chain at)) }
     {
         let net = cell_at(parts, chain, at);
-        let data = data_net(parts.circuit(), net);
+        let data = parts.circuit().data_net(net);
         let captured = self.row_now(parts, scratch, block, data);
         let loaded = self.row_now(parts, scratch, block, net);
         let capture = self.capture(block);

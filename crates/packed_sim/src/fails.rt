@@ -1,4 +1,4 @@
-ghost use Rattle.std.specs.Prelude.{◌≡◌, ℕ, ◌+◌, ◌*◌, ◌/◌, ◌%◌, ◌<◌, ◌≤◌, [], ◌∷◌, ◌==◌, ◌&&◌, true, false, Contains, length, slice_index};
+ghost use Rattle.std.specs.Prelude.{◌≡◌, ℕ, ◌+◌, ◌*◌, ◌/◌, ◌%◌, ◌<◌, ◌≤◌, ◌==◌, ◌&&◌, false, Contains, length, slice_index};
 ghost use Rattle.std.specs.Int.{bit_at};
 ghost use Rattle.scan_model.specs.declared.circuit.PinPlace.TheVariants as place;
 ghost use Rattle.scan_model.specs.declared.fault.Fault.TheVariants as fault;
@@ -14,7 +14,7 @@ ghost use Rattle.packed_sim.specs.Ways.{IsGateOfPin};
 ghost use Rattle.packed_sim.specs.Belongs.{BelongsTo, IsScratchIn, IsScratchOf, good_at, now_at, observed_at, captures, cone_gates, AreFails};
 
 use crate::good::PackedGood;
-use crate::made::{cell_net, point_of};
+use crate::made::point_of;
 use crate::masks::{gate_of_pin, net_of_pin};
 use crate::scratch::Scratch;
 use lane_rows::Packed;
@@ -38,7 +38,7 @@ fn is_cell_of(parts: &Parts, net: u32, point: Point) -> bool
 {
     match point {
         Point::Output { .. } => false,
-        Point::Cell { chain, pos } => cell_net(parts, chain, pos) == net,
+        Point::Cell { chain, pos } => parts.cell_net(chain, pos) == net,
     }
 }
 

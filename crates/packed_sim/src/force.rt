@@ -3,7 +3,7 @@ ghost use Rattle.scan_model.specs.declared.values.Tri.{Tri};
 ghost use Rattle.scan_model.specs.NetValue.{Forced, values_of};
 ghost use Rattle.scan_model.specs.Force.{force};
 ghost use Rattle.lane_rows.specs.Planes.{held};
-ghost use Rattle.lane_rows.specs.Places.{has_place, room};
+ghost use Rattle.place_sets.specs.Places.{has_place, room};
 ghost use Rattle.lane_rows.specs.Wired.{IsWired};
 ghost use Rattle.packed_sim.specs.Rows.{IsClean};
 ghost use Rattle.packed_sim.specs.Spread.{FitsScratch, AreApart, IsForced, is_behind};

@@ -17,7 +17,6 @@ mod scratch;
 pub use fails::{is_pin_at, is_pin_of, stuck_at};
 pub use good::PackedGood;
 pub use laws::{fails_of_flips, more_definite};
-pub use made::{data_net, net_of_point};
 pub use masks::{gate_of_pin, net_of_pin};
 pub use overlay::Overlay;
 pub use scratch::Scratch;

@@ -1,9 +1,6 @@
-ghost use Rattle.std.specs.Prelude.{◌≡◌, ℕ, ◌<◌, length, map, All, IfOk};
-ghost use Rattle.scan_model.specs.ScanTest.{IsPoint, IsFlop, points_of, point_at};
+ghost use Rattle.std.specs.Prelude.{◌≡◌, ◌<◌, length, map, All, IfOk};
+ghost use Rattle.scan_model.specs.ScanTest.{IsPoint, points_of, point_at};
 ghost use Rattle.scan_model.specs.declared.parts.Point.TheVariants as point;
-ghost use Rattle.scan_model.specs.Netlist.{driver_of, pin_at};
-ghost use Rattle.scan_model.specs.Loads.{cell};
-ghost use Rattle.scan_model.specs.Response.{data_pin};
 ghost use Rattle.scan_model.specs.Suspect as suspect;
 ghost use Rattle.lane_rows.specs.Stimuli.{HaveRows};
 ghost use Rattle.packed_sim.specs.Belongs.{IsBuiltFor, BelongsTo, IsScratchOf, AreObserved, points_of_net};
@@ -11,28 +8,10 @@ ghost use Rattle.packed_sim.specs.Belongs.{IsBuiltFor, BelongsTo, IsScratchOf, A
 use crate::good::PackedGood;
 use crate::overlay::Overlay;
 use crate::scratch::Scratch;
-use lane_rows::{Block, GoodRows, Groups, PlaceSet, Wiring};
-use scan_model::{Circuit, NoMemory, Parts, Point};
+use lane_rows::{Block, GoodRows, Groups, Wiring};
+use place_sets::PlaceSet;
+use scan_model::{NoMemory, Parts, Point};
 use std::alloc::Global;
-
-fn listed_net(parts: &Parts, chain: u32, pos: u32) -> u32
-    requires { IsPoint parts.now (point.Cell chain pos) }
-    ensures { result ≡ cell parts.now chain pos }
-{
-    parts.chains().as_slice()[chain as usize].cells.as_slice()[pos as usize]
-}
-
-/// The net of a cell.
-pub(crate) fn cell_net(parts: &Parts, chain: u32, pos: u32) -> u32
-    requires { IsPoint parts.now (point.Cell chain pos) }
-    ensures value { result ≡ cell parts.now chain pos }
-    ensures in_range { result < length parts.now.netlist.nets }
-    ensures flop { IsFlop (driver_of parts.now.netlist result) }
-{
-    let _ = parts.chains();
-    let net = listed_net(parts, chain, pos);
-    net
-}
 
 /// Point k, in test order.
 pub(crate) fn point_of(parts: &Parts, k: usize) -> Point
@@ -42,30 +21,6 @@ pub(crate) fn point_of(parts: &Parts, k: usize) -> Point
     parts.points().as_slice()[k]
 }
 
-/// The net that the data pin of a cell sees.
-pub fn data_net(circuit: &Circuit, cell: u32) -> u32
-    requires cell { cell < length circuit.now.nets }
-    requires flop { IsFlop (driver_of circuit.now cell) }
-    ensures value { result ≡ (pin_at circuit.now (data_pin circuit.now cell)).net }
-    ensures in_range { result < length circuit.now.nets }
-{
-    let pin = circuit.nets().as_slice()[cell as usize].first_pin;
-    circuit.pins().as_slice()[pin as usize].net
-}
-
-/// The net that a point observes.
-pub fn net_of_point(parts: &Parts, point: Point) -> u32
-    requires { IsPoint parts.now point }
-    ensures value { result ≡ suspect.observed_net parts.now point }
-    ensures in_range { result < length parts.now.netlist.nets }
-{
-    let _ = parts.chains();
-    match point {
-        Point::Output { place } => parts.circuit().outputs().as_slice()[place as usize],
-        Point::Cell { chain, pos } => data_net(parts.circuit(), cell_net(parts, chain, pos)),
-    }
-}
-
 /// The nets that points observe.
 fn nets_of_points(alloc: Global, parts: &Parts, points: &[Point]) -> Result<Vec<u32>, NoMemory>
     requires { All (IsPoint parts.now) points.now }
@@ -73,7 +28,7 @@ fn nets_of_points(alloc: Global, parts: &Parts, points: &[Point]) -> Result<Vec<
 {
     let mut nets = Vec::with_capacity(alloc, points.len())?;
     for point in points {
-        nets.push(net_of_point(parts, *point))?;
+        nets.push(parts.observed_net(*point))?;
     }
     Ok(nets)
 }

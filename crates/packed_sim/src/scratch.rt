@@ -5,14 +5,15 @@ ghost use Rattle.scan_model.specs.declared.values.Tri.TheVariants.{Unknown};
 ghost use Rattle.scan_model.specs.Netlist.{is_gate};
 ghost use Rattle.scan_model.specs.NetValue.{Forced, net_node, values_of, nothing_forced};
 ghost use Rattle.lane_rows.specs.Planes.{held};
-ghost use Rattle.lane_rows.specs.Places.{has_place, room};
+ghost use Rattle.place_sets.specs.Places.{has_place, room};
 ghost use Rattle.lane_rows.specs.Wired.{IsWired, Covers};
 ghost use Rattle.packed_sim.specs.Rows.{IsClean, row_now};
 ghost use Rattle.packed_sim.specs.Spread.{lane_now, FitsScratch, IsClosed, IsFree, IsWithin, IsOpen, IsSettled, IsSet, IsTurn, HasMoved};
 
 use crate::changed::Changed;
 use crate::overlay::Overlay;
-use lane_rows::{Packed, PlaceSet, Wiring, gate_row};
+use lane_rows::{Packed, Wiring, gate_row};
+use place_sets::PlaceSet;
 use scan_model::{Circuit, NoMemory, Steps};
 use std::alloc::Global;
 use std::sync::ledger::Ledger;

@@ -7,7 +7,6 @@ ghost use Rattle.lane_rows.specs.Stimuli.{AreRowsOf};
 ghost use Rattle.two_frame.specs.FrameRows.{next_value, second_stimuli, IsNextBlock};
 
 use lane_rows::{Block, GoodRows, Packed, evaluated};
-use packed_sim::data_net;
 use scan_model::{Circuit, Driver, NoMemory, Parts, Rows, Tri};
 use std::alloc::Global;
 
@@ -19,7 +18,7 @@ fn next_row(circuit: &Circuit, first: &[Packed], net: u32) -> Packed
 {
     match circuit.nets().as_slice()[net as usize].driver {
         Driver::Input => first[net as usize],
-        Driver::Flop => first[data_net(circuit, net) as usize],
+        Driver::Flop => first[circuit.data_net(net) as usize],
         Driver::Gate(_) => Packed::all(Tri::Unknown),
     }
 }

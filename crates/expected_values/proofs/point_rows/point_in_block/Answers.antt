@@ -13,8 +13,8 @@ returns c = λ b j rows lane_in there.
     let net = c.observed_net-net.result in
     let captured = c.index-as_slice-net.result in
     let read : captured ≡ get_or values net no_planes =
-    rw c.as_slice.ensures at c.index-as_slice-net.is ∙ get_or_default values net captured no_planes (omega (arith, c.observed_net-net.ensures.below, c.requires.values)) in
-    let of_net : captured ≡ get_or values (observed_net t c.args.point) no_planes = read ∙ ap (λ (n : ℕ). get_or values n no_planes) c.observed_net-net.ensures.net in
+    rw c.as_slice.ensures at c.index-as_slice-net.is ∙ get_or_default values net captured no_planes (omega (arith, c.observed_net-net.ensures.in_range, c.requires.values)) in
+    let of_net : captured ≡ get_or values (observed_net t c.args.point) no_planes = read ∙ ap (λ (n : ℕ). get_or values n no_planes) c.observed_net-net.ensures.value in
     c.pick.ensures j lane_in
     ∙ block_shows t b j c.args.block.now c.args.point (held captured j) (held c.shifted.result j) c.observed_net-net.ensures.fits rows c.requires.point lane_in there
     (ap (λ (p : Planes). held p j) of_net)

@@ -1,5 +1,5 @@
 use Rattle.std.proofs.Common.{◌≡◌, ◌-◌}
-use Rattle.lane_rows.specs.Places.{room}
+use Rattle.place_sets.specs.Places.{room}
 use Rattle.fault_effects.proofs.walk.clear_marks.Given as goal
 
 abbrev pub invariant-loop-net : goal.invariant-loop-net

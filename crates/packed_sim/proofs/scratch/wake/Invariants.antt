@@ -1,6 +1,6 @@
 use Rattle.std.proofs.Common.{◌≡◌, ◌||◌, ℕ, take, eqb}
 use Rattle.std.specs.List.{list_any}
-use Rattle.lane_rows.specs.Places.{has_place, room}
+use Rattle.place_sets.specs.Places.{has_place, room}
 use Rattle.packed_sim.proofs.scratch.wake.Given as goal
 
 abbrev pub invariant-loop-place : goal.invariant-loop-place

@@ -4,7 +4,7 @@ use Rattle.std.proofs.lemmas.List.{get_or_default}
 use Rattle.scan_model.specs.declared.parts.Point.{Point}
 use Rattle.scan_model.specs.ScanTest.{IsPoint, points_of, point_at}
 use Rattle.scan_model.specs.Suspect.{observed_net}
-use Rattle.lane_rows.specs.Places.{has_place}
+use Rattle.place_sets.specs.Places.{has_place}
 use Rattle.packed_sim.specs.Belongs.{observed_at, points_of_net}
 use Rattle.packed_sim.proofs.Changes.{point_stands}
 use Rattle.fault_effects.proofs.NetPoints.{filtered, of_net_points}

@@ -10,19 +10,19 @@ use Rattle.fault_effects.specs.Walks.{AreFreshAt}
 use Rattle.fault_effects.proofs.WalkNotes.{net_kept, renoted_join}
 use Rattle.fault_effects.proofs.loaded.Loaded.note_chain.Goals as goal
 
-pub data_net-net-requires-clause-in_range : goal.data_net-net-requires-clause-in_range
-data_net-net-requires-clause-in_range g c =
+pub data_net-net-requires-clause-cell : goal.data_net-net-requires-clause-cell
+data_net-net-requires-clause-cell g c =
     let self = c.args.self.now in
     let t = self.work.now.parts.now in
     let i = c.loop-cell.cell-index in
-    rw c.chain_cells-cells.ensures (cell_is_flop_of t c.chains.ensures.fits self.chain i self.chain_within (omega (arith, c.loop-cell-test.true, ap length c.chain_cells-cells.ensures))).0
+    rw (c.circuit-circuit.ensures.value, c.chain_cells-cells.ensures) (cell_is_flop_of t c.chains.ensures.fits self.chain i self.chain_within (omega (arith, c.loop-cell-test.true, ap length c.chain_cells-cells.ensures))).0
 
 pub data_net-net-requires-clause-flop : goal.data_net-net-requires-clause-flop
 data_net-net-requires-clause-flop g c =
     let self = c.args.self.now in
     let t = self.work.now.parts.now in
     let i = c.loop-cell.cell-index in
-    rw c.chain_cells-cells.ensures (cell_is_flop_of t c.chains.ensures.fits self.chain i self.chain_within (omega (arith, c.loop-cell-test.true, ap length c.chain_cells-cells.ensures))).1
+    rw (c.circuit-circuit.ensures.value, c.chain_cells-cells.ensures) (cell_is_flop_of t c.chains.ensures.fits self.chain i self.chain_within (omega (arith, c.loop-cell-test.true, ap length c.chain_cells-cells.ensures))).1
 
 pub loop-cell-preserved : goal.loop-cell-preserved
 loop-cell-preserved g c =
@@ -35,7 +35,7 @@ loop-cell-preserved g c =
     let at = c.loop-cell.cell-index in
     let old = c.loop-cell.notes.rows.items in
     let new = c.note_net.new.notes.rows.items in
-    let is : c.data_net-net.result ≡ observed_net t (Cell h at) = c.data_net-net.ensures.value ∙ ap (λ (cells : List ℕ). (pin_at t.netlist (data_pin t.netlist (get_or cells at 0))).net) c.chain_cells-cells.ensures in
+    let is : c.data_net-net.result ≡ observed_net t (Cell h at) = rw c.circuit-circuit.ensures.value at c.data_net-net.ensures.value ∙ ap (λ (cells : List ℕ). (pin_at t.netlist (data_pin t.netlist (get_or cells at 0))).net) c.chain_cells-cells.ensures in
     let At : ℕ → Type 0 = AreFreshAt t m b f new in
     let Position : ℕ → Type 0 = λ i. AreFreshAt t m b f new (observed_net t (Cell h i)) in
     record {

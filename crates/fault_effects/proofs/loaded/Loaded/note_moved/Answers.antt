@@ -1,7 +1,7 @@
 use Rattle.std.proofs.Common.{ℕ, sym, subst, inl, inr, arith}
 use Rattle.std.proofs.lemmas.Bool.{cases_eq, cases_lt, both_ways}
 use Rattle.scan_model.specs.declared.fault.Fault.TheVariants as fault
-use Rattle.lane_rows.specs.Places.{has_place}
+use Rattle.place_sets.specs.Places.{has_place}
 use Rattle.fault_effects.specs.Walks.{IsNetDone}
 use Rattle.fault_effects.proofs.WalkNotes.{done_kept, renoted_join}
 use Rattle.fault_effects.proofs.loaded.Loaded.note_moved.Goals as goal

@@ -1,6 +1,6 @@
 use Rattle.std.proofs.Common.{◌≡◌, ℕ, ◌-◌, ◌<◌, ◌≤◌, true, length}
 use Rattle.scan_model.specs.declared.fault.Fault.TheVariants as fault
-use Rattle.lane_rows.specs.Places.{has_place}
+use Rattle.place_sets.specs.Places.{has_place}
 use Rattle.fault_effects.specs.Notes.{AreNotes}
 use Rattle.fault_effects.specs.Walks.{IsNetDone, IsRenoted}
 use Rattle.fault_effects.proofs.loaded.Loaded.note_moved.Given as goal

@@ -45,7 +45,7 @@ returns-in-Some-change c = λ j lt there.
     (held c.pick.result j) change on
     (ap (λ (r : List ℕ). lane r j) c.capture-capture.ensures ∙ (c.requires.good.rows.each b c.requires.block).capture j lt)
     (c.pick.ensures j lt ∙ ap (cond on change) (c.all-still.ensures j lt))
-    (c.in-Some-change.ensures j lt ∙ ap (λ (n : ℕ). tri_xor (good_at g b j n) (now_at g s b j n)) c.net_of_point-net.ensures.value)
+    (c.in-Some-change.ensures j lt ∙ ap (λ (n : ℕ). tri_xor (good_at g b j n) (now_at g s b j n)) c.observed_net-net.ensures.value)
 
 pub returns-in-None-change : goal.returns-in-None-change
 returns-in-None-change c = λ j lt there.
@@ -53,4 +53,4 @@ returns-in-None-change c = λ j lt there.
     let b = c.args.block in
     let s = c.args.scratch.now in
     outside_same c.args.parts.now c.chains.ensures.fits g c.requires.good c.args.behind.0 c.args.behind.1 c.args.kind s b j c.args.point c.requires.block lt there c.requires.point c.in-None.ensures c.requires.loaded
-    (subst (λ (n : ℕ). now_at g s b j n ≡ good_at g b j n) c.net_of_point-net.ensures.value (c.in-None-change.ensures j))
+    (subst (λ (n : ℕ). now_at g s b j n ≡ good_at g b j n) c.observed_net-net.ensures.value (c.in-None-change.ensures j))

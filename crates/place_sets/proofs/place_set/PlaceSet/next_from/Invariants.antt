@@ -1,6 +1,6 @@
 use Rattle.std.proofs.Common.{◌≡◌, ℕ, ◌+◌, ◌*◌, ◌/◌, ◌<◌, ◌≤◌, false}
-use Rattle.lane_rows.specs.Places.{has_place}
-use Rattle.lane_rows.proofs.place_set.PlaceSet.next_from.Given as goal
+use Rattle.place_sets.specs.Places.{has_place}
+use Rattle.place_sets.proofs.place_set.PlaceSet.next_from.Given as goal
 
 abbrev pub invariant-loop-word : goal.invariant-loop-word
 invariant-loop-word l = record {

@@ -1,7 +1,7 @@
 use Rattle.std.proofs.Common.{◌≡◌, ◌/◌, ◌<◌, get_or, length, ap, arith}
 use Rattle.std.proofs.lemmas.List.{get_or_read}
-use Rattle.lane_rows.proofs.PlaceWords.{has_put}
-use Rattle.lane_rows.proofs.place_set.PlaceSet.insert.Goals as goal
+use Rattle.place_sets.proofs.PlaceWords.{has_put}
+use Rattle.place_sets.proofs.place_set.PlaceSet.insert.Goals as goal
 
 pub returns-clause-places : goal.returns-clause-places
 returns-clause-places c k =

@@ -1,7 +1,7 @@
 use Rattle.std.proofs.Common.{◌≡◌, ◌/◌, ◌<◌, get_or, length, ap, arith}
 use Rattle.std.proofs.lemmas.List.{get_or_read}
-use Rattle.lane_rows.proofs.PlaceWords.{has_taken, mark_taken}
-use Rattle.lane_rows.proofs.place_set.PlaceSet.remove.Goals as goal
+use Rattle.place_sets.proofs.PlaceWords.{has_taken, mark_taken}
+use Rattle.place_sets.proofs.place_set.PlaceSet.remove.Goals as goal
 
 pub invariant_of-self : goal.invariant_of-self
 invariant_of-self c =

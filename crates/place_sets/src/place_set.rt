@@ -1,5 +1,6 @@
+//! A set of places with a mark behind its last word.
 ghost use Rattle.std.specs.Prelude.{◌≡◌, ℕ, ◌+◌, ◌*◌, ◌/◌, ◌^◌, ◌<◌, ◌≤◌, false, length, IfOk, ◌==◌, ◌&&◌, ◌||◌, not};
-ghost use Rattle.lane_rows.specs.Places.{bit_is_set, has_place, room, IsNextFrom, IsNextWithin};
+ghost use Rattle.place_sets.specs.Places.{bit_is_set, has_place, room, IsNextFrom, IsNextWithin};
 
 use scan_model::NoMemory;
 use std::alloc::Global;
@@ -18,7 +19,7 @@ impl Model for PlaceSet {
 
     ghost Value = { List ℕ };
 
-    ghost use Rattle.lane_rows.specs.Places.{IsBelowMark};
+    ghost use Rattle.place_sets.specs.Places.{IsBelowMark};
 
     ghost view = { λ s. s.words.items };
 

@@ -6,7 +6,7 @@ use Rattle.std.specs.Int.Bits.{and_lt}
 use Rattle.std.proofs.lemmas.Bool.{cases_eq, cases_lt, eq-eqb, ne_eqb, and_right}
 use Rattle.std.proofs.lemmas.List.{get_or-set_same, get_or-set_other, length-set}
 use Rattle.std.proofs.lemmas.Nat.Bits.{bit_at-lt, bit_at_and, bit_at_set_same, bit_at_set_other, bit_at_clear_same, bit_at_clear_other, bit_at-trailing_zeros, bit_at-zero, bit_at_mask_inside, bit_at_mask_below, ones_shl}
-use Rattle.lane_rows.specs.Places.{bit_is_set, has_place, IsNextWithin, IsBelowMark}
+use Rattle.place_sets.specs.Places.{bit_is_set, has_place, IsNextWithin, IsBelowMark}
 
 -- ---- one word
 

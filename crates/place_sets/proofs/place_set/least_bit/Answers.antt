@@ -1,5 +1,5 @@
-use Rattle.lane_rows.proofs.PlaceWords.{no_bit, some_bit}
-use Rattle.lane_rows.proofs.place_set.least_bit.Goals as goal
+use Rattle.place_sets.proofs.PlaceWords.{no_bit, some_bit}
+use Rattle.place_sets.proofs.place_set.least_bit.Goals as goal
 
 pub returns-then-rest-eq0 : goal.returns-then-rest-eq0
 returns-then-rest-eq0 c = no_bit c.args.word c.args.low c.requires c.if-rest-eq0.true
