@@ -18,3 +18,4 @@ pub mod BlockCounts
 pub mod Explained
 pub mod AmongSuspects
 pub mod BitLists
+pub mod ChainNets

@@ -4,6 +4,7 @@ use Rattle.std.specs.List.{list_any, range_with_len}
 use Rattle.scan_model.specs.declared.parts.Point.{Point}
 use Rattle.scan_model.specs.declared.parts.Point.TheVariants.{Output, Cell}
 use Rattle.scan_model.specs.ScanTest.{ScanTest}
+use Rattle.scan_model.specs.Suspect.{observed_net}
 use Rattle.fail_logs.specs.BitNumbers.{place_in}
 use Rattle.fail_logs.specs.Frames.{rows_view}
 use Rattle.fail_logs.specs.Places.{places_in}
@@ -27,7 +28,16 @@ abbrev pub seeing : ScanTest → Compactor → Point → List ℕ
 seeing t c (Output k) = k ∷ []
 seeing t c (Cell h i) = map (λ x. place_in (cycle_places t c) x (chain_length t h - 1 - i)) (channels_of c h)
 
+-- the nets that the cells of chain h observe, by position
+abbrev pub nets_of : ScanTest → ℕ → List ℕ
+nets_of t h = map (λ i. observed_net t (Cell h i)) (range_with_len 0 (chain_length t h))
+
+-- those of each chain
+abbrev pub chain_nets : ScanTest → List (List ℕ)
+chain_nets t = map (nets_of t) (range_with_len 0 (length t.chains))
+
 -- the tables that were made of channels
 pub record AreTables (t : ScanTest) (c : Compactor) (tables : Tables) : Type 0 where
   pub channels : rows_view tables.channels.items ≡ map (channels_of c) (range_with_len 0 (length t.chains))
   pub places : rows_view tables.places.items ≡ cycle_places t c
+  pub nets : rows_view tables.nets.items ≡ chain_nets t

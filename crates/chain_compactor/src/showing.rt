@@ -38,7 +38,14 @@ impl CompactCounts<'_> {
     {
         let point = self.compact.in_order().as_slice()[place as usize];
         let expected = self.expected[place as usize];
-        let differs = differing(changes, self.parts, self.compact, expected, point);
+        let differs = differing(
+            changes,
+            self.parts,
+            self.compact,
+            &self.tables.nets,
+            expected,
+            point,
+        );
         lanes.and(differs)
     }
 

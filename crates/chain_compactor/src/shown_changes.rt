@@ -1,6 +1,12 @@
 //! What points show under a flip of a net, under a stuck pin that goes straight to them, and under a fault of a shift path.
 
-ghost use Rattle.std.specs.Prelude.{◌≡◌};
+ghost use Rattle.std.specs.Prelude.{◌≡◌, MatchOption};
+ghost use Rattle.scan_model.specs.declared.fault.Fault.TheVariants as fault;
+ghost use Rattle.scan_model.specs.declared.parts.Point.TheVariants as variant;
+ghost use Rattle.scan_model.specs.ScanTest.{IsPoint};
+ghost use Rattle.scan_model.proofs.counting.ChainSteps.{IsOutside};
+ghost use Rattle.packed_sim.specs.Changes.{IsSameShown, IsShownChange};
+ghost use Rattle.chain_compactor.specs.ShownFlips.{ShowsCell};
 
 use crate::changes::Changes;
 use lane_rows::Packed;
@@ -36,9 +42,8 @@ impl Changes for FlipChanges<'_> {
 
     ghost shown = { λ o j p. flipped o.parts.now (pattern_of o.block j) o.net (observed_net o.parts.now p) };
 
-    fn change(&self, point: Point) -> Option<Packed> {
+    fn change(&self, _point: Point, net: u32) -> Option<Packed> {
         let _ = self.parts.chains();
-        let net = self.parts.observed_net(point);
         match self.good.change(self.parts, self.scratch, self.block, net) {
             Some(change) => Some(change),
             None => None,
@@ -76,12 +81,11 @@ impl Changes for PinChanges<'_> {
 
     ghost shown = { λ o j p. straight_value o.parts.now (fault.Branch o.pin o.value) (pattern_of o.block j) p };
 
-    fn change(&self, point: Point) -> Option<Packed> {
+    fn change(&self, point: Point, net: u32) -> Option<Packed> {
         let _ = self.parts.chains();
         if !is_pin_of(self.parts, self.pin, point) {
             return None;
         }
-        let net = self.parts.observed_net(point);
         let good = self.good.blocks()[self.block].values.as_slice()[net as usize];
         let stuck = Packed::all(stuck_at(self.value));
         Some(good.xor(stuck))
@@ -116,18 +120,43 @@ impl Changes for CellChanges<'_> {
 
     ghost shown = { λ o j p. observed o.parts.now (Some (fault.Cell o.behind.0 o.behind.1 o.kind)) (pattern_of o.block j) p };
 
-    fn change(&self, point: Point) -> Option<Packed> {
-        let changed = self.good.shown_change(
+    fn change(&self, point: Point, net: u32) -> Option<Packed> {
+        let _ = self.parts.chains();
+        match own_position(point, self.behind.0) {
+            Some(_) => self.shown(point),
+            None => match self.good.change(self.parts, self.scratch, self.block, net) {
+                Some(_) => self.shown(point),
+                None => None,
+            },
+        }
+    }
+}
+
+/// The position of a point in a chain, if it is one of its cells.
+fn own_position(point: Point, chain: u32) -> Option<u32>
+    ensures { MatchOption result (IsOutside chain point) (λ at. point ≡ variant.Cell chain at) }
+{
+    match point {
+        Point::Output { .. } => None,
+        Point::Cell { chain: own, pos } => { if own == chain { Some(pos) } else { None } }
+    }
+}
+
+impl CellChanges<'_> {
+    /// How what a point shows differs from what it shows without a fault.
+    fn shown(&self, point: Point) -> Option<Packed>
+        requires ready { ShowsCell self.now.parts.now self.now.good.now self.now.block self.now.behind.0 self.now.behind.1 self.now.kind self.now.scratch.now }
+        requires point { IsPoint self.now.parts.now point }
+        ensures { MatchOption result (IsSameShown self.now.parts.now self.now.block (fault.Cell self.now.behind.0 self.now.behind.1 self.now.kind) point)
+            (IsShownChange self.now.parts.now self.now.block (fault.Cell self.now.behind.0 self.now.behind.1 self.now.kind) point) }
+    {
+        self.good.shown_change(
             self.parts,
             self.scratch,
             self.block,
             self.behind,
             self.kind,
             point,
-        );
-        match changed {
-            Some(change) => Some(change),
-            None => None,
-        }
+        )
     }
 }

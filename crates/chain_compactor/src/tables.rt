@@ -6,7 +6,7 @@ ghost use Rattle.scan_model.specs.ScanTest.{points_of, point_at};
 ghost use Rattle.fail_logs.specs.BitNumbers.{place_in};
 ghost use Rattle.fail_logs.specs.Frames.{rows_view};
 ghost use Rattle.chain_compactor.specs.Channels.{IsCompactorOf, channel_at};
-ghost use Rattle.chain_compactor.specs.Seeing.{has_chain, channels_of, seeing, AreTables};
+ghost use Rattle.chain_compactor.specs.Seeing.{has_chain, channels_of, nets_of, chain_nets, seeing, AreTables};
 
 use crate::compactor::{Channel, Compact};
 use crate::expected::chain_length;
@@ -15,11 +15,13 @@ use fail_logs::cell_places;
 use scan_model::{NoMemory, Parts, Point};
 use std::alloc::Global;
 
-/// For each chain the channels that show it, and for each channel its compact point in each cycle.
+/// For each chain the channels that show it and the nets that its cells observe, and for each channel its compact point in each
+/// cycle.
 #[derive(Debug, Drop)]
 pub struct Tables {
     pub channels: Vec<Vec<u32>>,
     pub places: Vec<Vec<u32>>,
+    pub nets: Vec<Vec<u32>>,
 }
 
 /// Whether a channel shows a chain.
@@ -64,6 +66,34 @@ fn channels_of_all(
     let mut rows = Vec::new(alloc);
     for chain in 0..parts.chains().len() {
         rows.push(channels_of(alloc, compact, chain as u32)?)?;
+    }
+    Ok(rows)
+}
+
+/// The nets that the cells of a chain observe, by position.
+fn nets_of(alloc: Global, parts: &Parts, chain: u32) -> Result<Vec<u32>, NoMemory>
+    requires { chain < length parts.now.chains }
+    ensures { IfOk result (λ nets. nets.items ≡ nets_of parts.now chain) }
+{
+    let count = chain_length(parts, chain);
+    let mut nets = Vec::with_capacity(alloc, count)?;
+    for pos in 0..count {
+        let point = Point::Cell {
+            chain,
+            pos: pos as u32,
+        };
+        nets.push(parts.observed_net(point))?;
+    }
+    Ok(nets)
+}
+
+/// The nets that the cells of each chain observe.
+fn nets_of_all(alloc: Global, parts: &Parts) -> Result<Vec<Vec<u32>>, NoMemory>
+    ensures { IfOk result (λ rows. rows_view rows.items ≡ chain_nets parts.now) }
+{
+    let mut rows = Vec::new(alloc);
+    for chain in 0..parts.chains().len() {
+        rows.push(nets_of(alloc, parts, chain as u32)?)?;
     }
     Ok(rows)
 }
@@ -119,7 +149,12 @@ impl Tables {
             compact.channels().as_slice(),
         )?;
         let places = cell_places(alloc, &cycles, compact.in_order().as_slice())?;
-        Ok(Tables { channels, places })
+        let nets = nets_of_all(alloc, parts)?;
+        Ok(Tables {
+            channels,
+            places,
+            nets,
+        })
     }
 
     /// One of the compact points that see a point of the test, if there are so many.

@@ -16,6 +16,12 @@ use Rattle.chain_compactor.proofs.changes.shown_changed.Goals as goal
 pub changed-requires-clause-point : goal.changed-requires-clause-point
 changed-requires-clause-point g c = rw (c.in-Output.is, c.requires.test) (rw c.in-Output.is at c.requires.point)
 
+pub observed_net-net-requires : goal.observed_net-net-requires
+observed_net-net-requires g c = rw c.in-Output.is (rw c.in-Output.is at c.requires.point)
+
+pub changed-requires-clause-net : goal.changed-requires-clause-net
+changed-requires-clause-net g c = rw c.requires.test c.observed_net-net.ensures.value
+
 pub returns-in-Output : goal.returns-in-Output
 returns-in-Output g c = λ j lt tells.
     let t = c.args.parts.now in
