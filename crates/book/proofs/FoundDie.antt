@@ -12,9 +12,9 @@ use Rattle.diagnosis.specs.Designs.{ReadLogFacts, texts_of}
 use Rattle.book.specs.Deeds.{die_logs, die_signs}
 use Rattle.book.specs.Finding.{IsDieIn}
 use Rattle.book.specs.Dies.{DieFacts, bare_die, is_die, kept_logs, kept_signs, logs_in, signs_in}
-use Rattle.book.specs.Kept.{AreOfDie}
+use Rattle.book.specs.State.{AreOfDie}
 use Rattle.book.specs.Kinds.{arc_values}
-use Rattle.book.proofs.Found.{position_at, position_past}
+use Rattle.book.proofs.NumberedDesign.{position_at, position_past}
 use Rattle.book.proofs.Written.{found_before}
 
 -- a die without logs

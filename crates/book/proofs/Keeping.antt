@@ -16,15 +16,15 @@ use Rattle.book.specs.Legal.{fits}
 use Rattle.book.specs.Kinds.{named, design_deed, log_deed, sign_deed}
 use Rattle.book.specs.Changes.{StandsIn}
 use Rattle.book.specs.Dies.{AreSameDies, DieFacts, is_die, with_log, with_sign, kept_logs, kept_signs, logs_in, signs_in}
-use Rattle.book.specs.Kept.{AreOfDie, IsKept}
+use Rattle.book.specs.State.{AreOfDie, IsState}
 use Rattle.book.proofs.Growing.{and_left, and_right, each_fits-push, designs-push, designs-same, design_text-other, design_text-same}
 use Rattle.book.proofs.OfDies.{of_die_and_design, of_its_die, of_other_die_and_log, of_signed_die, of_other_die_and_sign}
 use Rattle.book.proofs.Written.{found_before, found_after, other_found}
 
 -- dies of which the same is kept
-pub IsKept-alike : (deeds : List Deed) (kept : List DesignFacts) (old new : List DieFacts) → ((d x : List ℕ) → kept_logs new d x ≡ kept_logs old d x)
-    → ((d x : List ℕ) → kept_signs new d x ≡ kept_signs old d x) → IsKept deeds kept old → IsKept deeds kept new
-IsKept-alike deeds kept old new logs signs was = record {
+pub IsState-alike : (deeds : List Deed) (kept : List DesignFacts) (old new : List DieFacts) → ((d x : List ℕ) → kept_logs new d x ≡ kept_logs old d x)
+    → ((d x : List ℕ) → kept_signs new d x ≡ kept_signs old d x) → IsState deeds kept old → IsState deeds kept new
+IsState-alike deeds kept old new logs signs was = record {
   fit = was.fit;
   designs = was.designs;
   tags = was.tags;
@@ -32,8 +32,8 @@ IsKept-alike deeds kept old new logs signs was = record {
 }
 
 -- the same where only room was made
-pub IsKept-roomy : (deeds seen : List Deed) (kept : List DesignFacts) (old new : List DieFacts) → seen ≡ deeds → AreSameDies old new → IsKept deeds kept old → IsKept seen kept new
-IsKept-roomy deeds seen kept old new are same was = subst (λ ds. IsKept ds kept new) (sym are) (IsKept-alike deeds kept old new same.logs same.signs was)
+pub IsState-roomy : (deeds seen : List Deed) (kept : List DesignFacts) (old new : List DieFacts) → seen ≡ deeds → AreSameDies old new → IsState deeds kept old → IsState seen kept new
+IsState-roomy deeds seen kept old new are same was = subst (λ ds. IsState ds kept new) (sym are) (IsState-alike deeds kept old new same.logs same.signs was)
 
 module _ (deeds : List Deed) (by : ℕ) (f : DesignFacts) (fit : fits deeds (design_deed by f).what ≡ true) where
   tag_after : (name text : List ℕ) → ((t : List ℕ) → design_text deeds name ≡ Some t → is_tag name ≡ true) → (b : Bool) → bytes_eq f.name name ≡ b
@@ -41,7 +41,7 @@ module _ (deeds : List Deed) (by : ℕ) (f : DesignFacts) (fit : fits deeds (des
   tag_after name text was true e there = ap is_tag (sym ((bytes_decides f.name name).0 e)) ∙ and_left (is_tag f.name) (is_none (design_text deeds f.name) && is_ok (bundle_reading f.text)) fit
   tag_after name text was false e there = was text (sym (design_text-other deeds (design_deed by f) (named f) name refl e) ∙ there)
 
-  pub design_kept : (kept : List DesignFacts) (dies : List DieFacts) → IsKept deeds kept dies → IsKept (deeds ++ design_deed by f ∷ []) (kept ++ f ∷ []) dies
+  pub design_kept : (kept : List DesignFacts) (dies : List DieFacts) → IsState deeds kept dies → IsState (deeds ++ design_deed by f ∷ []) (kept ++ f ∷ []) dies
   design_kept kept dies was = record {
     fit = each_fits-push [] deeds (design_deed by f) was.fit fit;
     designs = map_push named kept f ∙ ap (λ ns. ns ++ named f ∷ []) was.designs ∙ sym (designs-push deeds (design_deed by f) (named f) refl);
@@ -70,7 +70,7 @@ module _ (deeds : List Deed) (by : ℕ) (log : ReadLogFacts) (fit : fits deeds (
       subst (λ n. AreOfDie (deeds ++ log_deed by log ∷ []) n y (kept_logs (slice_set dies j (with_log k log)) n y) (kept_signs (slice_set dies j (with_log k log)) n y)) is_design
       (subst (λ n. AreOfDie (deeds ++ log_deed by log ∷ []) log.design n (kept_logs (slice_set dies j (with_log k log)) log.design n) (kept_signs (slice_set dies j (with_log k log)) log.design n)) is_die_of new_here)
 
-  pub log_kept : (kept : List DesignFacts) → IsKept deeds kept dies → IsKept (deeds ++ log_deed by log ∷ []) kept (slice_set dies j (with_log k log))
+  pub log_kept : (kept : List DesignFacts) → IsState deeds kept dies → IsState (deeds ++ log_deed by log ∷ []) kept (slice_set dies j (with_log k log))
   log_kept kept was = record {
     fit = each_fits-push [] deeds (log_deed by log) was.fit fit;
     designs = was.designs ∙ sym (designs-same deeds (log_deed by log) refl);
@@ -99,7 +99,7 @@ module _ (deeds : List Deed) (by : ℕ) (d x : List ℕ) (sign : SignOff) (fit :
       subst (λ n. AreOfDie (deeds ++ sign_deed by d x sign ∷ []) n y (kept_logs (slice_set dies j (with_sign k sign)) n y) (kept_signs (slice_set dies j (with_sign k sign)) n y)) is_design
       (subst (λ n. AreOfDie (deeds ++ sign_deed by d x sign ∷ []) d n (kept_logs (slice_set dies j (with_sign k sign)) d n) (kept_signs (slice_set dies j (with_sign k sign)) d n)) is_die_of new_here)
 
-  pub sign_kept : (kept : List DesignFacts) → IsKept deeds kept dies → IsKept (deeds ++ sign_deed by d x sign ∷ []) kept (slice_set dies j (with_sign k sign))
+  pub sign_kept : (kept : List DesignFacts) → IsState deeds kept dies → IsState (deeds ++ sign_deed by d x sign ∷ []) kept (slice_set dies j (with_sign k sign))
   sign_kept kept was = record {
     fit = each_fits-push [] deeds (sign_deed by d x sign) was.fit fit;
     designs = was.designs ∙ sym (designs-same deeds (sign_deed by d x sign) refl);

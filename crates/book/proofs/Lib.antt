@@ -5,7 +5,7 @@ pub mod Growing
 pub mod Keys
 pub mod NotedDies
 pub mod SameDies
-pub mod Found
+pub mod NumberedDesign
 pub mod NewName
 pub mod Written
 pub mod FoundDie

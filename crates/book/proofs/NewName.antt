@@ -13,7 +13,7 @@ use Rattle.book.specs.Deeds.{designs, design_text}
 use Rattle.book.specs.Legal.{fits}
 use Rattle.book.specs.Kinds.{named, design_deed}
 use Rattle.book.proofs.Growing.{and_left, and_right}
-use Rattle.book.proofs.Found.{found_design, position_at}
+use Rattle.book.proofs.NumberedDesign.{found_design, position_at}
 
 none_from : {X : Type 0} (o : Option X) → is_none o ≡ true → o ≡ None
 none_from None e = refl

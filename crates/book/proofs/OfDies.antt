@@ -18,7 +18,7 @@ use Rattle.book.specs.Legal.{fits, is_log_over}
 use Rattle.book.specs.Kinds.{named, design_deed, log_deed, sign_deed}
 use Rattle.book.specs.Finding.{IsLogIn}
 use Rattle.book.specs.Changes.{StandsIn}
-use Rattle.book.specs.Kept.{AreOfDie}
+use Rattle.book.specs.State.{AreOfDie}
 use Rattle.book.proofs.Growing.{and_left, and_right, die_logs-same, die_logs-push, die_signs-same, die_signs-push, design_text-other, design_text-same}
 use Rattle.book.proofs.NewName.{text_is_new}
 

@@ -5,7 +5,7 @@ use Rattle.std.specs.List.{position, find}
 use Rattle.std.specs.Str.{bytes_eq}
 use Rattle.std.proofs.lemmas.List.Folds.{find-set, find_at}
 use Rattle.book.specs.Dies.{DieFacts, is_die}
-use Rattle.book.proofs.Found.{position_at, passes_here}
+use Rattle.book.proofs.NumberedDesign.{position_at, passes_here}
 use Rattle.book.proofs.Keys.{is_die_names, is_die_itself}
 
 -- one that doesn't pass, before and after

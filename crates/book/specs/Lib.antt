@@ -6,7 +6,7 @@ pub mod Changes
 pub mod Finding
 pub mod Places
 pub mod Dies
-pub mod Kept
+pub mod State
 pub mod Ready
 pub mod Putting
 pub mod Rows

@@ -2,22 +2,22 @@
 use Rattle.std.specs.Prelude.{◌≡◌, ◌<◌, ℕ, true, List, Some, slice_get}
 use Rattle.std.specs.List.{position}
 use Rattle.std.specs.Arc.{arc_value}
-use Rattle.book.specs.declared.kept.ready.ReadyDesign.{ReadyDesign}
-use Rattle.book.specs.declared.kept.ready.ReadyLog.{ReadyLog}
-use Rattle.book.specs.declared.kept.ready.ReadySign.{ReadySign}
+use Rattle.book.specs.declared.state.ready.ReadyDesign.{ReadyDesign}
+use Rattle.book.specs.declared.state.ready.ReadyLog.{ReadyLog}
+use Rattle.book.specs.declared.state.ready.ReadySign.{ReadySign}
 use Rattle.book.specs.Legal.{fits}
 use Rattle.book.specs.Kinds.{design_deed, log_deed, sign_deed}
 use Rattle.book.specs.Changes.{StandsIn}
 use Rattle.book.specs.Dies.{DieFacts, is_die}
-use Rattle.book.specs.Kept.{KeptFacts}
+use Rattle.book.specs.State.{StateFacts}
 
-pub record IsReadyDesign (kept : KeptFacts) (ready : ReadyDesign) : Type 0 where
+pub record IsReadyDesign (kept : StateFacts) (ready : ReadyDesign) : Type 0 where
   pub is : ready.deed ≡ design_deed ready.deed.by (arc_value ready.design)
   pub fit : fits kept.deeds (design_deed ready.deed.by (arc_value ready.design)).what ≡ true
   pub room : 0 < kept.room
   pub next : kept.designs.next ≡ Some (arc_value ready.design)
 
-pub record IsReadyLog (kept : KeptFacts) (ready : ReadyLog) : Type 0 where
+pub record IsReadyLog (kept : StateFacts) (ready : ReadyLog) : Type 0 where
   pub is : ready.deed ≡ log_deed ready.deed.by (arc_value ready.log)
   pub fit : fits kept.deeds (log_deed ready.deed.by (arc_value ready.log)).what ≡ true
   pub stands : StandsIn kept.deeds (arc_value ready.log)
@@ -25,7 +25,7 @@ pub record IsReadyLog (kept : KeptFacts) (ready : ReadyLog) : Type 0 where
   pub place : position (is_die (arc_value ready.log).design (arc_value ready.log).die) kept.dies ≡ Some ready.place
   pub log_room : (k : DieFacts) → slice_get kept.dies ready.place ≡ Some k → 0 < k.log_room
 
-pub record IsReadySign (kept : KeptFacts) (ready : ReadySign) : Type 0 where
+pub record IsReadySign (kept : StateFacts) (ready : ReadySign) : Type 0 where
   pub design : List ℕ
   pub die : List ℕ
   pub is : ready.deed ≡ sign_deed ready.deed.by design die ready.sign

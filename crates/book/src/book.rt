@@ -13,9 +13,9 @@ ghost use Rattle.book.specs.Changes.{IsBook, Changed, StandsIn, IsViewIn};
 ghost use Rattle.book.specs.Kinds.{design_deed, log_deed, sign_deed, arc_values};
 
 use crate::answers::PutFault;
-use crate::kept::{Found, Kept};
 use crate::recording::{record_design, record_log, record_sign};
 use crate::sign::Sign;
+use crate::state::{BookState, NumberedDesign};
 use desk_outside::Keeper;
 use diagnosis::{Checked, Design, Put, ReadLog};
 use scan_model::{Digest, Name, NoMemory};
@@ -31,7 +31,7 @@ pub struct Book<K: Keeper> {
     pub(crate) alloc: Global,
     pub(crate) keeper: K,
     pub(crate) limit: u32,
-    pub(crate) kept: Kept,
+    pub(crate) kept: BookState,
 }
 
 impl<K: Keeper> Model for Book<K> {
@@ -51,7 +51,7 @@ pub(crate) fn is_same_digest(digest: &Digest, other: &Digest) -> bool
 }
 
 // What a text finds whose name has a design.
-fn put_beside(found: &Found<'_>, text: &[u8]) -> Result<Put, PutFault>
+fn put_beside(found: &NumberedDesign<'_>, text: &[u8]) -> Result<Put, PutFault>
     ensures { result ≡ beside found.now.number (arc_value found.now.design.now).text text.now }
 {
     if found.design.text() == text {

@@ -4,12 +4,12 @@
 mod answers;
 mod book;
 mod dies;
-mod kept;
 mod looks;
 mod opening;
 mod recording;
 mod row;
 mod sign;
+mod state;
 
 pub use answers::{LookFault, PutFault};
 pub use book::Book;

@@ -7,8 +7,8 @@ ghost use Rattle.book.specs.Legal.{each_fits, spoiled_row};
 ghost use Rattle.book.specs.Rows.{start_fault_of};
 
 use crate::book::Book;
-use crate::kept::Kept;
 use crate::row::add_row;
+use crate::state::BookState;
 use desk_outside::{Deed, KeepFault, Keeper};
 use std::alloc::Global;
 use std::thread::Threads;
@@ -70,7 +70,7 @@ fn read_rows<K: Keeper, R: Threads + Sync>(
     rt: &R,
     alloc: Global,
     keeper: &mut K,
-    kept: &mut Kept,
+    kept: &mut BookState,
     limit: u32,
 ) -> Result<(), StartFault>
     requires { kept.old.deeds ≡ [] }
@@ -114,7 +114,7 @@ impl<K: Keeper> Book<K> {
         ensures same { IfErr result (λ refused. IfSome refused.keeper (λ k. (K.rows k ≡ K.rows keeper) × (K.faults keeper ≤ K.faults k))) }
         ensures failed { IfErr result (λ refused. refused.fault ≡ StartFault.Failed → IfSome refused.keeper (λ k. Rose (K.faults keeper) (K.faults k))) }
     {
-        let (mut keeper, mut kept) = (keeper, Kept::new(alloc));
+        let (mut keeper, mut kept) = (keeper, BookState::new(alloc));
         match read_rows(rt, alloc, &mut keeper, &mut kept, max_deeds) {
             Ok(()) => Ok(Book {
                 alloc,

@@ -6,15 +6,15 @@ ghost use Rattle.book.specs.Changes.{StandsIn};
 ghost use Rattle.book.specs.Kinds.{design_deed, log_deed, sign_deed};
 ghost use Rattle.book.specs.Putting.{Recorded};
 
-use crate::kept::Kept;
 use crate::sign::Sign;
+use crate::state::BookState;
 use desk_outside::{KeepFault, Keeper};
 use diagnosis::{Design, ReadLog};
 use std::sync::Arc;
 
 /// Adds a design whose deed the keeper takes.
 pub fn record_design<K: Keeper>(
-    kept: &mut Kept,
+    kept: &mut BookState,
     keeper: &mut K,
     by: u32,
     design: &Arc<Design>,
@@ -34,7 +34,7 @@ pub fn record_design<K: Keeper>(
 
 /// Adds a log whose deed the keeper takes.
 pub fn record_log<K: Keeper>(
-    kept: &mut Kept,
+    kept: &mut BookState,
     keeper: &mut K,
     by: u32,
     log: &Arc<ReadLog>,
@@ -55,7 +55,7 @@ pub fn record_log<K: Keeper>(
 
 /// Adds a sign-off whose deed the keeper takes.
 pub fn record_sign<K: Keeper>(
-    kept: &mut Kept,
+    kept: &mut BookState,
     keeper: &mut K,
     by: u32,
     design: &[u8],

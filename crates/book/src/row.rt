@@ -16,8 +16,8 @@ ghost use Rattle.book.specs.Rows.{added_if};
 
 use crate::book::{is_same_digest, put_sign, put_text};
 use crate::dies::view_of;
-use crate::kept::Kept;
 use crate::sign::Sign;
+use crate::state::BookState;
 use desk_outside::{Deed, DeedKind};
 use diagnosis::{BundleFault, Design, Put, ReadLog, check_report, log_of, read_bundle};
 use scan_model::{Digest, NoMemory};
@@ -29,7 +29,7 @@ use text_parts::{ReadFault, is_tag};
 // The design that the row puts, where it fits.
 fn design_of_row(
     alloc: Global,
-    kept: &Kept,
+    kept: &BookState,
     name: &[u8],
     text: &[u8],
 ) -> Result<Option<Arc<Design>>, NoMemory>
@@ -47,7 +47,7 @@ fn design_of_row(
     }
 }
 
-fn has_text(kept: &Kept, design: &[u8], die: &[u8], text: &[u8]) -> Result<bool, NoMemory>
+fn has_text(kept: &BookState, design: &[u8], die: &[u8], text: &[u8]) -> Result<bool, NoMemory>
     ensures { IfOk result (λ r. r ≡ has_word (die_logs kept.now.deeds design.now die.now) text.now) }
 {
     match kept.die(design, die)? {
@@ -59,7 +59,7 @@ fn has_text(kept: &Kept, design: &[u8], die: &[u8], text: &[u8]) -> Result<bool,
 // The log that the row puts, where it fits.
 fn log_of_row(
     alloc: Global,
-    kept: &Kept,
+    kept: &BookState,
     design: &[u8],
     die: &[u8],
     text: &[u8],
@@ -118,7 +118,7 @@ fn digest_of<R: Threads + Sync>(
 fn right_digest<R: Threads + Sync>(
     rt: &R,
     alloc: Global,
-    kept: &Kept,
+    kept: &BookState,
     design: &[u8],
     die: &[u8],
     revision: u64,
@@ -145,7 +145,7 @@ fn right_digest<R: Threads + Sync>(
 }
 
 fn is_signed(
-    kept: &Kept,
+    kept: &BookState,
     design: &[u8],
     die: &[u8],
     revision: u64,
@@ -163,7 +163,7 @@ fn is_signed(
 fn sign_fits<R: Threads + Sync>(
     rt: &R,
     alloc: Global,
-    kept: &Kept,
+    kept: &BookState,
     design: &[u8],
     die: &[u8],
     sign: &Sign,
@@ -183,7 +183,7 @@ fn sign_fits<R: Threads + Sync>(
 
 fn add_design_row(
     alloc: Global,
-    kept: &mut Kept,
+    kept: &mut BookState,
     by: u32,
     name: &[u8],
     text: &[u8],
@@ -201,7 +201,7 @@ fn add_design_row(
 
 fn add_log_row(
     alloc: Global,
-    kept: &mut Kept,
+    kept: &mut BookState,
     by: u32,
     design: &[u8],
     die: &[u8],
@@ -221,7 +221,7 @@ fn add_log_row(
 fn add_sign_row<R: Threads + Sync>(
     rt: &R,
     alloc: Global,
-    kept: &mut Kept,
+    kept: &mut BookState,
     by: u32,
     design: &[u8],
     die: &[u8],
@@ -243,7 +243,7 @@ fn add_sign_row<R: Threads + Sync>(
 pub fn add_row<R: Threads + Sync>(
     rt: &R,
     alloc: Global,
-    kept: &mut Kept,
+    kept: &mut BookState,
     row: Deed,
 ) -> Result<bool, NoMemory>
     requires { each_fits [] kept.old.deeds ≡ true }

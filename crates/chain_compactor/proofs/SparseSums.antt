@@ -9,7 +9,7 @@ use Rattle.fault_effects.specs.declared.point_row.PointRow.{PointRow}
 use Rattle.fault_effects.specs.declared.side.Side.{Side}
 use Rattle.fault_effects.specs.FaultModel.{Table}
 use Rattle.match_counts.specs.Flips.{row_on, point_row_at}
-use Rattle.match_counts.specs.declared.shown.Shown.{Shown}
+use Rattle.match_counts.specs.declared.flip_rows.FlipRows.{FlipRows}
 use Rattle.match_counts.specs.SameTables.{sums_agree, lanes_agree}
 use Rattle.match_counts.specs.Tables.{lanes_of, HasTable}
 use Rattle.match_counts.proofs.BlockSums.{sum_by_block}
@@ -57,7 +57,7 @@ present_place rows side set c m q row has is =
     ∙ sym (ap (λ (b : Bool). ((b && c q j) && m j) && lane (row_on side (point_row_at rows q)) j) has))
 
 -- lists that have a table have each that agrees with it
-pub table_same : (places : ℕ) (rows : List PointRow) (c d : Table) → length rows ≡ places → ((q j : ℕ) → q < places → j < 512 → c q j ≡ d q j) → (shown : Shown) → HasTable rows shown c → HasTable rows shown d
+pub table_same : (places : ℕ) (rows : List PointRow) (c d : Table) → length rows ≡ places → ((q j : ℕ) → q < places → j < 512 → c q j ≡ d q j) → (shown : FlipRows) → HasTable rows shown c → HasTable rows shown d
 table_same places rows c d len agree shown has side m =
     has side m
     ∙ sums_agree (lanes_of rows side (λ q j. c q j && m j)) (lanes_of rows side (λ q j. d q j && m j)) (length rows)

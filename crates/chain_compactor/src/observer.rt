@@ -11,7 +11,7 @@ use crate::counts::CompactCounts;
 use crate::shown_changes::{CellChanges, FlipChanges, PinChanges};
 use fault_effects::{ChainObserver, Observer};
 use lane_rows::Row;
-use match_counts::{BlockCount, PlaceCounts, Shown, count_row};
+use match_counts::{BlockCount, FlipRows, PlaceCounts, count_row};
 use packed_sim::{Scratch, net_of_pin};
 use scan_model::{CellKind, Fault, NoMemory, Steps, Stuck};
 use std::alloc::Global;
@@ -19,7 +19,7 @@ use std::sync::ledger::Ledger;
 
 impl CompactCounts<'_> {
     /// Takes where a flip shows that a scratch has, in place of what was here. The only error is want of memory.
-    fn gather(&self, scratch: &Scratch, net: u32, into: &mut Shown) -> Result<(), NoMemory>
+    fn gather(&self, scratch: &Scratch, net: u32, into: &mut FlipRows) -> Result<(), NoMemory>
         requires flip { ShowsFlip self.now.parts.now self.now.good.now self.now.block net scratch.now }
         ensures { OnOk result (HasTable self.now.rows.now into.new (shown_in (compact_model self.now.parts.now self.now.compact.now) self.now.block net)) }
     {
@@ -45,7 +45,7 @@ impl Observer for CompactCounts<'_> {
     ghost use Rattle.match_counts.specs.SameTables.{count_same};
     ghost use Rattle.chain_compactor.specs.CompactModel.{compact_model};
 
-    type Flip = Shown;
+    type Flip = FlipRows;
 
     type Part = BlockCount;
 
@@ -65,15 +65,15 @@ impl Observer for CompactCounts<'_> {
 
     ghost same = { λ o count c d agree is. count_same (length o.compact.now.points) o.rows.now c d o.rows_len agree count is };
 
-    fn new_flip(&self, alloc: Global) -> Shown {
-        Shown::new(alloc)
+    fn new_flip(&self, alloc: Global) -> FlipRows {
+        FlipRows::new(alloc)
     }
 
     fn flip<L: Ledger>(
         &self,
         scratch: &mut Scratch,
         net: u32,
-        into: &mut Shown,
+        into: &mut FlipRows,
         steps: &mut Steps<L>,
     ) -> Result<(), NoMemory> {
         self.good
@@ -122,12 +122,12 @@ impl Observer for CompactCounts<'_> {
             value,
         };
         let capture = self.good.blocks()[self.block].capture;
-        let mut shown = Shown::new(self.alloc);
+        let mut shown = FlipRows::new(self.alloc);
         self.show_places(&stuck, capture, &due, &mut shown)?;
         Ok(shown.count_in(Row::all()))
     }
 
-    fn part(&self, flip: &Shown, lanes: Row) -> BlockCount {
+    fn part(&self, flip: &FlipRows, lanes: Row) -> BlockCount {
         let _ = self.compact.points();
         flip.count_in(lanes)
     }

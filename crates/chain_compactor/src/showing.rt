@@ -12,7 +12,7 @@ ghost use Rattle.chain_compactor.specs.CompactCounts.{expected_at, differs_in, w
 use crate::changes::{Changes, differing};
 use crate::counts::CompactCounts;
 use lane_rows::Row;
-use match_counts::Shown;
+use match_counts::FlipRows;
 use place_sets::PlaceSet;
 use scan_model::NoMemory;
 
@@ -55,7 +55,7 @@ impl CompactCounts<'_> {
         changes: &C,
         lanes: Row,
         set: &PlaceSet,
-        into: &mut Shown,
+        into: &mut FlipRows,
     ) -> Result<(), NoMemory>
         requires ready { C.ready changes.now }
         requires test { C.test changes.now ≡ self.now.parts.now }

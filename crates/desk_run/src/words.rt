@@ -5,10 +5,10 @@ ghost use Rattle.desk_serve.specs.Runs.{asked_of};
 ghost use Rattle.desk_run.specs.Words.{run_for};
 
 use command_words::Service;
-use desk_serve::Serving;
+use desk_serve::ServiceOrder;
 
 /// The run that the words of `serve` ask for.
-pub fn serving_of(service: Service<'_>) -> Serving<'_>
+pub fn serving_of(service: Service<'_>) -> ServiceOrder<'_>
     ensures asked { asked_of result ≡ run_for (shown_service service.entry) }
     ensures workers { result.workers ≡ service.entry.workers }
 {
@@ -18,7 +18,7 @@ pub fn serving_of(service: Service<'_>) -> Serving<'_>
         sessions,
         store,
     } = service;
-    Serving {
+    ServiceOrder {
         port,
         workers,
         sessions,

@@ -15,7 +15,7 @@ use Rattle.desk_serve.specs.declared.ending.Ending.{Ending}
 use Rattle.desk_serve.specs.declared.ending.Ending.TheVariants.{Done, SinkFault, StoreFault, NoMemory, Spoiled, StreetFault}
 use Rattle.desk_serve.specs.Lines.{Writes, first_line, line_of}
 use Rattle.desk_serve.specs.Refusals.{ending_of}
-use Rattle.desk_serve.specs.Over.{OverBook, IsOver}
+use Rattle.desk_serve.specs.StreetEnd.{OverBook, IsOver}
 use Rattle.desk_serve.specs.Runs.{Asked, Outside, HasEnded, IsDue, IsFirstDue, IsUnused, WereServed, HasAll, HasAllUnlessFailed, HasNone, was_kept, max_deeds}
 
 -- ---- bytes

@@ -17,7 +17,7 @@ use Rattle.desk_http.proofs.SeatSteps.{prefix_same}
 use Rattle.desk_serve.specs.declared.ending.Ending.{Ending}
 use Rattle.desk_serve.specs.Doors.{DoorFacts, IsFreshDoor, Tells, has_failed, home_of, with_doors_out, with_doors_home}
 use Rattle.desk_serve.specs.Work.{Work, AllWorked, any_failed, any_unserved, instead_of}
-use Rattle.desk_serve.specs.Over.{AreFresh, StreetServed, IsOpened, opened_deeds, OverBook, IsOver}
+use Rattle.desk_serve.specs.StreetEnd.{AreFresh, StreetServed, IsOpened, opened_deeds, OverBook, IsOver}
 use Rattle.desk_serve.specs.Runs.{Asked, AreHome, HasAll, HasAllUnlessFailed, HasNone, max_deeds}
 use Rattle.desk_serve.proofs.HomeServed.{lacked}
 use Rattle.desk_serve.proofs.Homes.{home_served, home_unserved, all_done, all_unless_failed, some_failed, none_lacked, some_lacked}

@@ -13,7 +13,7 @@ use Rattle.desk_http.proofs.SeatSteps.{prefix_on}
 use Rattle.desk_serve.specs.Doors.{DoorFacts, Tells}
 use Rattle.desk_serve.specs.declared.ending.Ending.{Ending}
 use Rattle.desk_serve.specs.Work.{Work, AllWorked, HasServed}
-use Rattle.desk_serve.specs.Over.{IsOpened, opened_deeds}
+use Rattle.desk_serve.specs.StreetEnd.{IsOpened, opened_deeds}
 use Rattle.desk_serve.specs.Runs.{max_deeds}
 use Rattle.desk_serve.proofs.NothingNew.{nothing_new}
 

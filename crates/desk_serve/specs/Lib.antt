@@ -3,5 +3,5 @@ pub mod HomeDoors
 pub mod Runs
 pub mod Doors
 pub mod Work
-pub mod Over
+pub mod StreetEnd
 pub mod Refusals

@@ -11,7 +11,7 @@ use Rattle.book.specs.Legal.{is_legal, spoiled_row}
 use Rattle.desk_http.specs.Seats.{IsPrefix}
 use Rattle.desk_serve.specs.declared.ending.Ending.{Ending}
 use Rattle.desk_serve.specs.declared.ending.Ending.TheVariants.{Done, SinkFault, StoreFault, NoMemory, Spoiled, StreetFault}
-use Rattle.desk_serve.specs.declared.serving.Serving.{Serving}
+use Rattle.desk_serve.specs.declared.serving.ServiceOrder.{ServiceOrder}
 use Rattle.desk_serve.specs.Lines.{first_line, line_of, status_of}
 use Rattle.desk_serve.specs.HomeDoors.{AreServedBy}
 
@@ -26,7 +26,7 @@ pub record Asked : Type 0 where
   pub sessions : ℕ
   pub store : List ℕ
 
-abbrev pub asked_of : Serving → Asked
+abbrev pub asked_of : ServiceOrder → Asked
 asked_of s = record { port = s.port; workers = s.workers; sessions = s.sessions; store = s.store.now }
 
 -- what the sink, the street and the cabinet tell, where they do, and their counts of faults

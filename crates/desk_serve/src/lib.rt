@@ -10,4 +10,4 @@ mod sessions;
 mod workers;
 
 pub use ending::{Ending, ended};
-pub use serving::{Serving, serve};
+pub use serving::{ServiceOrder, serve};

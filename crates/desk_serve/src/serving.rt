@@ -21,7 +21,7 @@ const MAX_DEEDS: u32 = 1_000_000;
 
 /// What `serve` is asked for.
 #[derive(Clone, Copy, Debug)]
-pub struct Serving<'a> {
+pub struct ServiceOrder<'a> {
     pub port: u16,
     /// From 1 to 64.
     pub workers: u32,
@@ -88,7 +88,7 @@ fn turned_away<O: Sink, C: Cabinet>(
 pub fn serve<R: Threads + Wait + Sync, O: Sink, S: Street, C: Cabinet>(
     rt: &R,
     alloc: Global,
-    asked: &Serving<'_>,
+    asked: &ServiceOrder<'_>,
     out: &mut O,
     street: &mut S,
     cabinet: &mut C,

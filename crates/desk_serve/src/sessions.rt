@@ -4,14 +4,14 @@ ghost use Rattle.std.specs.List.{list_any};
 ghost use Rattle.desk_outside.specs.Faults.{Rose};
 ghost use Rattle.desk_outside.specs.Streets.{StreetTold};
 ghost use Rattle.desk_serve.specs.Doors.{with_doors_out};
-ghost use Rattle.desk_serve.specs.Over.{StreetServed, IsOver, IsOpened, opened_deeds};
+ghost use Rattle.desk_serve.specs.StreetEnd.{StreetServed, IsOver, IsOpened, opened_deeds};
 ghost use Rattle.desk_serve.specs.Runs.{asked_of};
 ghost use Rattle.desk_serve.specs.Work.{HasServed, instead_of};
 
 use crate::doors::{hand_back, take_doors};
 use crate::ending::{Ending, first_line};
 use crate::room::Room;
-use crate::serving::Serving;
+use crate::serving::ServiceOrder;
 use crate::workers::{Worker, any_failed, any_unserved, parted, serve_all, workers_of};
 use book::Book;
 use desk_outside::{Door, Keeper, Sink, Street, write_all};
@@ -23,7 +23,7 @@ use std::thread::Threads;
 
 /// The seats and the doors when the sessions are over, and the ending that takes the place of the last line, if any does.
 #[derive(Drop)]
-pub struct Over<D: Door> {
+pub struct SessionsEnd<D: Door> {
     pub seats: Vec<DeskSeat>,
     pub doors: Vec<D>,
     pub instead: Option<Ending>,
@@ -51,7 +51,7 @@ fn serve_doors<R: Threads + Wait + Sync, K: Keeper + Send, D: Door + Send>(
     seats: Vec<DeskSeat>,
     doors: Vec<D>,
     room: Room<D>,
-) -> Over<D>
+) -> SessionsEnd<D>
     requires room { room.count ≡ length seats.items }
     requires doors { length doors.items ≡ length seats.items }
     requires seats { All (λ seat. seat.desk ≡ desk.now) seats.items }
@@ -62,7 +62,7 @@ fn serve_doors<R: Threads + Wait + Sync, K: Keeper + Send, D: Door + Send>(
     serve_all(rt, alloc, desk, workers.as_mut_slice(), sessions);
     let instead = instead_of(&workers);
     let (seats, doors) = parted(workers, room.seats, room.doors);
-    Over {
+    SessionsEnd {
         seats,
         doors,
         instead,
@@ -73,14 +73,14 @@ fn serve_doors<R: Threads + Wait + Sync, K: Keeper + Send, D: Door + Send>(
 fn serve_street<R: Threads + Wait + Sync, K: Keeper + Send, O: Sink, S: Street>(
     rt: &R,
     alloc: Global,
-    asked: &Serving<'_>,
+    asked: &ServiceOrder<'_>,
     out: &mut O,
     street: &mut S,
     desk: &Desk<K>,
     seats: Vec<DeskSeat>,
     doors: Vec<S::D>,
     room: Room<S::D>,
-) -> Over<S::D>
+) -> SessionsEnd<S::D>
 where
     S::D: Send,
     requires none { doors.items ≡ [] }
@@ -97,14 +97,14 @@ where
 {
     let mut doors = doors;
     if take_doors(street, asked.port, asked.workers, &mut doors).is_err() {
-        return Over {
+        return SessionsEnd {
             seats,
             doors,
             instead: Some(Ending::StreetFault),
         };
     }
     if write_all(out, first_line(asked.port).as_slice()).is_err() {
-        return Over {
+        return SessionsEnd {
             seats,
             doors,
             instead: Some(Ending::SinkFault),
@@ -127,7 +127,7 @@ fn take_memory<D: Door>(alloc: Global, count: usize) -> Result<(Vec<D>, Room<D>)
 pub fn serve_desk<R: Threads + Wait + Sync, K: Keeper + Send, O: Sink, S: Street>(
     rt: &R,
     alloc: Global,
-    asked: &Serving<'_>,
+    asked: &ServiceOrder<'_>,
     out: &mut O,
     street: &mut S,
     desk: Desk<K>,

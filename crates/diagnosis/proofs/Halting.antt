@@ -10,10 +10,10 @@ use Rattle.scan_model.specs.declared.parts.Pattern.{Pattern}
 use Rattle.scan_model.specs.Netlist.{Netlist}
 use Rattle.diagnosis.specs.declared.section.BundleFault.{BundleFault}
 use Rattle.diagnosis.specs.declared.section.BundleFault.TheVariants as fault
-use Rattle.diagnosis.specs.declared.texts.Judged.{Judged}
+use Rattle.diagnosis.specs.declared.texts.TextReading.{TextReading}
 use Rattle.diagnosis.specs.Texts.{FourTexts, ReadTexts, Reading, Place, Source, go_on, and_then, one_text, beside, by_rules, read_text, with_patterns, with_chains, with_circuit, source_reading, scan_text, pattern_text, neighbour_text}
 use Rattle.diagnosis.specs.Halts.{Halt, refused, failed, no_memory, halt_at, HaltsAt, HaltsAs, ComesTo}
-use Rattle.diagnosis.specs.Shown.{IsJudged, shown_text}
+use Rattle.diagnosis.specs.Shown.{IsReading, shown_text}
 use Rattle.diagnosis.specs.Bundle.{texts_source, texts_reading}
 use Rattle.diagnosis.specs.Sections.{halt_of}
 use Rattle.diagnosis.specs.Reading.{RefusedBy}
@@ -32,8 +32,8 @@ module _ {N R X : Type 0} (place : Place N R) (rule : ℕ × ℕ → R) (reads :
   rules_halt h is = text_halts place (λ text. beside text (by_rules rule (reads text))) h is
 
   -- so is what its reader answered, where it has a text
-  pub text_comes : {T S : Type 0} (shows : T → List ℕ) (halt : S → Halt N R) (text : T) (answer : Result X ReadFault) (result : Result (Judged T X) S) → place.text ≡ Ok (shows text)
-      → Gives (λ x. x) answer (reads (shows text)) → IsJudged halt (halt_at place rule) text answer result → ComesTo halt (shown_text shows) result (read_text place rule reads)
+  pub text_comes : {T S : Type 0} (shows : T → List ℕ) (halt : S → Halt N R) (text : T) (answer : Result X ReadFault) (result : Result (TextReading T X) S) → place.text ≡ Ok (shows text)
+      → Gives (λ x. x) answer (reads (shows text)) → IsReading halt (halt_at place rule) text answer result → ComesTo halt (shown_text shows) result (read_text place rule reads)
   text_comes shows halt text (Ok x) (Ok j) held stands is = rw (held, stands, is.0, is.1) refl
   text_comes shows halt text (Err (answer.Text f)) (Err stop) held fails is = rw (is, held, fails) refl
   text_comes shows halt text (Err answer.NoMemory) (Err stop) held fails is = rw is tt

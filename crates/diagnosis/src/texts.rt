@@ -10,7 +10,7 @@ ghost use Rattle.bridge_pairs.specs.PairText.{pairs_reading};
 ghost use Rattle.diag_report.specs.PredictedLog.{HasWordNames};
 ghost use Rattle.diagnosis.specs.Texts.{Source, netlist_text, scan_text, pattern_text, neighbour_text, with_circuit, source_reading};
 ghost use Rattle.diagnosis.specs.Halts.{ComesTo, halt_at, place_of, is_failure, ends_by_failure};
-ghost use Rattle.diagnosis.specs.Shown.{IsJudged, shown_text, shown_over, shown_design};
+ghost use Rattle.diagnosis.specs.Shown.{IsReading, shown_text, shown_over, shown_design};
 ghost use Rattle.diagnosis.specs.Bundle.{texts_reading};
 ghost use Rattle.diagnosis.specs.Sections.{four_texts};
 ghost use Rattle.diagnosis.specs.Reading.{four, RefusedBy};
@@ -25,17 +25,17 @@ use text_parts::{Names, ReadFault};
 
 // A text that was read, with what it stands for.
 #[derive(Drop)]
-struct Judged<T, X> {
+struct TextReading<T, X> {
     text: T,
     value: X,
 }
 
 // The texts behind the netlist, over its circuit.
 #[derive(Drop)]
-struct OverCircuit<T> {
-    chains: Judged<T, Rows<Chain>>,
-    patterns: Judged<T, Rows<Pattern>>,
-    pairs: Judged<T, Pairs>,
+struct TestReadings<T> {
+    chains: TextReading<T, Rows<Chain>>,
+    patterns: TextReading<T, Rows<Pattern>>,
+    pairs: TextReading<T, Pairs>,
 }
 
 /// The four texts of a design, and the scan test that they stand for.
@@ -74,13 +74,13 @@ fn judge<O, S: TextSource<O>, X: Drop>(
     part: DesignText,
     text: S::Text,
     answer: Result<X, ReadFault>,
-) -> Result<Judged<S::Text, X>, S::Stop>
-    ensures judged { (seen : S.Known) (t : Source S.Name S.Why) → S.tells source.now seen t → IsJudged S.halt (halt_at (place_of t part) t.rule) text answer result }
+) -> Result<TextReading<S::Text, X>, S::Stop>
+    ensures judged { (seen : S.Known) (t : Source S.Name S.Why) → S.tells source.now seen t → IsReading S.halt (halt_at (place_of t part) t.rule) text answer result }
     ensures value { IfOk result (λ j. (j.text ≡ text) × (answer ≡ Ok j.value)) }
     ensures sure { ends_by_failure S.halt result ≡ false }
 {
     match answer {
-        Ok(value) => Ok(Judged { text, value }),
+        Ok(value) => Ok(TextReading { text, value }),
         Err(fault) => Err(stop_for(source, part, fault)),
     }
 }
@@ -91,7 +91,7 @@ fn read_chains<O, S: TextSource<O>>(
     outside: &mut O,
     circuit: &Circuit,
     names: &Names<'_>,
-) -> Result<Judged<S::Text, Rows<Chain>>, S::Stop>
+) -> Result<TextReading<S::Text, Rows<Chain>>, S::Stop>
     requires { names.now ≡ net_names circuit.now.nets }
     ensures told { (t : Source S.Name S.Why) → S.tells source.now (S.known outside.old) t → ComesTo S.halt (shown_text S.shows) result (scan_text t circuit.now) }
     ensures stands { IfOk result (λ j. scan_reading circuit.now.nets (S.shows j.text) ≡ Ok j.value) }
@@ -111,7 +111,7 @@ fn read_patterns<O, S: TextSource<O>>(
     outside: &mut O,
     circuit: &Circuit,
     chains: &Rows<Chain>,
-) -> Result<Judged<S::Text, Rows<Pattern>>, S::Stop>
+) -> Result<TextReading<S::Text, Rows<Pattern>>, S::Stop>
     ensures told { (t : Source S.Name S.Why) → S.tells source.now (S.known outside.old) t → ComesTo S.halt (shown_text S.shows) result (pattern_text t circuit.now chains.now) }
     ensures stands { IfOk result (λ j. pattern_reading (pattern_frame circuit.now chains.now) (S.shows j.text) ≡ Ok j.value) }
     ensures fits { IfOk result (λ j. ArePatterns circuit.now chains.now j.value) }
@@ -130,7 +130,7 @@ fn read_neighbours<O, S: TextSource<O>>(
     outside: &mut O,
     circuit: &Circuit,
     names: &Names<'_>,
-) -> Result<Judged<S::Text, Pairs>, S::Stop>
+) -> Result<TextReading<S::Text, Pairs>, S::Stop>
     requires { names.now ≡ net_names circuit.now.nets }
     ensures told { (t : Source S.Name S.Why) → S.tells source.now (S.known outside.old) t → ComesTo S.halt (shown_text S.shows) result (neighbour_text t circuit.now) }
     ensures stands { IfOk result (λ j. pairs_reading circuit.now (S.shows j.text) ≡ Ok j.value) }
@@ -152,7 +152,7 @@ fn read_behind<O, S: TextSource<O>>(
     netlist: &S::Text,
     circuit: &Circuit,
     names: &Names<'_>,
-) -> Result<OverCircuit<S::Text>, S::Stop>
+) -> Result<TestReadings<S::Text>, S::Stop>
     requires { names.now ≡ net_names circuit.now.nets }
     ensures told { (t : Source S.Name S.Why) → S.tells source.now (S.known outside.old) t
         → ComesTo S.halt (shown_over t.profile S.shows (S.shows netlist.now, circuit.now)) result (with_circuit t (S.shows netlist.now, circuit.now)) }
@@ -167,7 +167,7 @@ fn read_behind<O, S: TextSource<O>>(
     let chains = read_chains(alloc, source, outside, circuit, names)?;
     let patterns = read_patterns(alloc, source, outside, circuit, &chains.value)?;
     let pairs = read_neighbours(alloc, source, outside, circuit, names)?;
-    Ok(OverCircuit {
+    Ok(TestReadings {
         chains,
         patterns,
         pairs,
@@ -176,9 +176,9 @@ fn read_behind<O, S: TextSource<O>>(
 
 // The circuit of a netlist, and the texts that were read over it.
 #[derive(Drop)]
-struct Behind<T> {
+struct DesignReadings<T> {
     circuit: Circuit,
-    over: OverCircuit<T>,
+    over: TestReadings<T>,
 }
 
 // What the texts behind a netlist stand for, over its circuit and the names of its nets.
@@ -188,7 +188,7 @@ fn read_with<O, S: TextSource<O>>(
     outside: &mut O,
     netlist: &S::Text,
     named: NamedCircuit<'_>,
-) -> Result<Behind<S::Text>, S::Stop>
+) -> Result<DesignReadings<S::Text>, S::Stop>
     requires { named.names ≡ net_names named.circuit.nets }
     ensures told { (t : Source S.Name S.Why) → S.tells source.now (S.known outside.old) t
         → ComesTo S.halt (λ r. shown_over t.profile S.shows (S.shows netlist.now, r.circuit) r.over) result (with_circuit t (S.shows netlist.now, named.entry.circuit)) }
@@ -203,7 +203,7 @@ fn read_with<O, S: TextSource<O>>(
 {
     let NamedCircuit { circuit, names } = named;
     match read_behind(alloc, source, outside, netlist, &circuit, &names) {
-        Ok(over) => Ok(Behind { circuit, over }),
+        Ok(over) => Ok(DesignReadings { circuit, over }),
         Err(stop) => Err(stop),
     }
 }
@@ -214,7 +214,7 @@ fn read_over<O, S: TextSource<O>>(
     source: &S,
     outside: &mut O,
     netlist: &S::Text,
-) -> Result<Behind<S::Text>, S::Stop>
+) -> Result<DesignReadings<S::Text>, S::Stop>
     ensures told { (t : Source S.Name S.Why) → S.tells source.now (S.known outside.old) t → t.netlist.text ≡ Ok (S.shows netlist.now)
         → ComesTo S.halt (λ r. shown_over t.profile S.shows (S.shows netlist.now, r.circuit) r.over) result (source_reading t) }
     ensures stands { IfOk result (λ r. netlist_reading (S.shows netlist.now) ≡ Ok r.circuit) }
@@ -238,7 +238,7 @@ fn whole<T: Drop>(
     alloc: Global,
     profile: Profile,
     netlist: T,
-    behind: Behind<T>,
+    behind: DesignReadings<T>,
 ) -> Result<ReadDesign<T>, NoMemory>
     requires circuit { IsCircuit behind.circuit }
     requires chains { AreChains behind.circuit behind.over.chains.value }
@@ -247,8 +247,8 @@ fn whole<T: Drop>(
     ensures texts { IfOk result (λ d. (d.netlist ≡ netlist) × (d.scan ≡ behind.over.chains.text) × (d.patterns ≡ behind.over.patterns.text) × (d.neighbours ≡ behind.over.pairs.text)) }
     ensures parts { IfOk result (λ d. d.parts ≡ scan_test profile behind.circuit behind.over.chains.value behind.over.patterns.value behind.over.pairs.value) }
 {
-    let Behind { circuit, over } = behind;
-    let OverCircuit {
+    let DesignReadings { circuit, over } = behind;
+    let TestReadings {
         chains,
         patterns,
         pairs,

@@ -6,7 +6,7 @@ pub mod Pieces
 pub mod Readers
 pub mod FlipOrder
 pub mod Regions
-pub mod KeptFlips
+pub mod CachedFlips
 pub mod SoundWork
 pub mod Tables
 pub mod Notes

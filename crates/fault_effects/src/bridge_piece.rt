@@ -2,13 +2,13 @@
 ghost use Rattle.std.specs.Prelude.{◌≡◌, ℕ, ◌+◌, ◌<◌, All, length, OnOk, IfOk};
 ghost use Rattle.scan_model.specs.ScanTest.{HasSite};
 ghost use Rattle.scan_model.specs.declared.fault.Fault.TheVariants as fault;
-ghost use Rattle.fault_effects.specs.KeptFlips.{IsKept, IsKeptPair};
+ghost use Rattle.fault_effects.specs.CachedFlips.{IsCachedFlip, ArePairFlips};
 ghost use Rattle.fault_effects.specs.Owners.{IsOwned, suspect_at};
 ghost use Rattle.fault_effects.specs.Shares.{Shares, IsAmong, suspect_fails};
 ghost use Rattle.fault_effects.specs.SoundWork.{IsSound};
 
 use crate::block_work::BlockWork;
-use crate::kept_flip::{KeptFlip, keep};
+use crate::cached_flip::{CachedFlip, keep};
 use crate::observer::Observer;
 use crate::share::Share;
 use packed_sim::Scratch;
@@ -18,9 +18,9 @@ use std::sync::ledger::Ledger;
 
 /// Where flips of the nets of the last bridges show: of the net of the lower number, and of the other.
 #[derive(Drop)]
-struct KeptPair<F> {
-    low: KeptFlip<F>,
-    high: KeptFlip<F>,
+struct PairFlips<F> {
+    low: CachedFlip<F>,
+    high: CachedFlip<F>,
 }
 
 /// A bridge's nets and its kind.
@@ -35,19 +35,19 @@ struct Bridged {
 fn bridge_part<O: Observer, L: Ledger>(
     work: &BlockWork<'_, O>,
     scratch: &mut Scratch,
-    first: &mut KeptFlip<O::Flip>,
-    second: &mut KeptFlip<O::Flip>,
+    first: &mut CachedFlip<O::Flip>,
+    second: &mut CachedFlip<O::Flip>,
     bridged: Bridged,
     steps: &mut Steps<L>,
 ) -> Result<O::Part, NoMemory>
     requires work { IsSound O.test O.model O.block O.clean O.ready work.now }
     requires scratch { O.clean work.now.observer.now scratch.old }
-    requires first { IsKept (O.holds work.now.observer.now) (O.model work.now.observer.now) (O.block work.now.observer.now) first.old }
-    requires second { IsKept (O.holds work.now.observer.now) (O.model work.now.observer.now) (O.block work.now.observer.now) second.old }
+    requires first { IsCachedFlip (O.holds work.now.observer.now) (O.model work.now.observer.now) (O.block work.now.observer.now) first.old }
+    requires second { IsCachedFlip (O.holds work.now.observer.now) (O.model work.now.observer.now) (O.block work.now.observer.now) second.old }
     requires site { HasSite work.now.parts.now (fault.Bridge bridged.a bridged.b bridged.kind) }
     ensures scratch { O.clean work.now.observer.now scratch.new }
-    ensures first { OnOk result (IsKept (O.holds work.now.observer.now) (O.model work.now.observer.now) (O.block work.now.observer.now) first.new) }
-    ensures second { OnOk result (IsKept (O.holds work.now.observer.now) (O.model work.now.observer.now) (O.block work.now.observer.now) second.new) }
+    ensures first { OnOk result (IsCachedFlip (O.holds work.now.observer.now) (O.model work.now.observer.now) (O.block work.now.observer.now) first.new) }
+    ensures second { OnOk result (IsCachedFlip (O.holds work.now.observer.now) (O.model work.now.observer.now) (O.block work.now.observer.now) second.new) }
     ensures part { IfOk result (λ part. (i : ℕ) → i < length work.now.suspects.now → (suspect_at work.now.suspects.now i).fault ≡ fault.Bridge bridged.a bridged.b bridged.kind
         → O.means work.now.observer.now part (suspect_fails (O.model work.now.observer.now) (O.block work.now.observer.now) work.now.suspects.now i)) }
 {
@@ -68,16 +68,16 @@ fn bridge_part<O: Observer, L: Ledger>(
 fn pair_part<O: Observer, L: Ledger>(
     work: &BlockWork<'_, O>,
     scratch: &mut Scratch,
-    kept: &mut KeptPair<O::Flip>,
+    kept: &mut PairFlips<O::Flip>,
     bridged: Bridged,
     steps: &mut Steps<L>,
 ) -> Result<O::Part, NoMemory>
     requires work { IsSound O.test O.model O.block O.clean O.ready work.now }
     requires scratch { O.clean work.now.observer.now scratch.old }
-    requires kept { IsKeptPair (O.holds work.now.observer.now) (O.model work.now.observer.now) (O.block work.now.observer.now) kept.old }
+    requires kept { ArePairFlips (O.holds work.now.observer.now) (O.model work.now.observer.now) (O.block work.now.observer.now) kept.old }
     requires site { HasSite work.now.parts.now (fault.Bridge bridged.a bridged.b bridged.kind) }
     ensures scratch { O.clean work.now.observer.now scratch.new }
-    ensures kept { OnOk result (IsKeptPair (O.holds work.now.observer.now) (O.model work.now.observer.now) (O.block work.now.observer.now) kept.new) }
+    ensures kept { OnOk result (ArePairFlips (O.holds work.now.observer.now) (O.model work.now.observer.now) (O.block work.now.observer.now) kept.new) }
     ensures part { IfOk result (λ part. (i : ℕ) → i < length work.now.suspects.now → (suspect_at work.now.suspects.now i).fault ≡ fault.Bridge bridged.a bridged.b bridged.kind
         → O.means work.now.observer.now part (suspect_fails (O.model work.now.observer.now) (O.block work.now.observer.now) work.now.suspects.now i)) }
 {
@@ -105,9 +105,9 @@ pub(crate) fn share_bridges<O: Observer, L: Ledger>(
     ensures shares { OnOk result (Shares (O.means work.now.observer.now) (O.model work.now.observer.now) (O.block work.now.observer.now) work.now.suspects.now (IsAmong group.now (length group.now)) shares.old shares.new) }
 {
     let _ = work.parts.circuit();
-    let mut kept = KeptPair {
-        low: KeptFlip::new(work.observer.new_flip(alloc)),
-        high: KeptFlip::new(work.observer.new_flip(alloc)),
+    let mut kept = PairFlips {
+        low: CachedFlip::new(work.observer.new_flip(alloc)),
+        high: CachedFlip::new(work.observer.new_flip(alloc)),
     };
     for item in group {
         let suspect = work.suspects[*item as usize];

@@ -4,9 +4,9 @@
 
 mod block_work;
 mod bridge_piece;
+mod cached_flip;
 mod cell_shares;
 mod flip_order;
-mod kept_flip;
 mod loaded;
 mod net_piece;
 mod notes;

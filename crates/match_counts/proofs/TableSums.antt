@@ -28,7 +28,7 @@ use Rattle.fault_effects.specs.Owners.{suspect_at}
 use Rattle.fault_effects.specs.Shares.{AreRight, suspect_fails}
 use Rattle.fault_effects.specs.PointRows.{is_on, ArePointRows}
 use Rattle.match_counts.specs.declared.block_count.BlockCount.{BlockCount}
-use Rattle.match_counts.specs.declared.shown.Shown.{Shown}
+use Rattle.match_counts.specs.declared.flip_rows.FlipRows.{FlipRows}
 use Rattle.match_counts.specs.Flips.{row_on, point_row_at, count_on, differs, caught_lane, IsShown, AreFew}
 use Rattle.match_counts.specs.Tables.{lanes_of, sum_of_table, HasTable, IsCount, shown_under}
 use Rattle.match_counts.specs.Sides.{Classes, classes_by, predicted_in, count_in, AreSideRows}
@@ -48,7 +48,7 @@ few_of rows side c few =
     let bound : sum_of_table rows side c ≤ length (range_with_len 0 (length rows)) * 512 = sum_by-le (lanes_of rows side c) 512 (range_with_len 0 (length rows)) (λ k d lt. few_lanes (λ j. c _ j && lane (row_on side (point_row_at rows _)) j)) in
     omega (arith, bound, length-range_with_len 0 (length rows))
 
-pub few_kept : (rows : List PointRow) (shown : Shown) (c : Table) → length rows ≤ 131072 → HasTable rows shown c → AreFew shown
+pub few_kept : (rows : List PointRow) (shown : FlipRows) (c : Table) → length rows ≤ 131072 → HasTable rows shown c → AreFew shown
 few_kept rows shown c few has side m = omega (arith, has side m, few_of rows side (λ q j. c q j && m j) few)
 
 -- ---- two tables that share no lane
@@ -90,7 +90,7 @@ flip_bits d l true f r m is same = rw (is, same refl) (on f r m)
     on true false true = refl
     on true false false = refl
 
-pub flip_table : (t : ScanTest) (σ : Stimuli) (g : PackedGood) (s : Scratch) (b n : ℕ) (rows : List PointRow) (shown : Shown) → ((j : ℕ) → j < 512 → lane (block_at g b).capture j ≡ σ.captures (pattern_of b j)) → length rows ≡ length (points_of t)
+pub flip_table : (t : ScanTest) (σ : Stimuli) (g : PackedGood) (s : Scratch) (b n : ℕ) (rows : List PointRow) (shown : FlipRows) → ((j : ℕ) → j < 512 → lane (block_at g b).capture j ≡ σ.captures (pattern_of b j)) → length rows ≡ length (points_of t)
     → ((k j : ℕ) → k < length (points_of t) → j < 512 → σ.captures (pattern_of b j) ≡ true → differs t g s b k j ≡ flip_shows_from t.netlist (σ.source (pattern_of b j)) n (observed_at t k))
     → IsShown t g s b rows shown → HasTable rows shown (shown_under t σ b n)
 flip_table t σ g s b n rows shown capture len shows is side m =

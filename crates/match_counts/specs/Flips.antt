@@ -14,7 +14,7 @@ use Rattle.fault_effects.specs.declared.side.Side.{Side}
 use Rattle.fault_effects.specs.declared.side.Side.TheVariants.{Failing, Passing}
 use Rattle.fault_effects.specs.PointRows.{no_point_row}
 use Rattle.match_counts.specs.declared.block_count.BlockCount.{BlockCount}
-use Rattle.match_counts.specs.declared.shown.Shown.{Shown}
+use Rattle.match_counts.specs.declared.flip_rows.FlipRows.{FlipRows}
 
 -- how many lanes of some rows a mask has
 abbrev pub tallied : List (List ℕ) → (ℕ → Bool) → ℕ
@@ -27,7 +27,7 @@ row_on Passing row = row.passing
 abbrev pub point_row_at : List PointRow → ℕ → PointRow
 point_row_at rows k = slice_index_or rows k no_point_row
 
-abbrev pub list_on : Side → Shown → List (List ℕ)
+abbrev pub list_on : Side → FlipRows → List (List ℕ)
 list_on Failing shown = shown.fails.items
 list_on Passing shown = shown.passes.items
 
@@ -44,11 +44,11 @@ abbrev pub caught_lane : ScanTest → PackedGood → Scratch → ℕ → List Po
 caught_lane t g s b rows side k j = (differs t g s b k j && lane (block_at g b).capture j) && lane (row_on side (point_row_at rows k)) j
 
 -- the lists have what a scratch shows at all points
-abbrev pub IsShown : ScanTest → PackedGood → Scratch → ℕ → List PointRow → Shown → Type 0
+abbrev pub IsShown : ScanTest → PackedGood → Scratch → ℕ → List PointRow → FlipRows → Type 0
 IsShown t g s b rows shown = (side : Side) (m : ℕ → Bool) → tallied (list_on side shown) m ≡ sum_by (λ k. count_lanes (λ j. caught_lane t g s b rows side k j && m j)) (range_with_len 0 (length (points_of t)))
 
 -- no mask has 2 ^ 31 lanes
-abbrev pub AreFew : Shown → Type 0
+abbrev pub AreFew : FlipRows → Type 0
 AreFew shown = (side : Side) (m : ℕ → Bool) → tallied (list_on side shown) m < 2 ^ 31
 
 -- lanes of a mask at a point, where the pin at a place is the one that the point sees

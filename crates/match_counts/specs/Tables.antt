@@ -12,7 +12,7 @@ use Rattle.fault_effects.specs.declared.point_row.PointRow.{PointRow}
 use Rattle.fault_effects.specs.declared.side.Side.{Side}
 use Rattle.fault_effects.specs.FaultModel.{Table}
 use Rattle.match_counts.specs.declared.block_count.BlockCount.{BlockCount}
-use Rattle.match_counts.specs.declared.shown.Shown.{Shown}
+use Rattle.match_counts.specs.declared.flip_rows.FlipRows.{FlipRows}
 use Rattle.match_counts.specs.Flips.{tallied, row_on, point_row_at, list_on, count_on}
 
 -- how many lanes it has of the row of place q
@@ -24,7 +24,7 @@ abbrev pub sum_of_table : List PointRow → Side → Table → ℕ
 sum_of_table rows side c = sum_by (lanes_of rows side c) (range_with_len 0 (length rows))
 
 -- under each mask the lists have what the table has
-abbrev pub HasTable : List PointRow → Shown → Table → Type 0
+abbrev pub HasTable : List PointRow → FlipRows → Table → Type 0
 HasTable rows shown c = (side : Side) (m : ℕ → Bool) → tallied (list_on side shown) m ≡ sum_of_table rows side (λ q j. c q j && m j)
 
 -- the counts are the table's

@@ -8,9 +8,9 @@ ghost use Rattle.fault_effects.specs.declared.side.Side.TheVariants as side;
 ghost use Rattle.match_counts.specs.Flips.{tallied, row_on, point_row_at, list_on, IsShown, AreFew, count_on};
 
 use crate::block_count::BlockCount;
+use crate::flip_rows::FlipRows;
 use crate::lane_tally::tally;
 use crate::point_counts::PointCounts;
-use crate::shown::Shown;
 use fault_effects::PointRow;
 use lane_rows::Row;
 use packed_sim::Scratch;
@@ -27,13 +27,13 @@ fn push_some(rows: &mut Vec<Row>, row: Row) -> Result<(), NoMemory>
     Ok(())
 }
 
-impl Shown {
+impl FlipRows {
     /// Room for a flip, with nothing kept.
-    pub fn new(alloc: Global) -> Shown
+    pub fn new(alloc: Global) -> FlipRows
         ensures fails { result.fails.items ≡ [] }
         ensures passes { result.passes.items ≡ [] }
     {
-        Shown {
+        FlipRows {
             fails: Vec::new(alloc),
             passes: Vec::new(alloc),
         }

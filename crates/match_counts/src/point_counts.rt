@@ -9,7 +9,7 @@ ghost use Rattle.fault_effects.specs.PinFlips.{pin_flips_from};
 ghost use Rattle.fault_effects.specs.Readers.{IsPinOf};
 ghost use Rattle.match_counts.specs.Tables.{HasTable, shown_under};
 
-use crate::shown::Shown;
+use crate::flip_rows::FlipRows;
 use fault_effects::PointRow;
 use lane_rows::Row;
 use packed_sim::{PackedGood, Scratch};
@@ -34,7 +34,7 @@ impl PointCounts<'_> {
         &self,
         scratch: &mut Scratch,
         net: u32,
-        into: &mut Shown,
+        into: &mut FlipRows,
         steps: &mut Steps<L>,
     ) -> Result<(), NoMemory>
         requires built { IsBuiltFor self.now.parts.now self.now.good.now }

@@ -6,8 +6,8 @@ ghost use Rattle.fault_effects.specs.FaultModel.{point_model, straight_in};
 ghost use Rattle.match_counts.specs.Tables.{IsCount};
 
 use crate::block_count::BlockCount;
+use crate::flip_rows::FlipRows;
 use crate::point_counts::PointCounts;
-use crate::shown::Shown;
 use fault_effects::Observer;
 use lane_rows::Row;
 use packed_sim::{Scratch, net_of_pin};
@@ -23,7 +23,7 @@ impl Observer for PointCounts<'_> {
     ghost use Rattle.match_counts.specs.Tables.{HasTable, IsCount};
     ghost use Rattle.match_counts.specs.SameTables.{count_same};
 
-    type Flip = Shown;
+    type Flip = FlipRows;
 
     type Part = BlockCount;
 
@@ -43,15 +43,15 @@ impl Observer for PointCounts<'_> {
 
     ghost same = { λ o count c d agree is. count_same (length (points_of o.parts.now)) o.rows.now c d o.rows_len agree count is };
 
-    fn new_flip(&self, alloc: Global) -> Shown {
-        Shown::new(alloc)
+    fn new_flip(&self, alloc: Global) -> FlipRows {
+        FlipRows::new(alloc)
     }
 
     fn flip<L: Ledger>(
         &self,
         scratch: &mut Scratch,
         net: u32,
-        into: &mut Shown,
+        into: &mut FlipRows,
         steps: &mut Steps<L>,
     ) -> Result<(), NoMemory> {
         self.show(scratch, net, into, steps)
@@ -85,7 +85,7 @@ impl Observer for PointCounts<'_> {
         Ok(self.count_pin(pin, stuck.and(capture)))
     }
 
-    fn part(&self, flip: &Shown, lanes: Row) -> BlockCount {
+    fn part(&self, flip: &FlipRows, lanes: Row) -> BlockCount {
         let _ = self.parts.points();
         flip.count_in(lanes)
     }

@@ -3,14 +3,14 @@ use denote.RattleType.{RattleType}
 use denote.Param.Send.{IsSend, IsSync, sendable}
 use Rattle.std.proofs.Crossing as plain
 use Rattle.std.proofs.MapsCrossing as maps
-use Rattle.book.specs.contracts.kept.designs.Designs as designs
-use Rattle.book.specs.contracts.kept.deeds.Deeds as deeds
-use Rattle.book.specs.contracts.kept.dies.Dies as dies
-use Rattle.book.specs.contracts.kept.die.Die as die
+use Rattle.book.specs.contracts.state.designs.Designs as designs
+use Rattle.book.specs.contracts.state.deeds.Deeds as deeds
+use Rattle.book.specs.contracts.state.dies.Dies as dies
+use Rattle.book.specs.contracts.state.die.Die as die
 use Rattle.desk_outside.specs.declared.keeper.Keeper.{Ghosts}
 use Rattle.book.specs.contracts.book.Book as book
 use Rattle.shared_desk.specs.contracts.open_book.OpenBook as open_book
-use Rattle.book.specs.contracts.kept.Kept as kept
+use Rattle.book.specs.contracts.state.Kept as kept
 use Rattle.diagnosis.specs.contracts.log.ReadLog as log
 use Rattle.book.specs.contracts.sign.Sign as sign
 use Rattle.diagnosis.specs.contracts.design.Design as design

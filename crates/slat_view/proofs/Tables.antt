@@ -10,7 +10,7 @@ use Rattle.fault_effects.specs.declared.side.Side.{Side}
 use Rattle.fault_effects.specs.declared.side.Side.TheVariants.{Failing, Passing}
 use Rattle.fault_effects.specs.FaultModel.{Table, no_places}
 use Rattle.fault_effects.specs.Tables.{put_row}
-use Rattle.match_counts.specs.declared.shown.Shown.{Shown}
+use Rattle.match_counts.specs.declared.flip_rows.FlipRows.{FlipRows}
 use Rattle.match_counts.specs.Flips.{row_on, point_row_at, list_on}
 use Rattle.match_counts.specs.Tables.{HasTable}
 use Rattle.match_counts.proofs.Sums.{sum_agree}
@@ -32,14 +32,14 @@ few_bad rows c j = few_places (is_against_at rows c j) (length rows)
 abbrev told_on : List PointRow → Table → Side → ℕ → ℕ
 told_on rows c side j = sum_by (λ q. one (c q j && lane (row_on side (point_row_at rows q)) j)) (range_with_len 0 (length rows))
 
-shown_with : (rows : List PointRow) (shown : Shown) (c : Table) → HasTable rows shown c → (side : Side) (j : ℕ) → j < 512 → rows_with (list_on side shown) j ≡ told_on rows c side j
+shown_with : (rows : List PointRow) (shown : FlipRows) (c : Table) → HasTable rows shown c → (side : Side) (j : ℕ) → j < 512 → rows_with (list_on side shown) j ≡ told_on rows c side j
 shown_with rows shown c has side j lt =
     sum_agree (λ (r : List ℕ). one (lane r j)) (λ (r : List ℕ). count_lanes (λ i. lane r i && eqb i j)) (list_on side shown) (λ r. sym (one_lane r j lt))
     ∙ has side (λ i. eqb i j)
     ∙ same_sum (λ q. count_lanes (λ i. (c q i && eqb i j) && lane (row_on side (point_row_at rows q)) i)) (λ q. one (c q j && lane (row_on side (point_row_at rows q)) j)) 0 (length rows)
     (λ q low high. one_lane_both (λ i. c q i) (λ i. lane (row_on side (point_row_at rows q)) i) j lt)
 
-module _ (rows : List PointRow) (shown : Shown) (c : Table) (has : HasTable rows shown c) (j : ℕ) (lt : j < 512) where
+module _ (rows : List PointRow) (shown : FlipRows) (c : Table) (has : HasTable rows shown c) (j : ℕ) (lt : j < 512) where
   pub fails_less : rows_with shown.fails.items j ≤ bad_in rows no_places j
   fails_less = omega (arith, shown_with rows shown c has Failing j lt, told_less (λ q. lane (point_row_at rows q).failing j) (λ q. lane (point_row_at rows q).passing j) (λ q. c q j) 0 (length rows))
 

@@ -7,7 +7,7 @@ ghost use Rattle.slat_view.specs.Trials.{any_failing, AreBad, AreClear};
 
 use crate::lane_counter::LaneCounter;
 use lane_rows::Row;
-use match_counts::{PointCounts, Shown};
+use match_counts::{FlipRows, PointCounts};
 use scan_model::NoMemory;
 use std::alloc::Global;
 
@@ -26,13 +26,13 @@ pub(crate) struct Fits<'a> {
 /// Where a flip shows, and the lanes in which no bit is against it.
 #[derive(Drop)]
 pub(crate) struct FitFlip {
-    pub shown: Shown,
+    pub shown: FlipRows,
     pub clear: Row,
 }
 
 impl Fits<'_> {
     /// The lanes in which no bit is against what a flip shows.
-    pub(crate) fn clear_lanes(&self, shown: &Shown) -> Result<Row, NoMemory>
+    pub(crate) fn clear_lanes(&self, shown: &FlipRows) -> Result<Row, NoMemory>
         requires { (c : Table) × HasTable self.now.points.rows.now shown.now c }
         ensures { IfOk result (λ lanes. (c : Table) → HasTable self.now.points.rows.now shown.now c → AreClear self.now.points.rows.now lanes c) }
     {

@@ -5,7 +5,7 @@ use crate::fits::{FitFlip, Fits};
 use crate::straight::shown_straight;
 use fault_effects::Observer;
 use lane_rows::Row;
-use match_counts::Shown;
+use match_counts::FlipRows;
 use packed_sim::Scratch;
 use scan_model::{Fault, NoMemory, Steps, Stuck};
 use std::alloc::Global;
@@ -40,7 +40,7 @@ impl Observer for Fits<'_> {
 
     fn new_flip(&self, alloc: Global) -> FitFlip {
         FitFlip {
-            shown: Shown::new(alloc),
+            shown: FlipRows::new(alloc),
             clear: self.failing.not(),
         }
     }

@@ -13,13 +13,13 @@ ghost use Rattle.slat_view.specs.Straight.{shown_at};
 
 use fault_effects::PointRow;
 use lane_rows::Row;
-use match_counts::{PointCounts, Shown};
+use match_counts::{FlipRows, PointCounts};
 use packed_sim::{is_pin_at, net_of_pin};
 use scan_model::{NoMemory, Parts, Stuck};
 use std::alloc::Global;
 
 /// Adds the lanes of a mask at a point, if the point is asked for.
-fn show_point(shown: &mut Shown, asked: bool, row: &PointRow, mask: Row) -> Result<(), NoMemory>
+fn show_point(shown: &mut FlipRows, asked: bool, row: &PointRow, mask: Row) -> Result<(), NoMemory>
     ensures { OnOk result ((side : Side) (m : ℕ → Bool) → tallied (list_on side shown.new) m
         ≡ tallied (list_on side shown.old) m + (if asked then count_lanes (λ j. (lane mask j && lane (row_on side row.now) j) && m j) else 0)) }
 {
@@ -31,7 +31,7 @@ fn show_point(shown: &mut Shown, asked: bool, row: &PointRow, mask: Row) -> Resu
 
 /// Adds the lanes of a mask at those of some points that see a pin.
 fn show_points(
-    shown: &mut Shown,
+    shown: &mut FlipRows,
     parts: &Parts,
     rows: &[PointRow],
     points: &[u32],
@@ -57,7 +57,7 @@ pub(crate) fn shown_straight(
     counts: &PointCounts<'_>,
     pin: u32,
     value: Stuck,
-) -> Result<Shown, NoMemory>
+) -> Result<FlipRows, NoMemory>
     requires good { BelongsTo counts.now.parts.now counts.now.good.now }
     requires pin { pin < length counts.now.parts.now.netlist.pins }
     ensures { IfOk result (λ shown. HasTable counts.now.rows.now shown (straight_in (point_model counts.now.parts.now) counts.now.block (fault.Branch pin value))) }
@@ -67,7 +67,7 @@ pub(crate) fn shown_straight(
         .good
         .stuck_mask(counts.parts, counts.block, net, value)
         .and(counts.good.blocks()[counts.block].capture);
-    let mut shown = Shown::new(alloc);
+    let mut shown = FlipRows::new(alloc);
     let points = counts.good.points_of_net(counts.parts, net);
     show_points(&mut shown, counts.parts, counts.rows, points, pin, mask)?;
     Ok(shown)

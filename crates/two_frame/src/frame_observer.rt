@@ -14,7 +14,7 @@ ghost use Rattle.two_frame.specs.FrameModel.{frame_model};
 use crate::frame_good::FrameGood;
 use fault_effects::Observer;
 use lane_rows::Row;
-use match_counts::{BlockCount, PointCounts, Shown};
+use match_counts::{BlockCount, FlipRows, PointCounts};
 use packed_sim::{Scratch, net_of_pin};
 use scan_model::{Fault, NoMemory, Steps, Stuck};
 use std::alloc::Global;
@@ -52,7 +52,7 @@ impl Observer for FrameCounts<'_> {
     ghost use Rattle.two_frame.specs.FrameRows.{IsFrameGood};
     ghost use Rattle.two_frame.specs.FrameModel.{frame_model};
 
-    type Flip = Shown;
+    type Flip = FlipRows;
 
     type Part = BlockCount;
 
@@ -72,7 +72,7 @@ impl Observer for FrameCounts<'_> {
 
     ghost same = { λ o count c d agree is. count_same (length (points_of o.points.parts.now)) o.points.rows.now c d o.points.rows_len agree count is };
 
-    fn new_flip(&self, alloc: Global) -> Shown {
+    fn new_flip(&self, alloc: Global) -> FlipRows {
         self.points.new_flip(alloc)
     }
 
@@ -80,7 +80,7 @@ impl Observer for FrameCounts<'_> {
         &self,
         scratch: &mut Scratch,
         net: u32,
-        into: &mut Shown,
+        into: &mut FlipRows,
         steps: &mut Steps<L>,
     ) -> Result<(), NoMemory> {
         self.points.show(scratch, net, into, steps)
@@ -114,7 +114,7 @@ impl Observer for FrameCounts<'_> {
         Ok(self.points.count_pin(pin, launched.and(capture)))
     }
 
-    fn part(&self, flip: &Shown, lanes: Row) -> BlockCount {
+    fn part(&self, flip: &FlipRows, lanes: Row) -> BlockCount {
         self.points.part(flip, lanes)
     }
 

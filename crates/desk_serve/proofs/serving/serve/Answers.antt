@@ -8,7 +8,7 @@ use Rattle.desk_serve.specs.Runs.{asked_of}
 use Rattle.desk_serve.proofs.Closing.{no_keeper, not_opened, surely_home, keeper_rose, opened_ended}
 use Rattle.desk_serve.proofs.ComingHome.{rose_still, rose_later}
 use Rattle.desk_serve.specs.Lines.{Writes, line_of}
-use Rattle.desk_serve.specs.Over.{opened_deeds}
+use Rattle.desk_serve.specs.StreetEnd.{opened_deeds}
 use Rattle.desk_outside.proofs.Out.{keeper_is_out}
 use Rattle.desk_serve.proofs.Seats.{opened_of}
 use Rattle.desk_serve.proofs.serving.serve.Goals as goal

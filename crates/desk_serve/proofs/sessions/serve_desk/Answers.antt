@@ -6,7 +6,7 @@ use Rattle.desk_outside.specs.Streets.{StreetTold}
 use Rattle.shared_desk.specs.Seats.{SeatFacts}
 use Rattle.shared_desk.specs.Starting.{AreAllSeats, IsFinished}
 use Rattle.desk_serve.specs.Doors.{DoorFacts, Tells, with_doors_out, with_doors_home}
-use Rattle.desk_serve.specs.Over.{StreetServed}
+use Rattle.desk_serve.specs.StreetEnd.{StreetServed}
 use Rattle.desk_serve.specs.Runs.{asked_of}
 use Rattle.desk_serve.proofs.Lists.{all_of_map}
 use Rattle.desk_serve.proofs.ComingHome.{are_out, rose_still, rose_later}

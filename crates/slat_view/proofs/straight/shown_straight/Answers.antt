@@ -14,13 +14,13 @@ use Rattle.packed_sim.specs.Belongs.{block_at, points_of_net, observed_at}
 use Rattle.fault_effects.proofs.NetPoints.{filtered}
 use Rattle.fault_effects.specs.declared.side.Side.{Side}
 use Rattle.fault_effects.specs.declared.side.Side.TheVariants.{Failing, Passing}
-use Rattle.match_counts.specs.declared.shown.Shown.{Shown}
+use Rattle.match_counts.specs.declared.flip_rows.FlipRows.{FlipRows}
 use Rattle.match_counts.specs.Flips.{tallied, list_on}
 use Rattle.slat_view.specs.Straight.{shown_at}
 use Rattle.slat_view.proofs.PinTables.{straight_shown}
 use Rattle.slat_view.proofs.straight.shown_straight.Goals as goal
 
-none_shown : (shown : Shown) (m : ℕ → Bool) → shown.fails.items ≡ [] → shown.passes.items ≡ [] → (x : Side) → tallied (list_on x shown) m ≡ 0
+none_shown : (shown : FlipRows) (m : ℕ → Bool) → shown.fails.items ≡ [] → shown.passes.items ≡ [] → (x : Side) → tallied (list_on x shown) m ≡ 0
 none_shown shown m fails passes Failing = ap (λ (rows : List (List ℕ)). tallied rows m) fails
 none_shown shown m fails passes Passing = ap (λ (rows : List (List ℕ)). tallied rows m) passes
 

@@ -8,7 +8,7 @@ use Rattle.fault_effects.specs.declared.side.Side.{Side}
 use Rattle.fault_effects.specs.declared.side.Side.TheVariants.{Failing, Passing}
 use Rattle.fault_effects.specs.FaultModel.{Table}
 use Rattle.fault_effects.specs.PointRows.{no_point_row}
-use Rattle.match_counts.specs.declared.shown.Shown.{Shown}
+use Rattle.match_counts.specs.declared.flip_rows.FlipRows.{FlipRows}
 use Rattle.match_counts.specs.Flips.{tallied, list_on, row_on, point_row_at}
 use Rattle.match_counts.specs.Tables.{lanes_of}
 use Rattle.chain_compactor.specs.CompactCounts.{differs_in, within_set}
@@ -16,7 +16,7 @@ use Rattle.chain_compactor.proofs.SparseSums.{sum_up_to, sum_next_place, absent_
 use Rattle.chain_compactor.proofs.counts.CompactCounts.show_places.Goals as goal
 
 -- nothing is kept of a flip
-none_kept : (shown : Shown) → shown.fails.items ≡ [] → shown.passes.items ≡ [] → (side : Side) (m : ℕ → Bool) → tallied (list_on side shown) m ≡ 0
+none_kept : (shown : FlipRows) → shown.fails.items ≡ [] → shown.passes.items ≡ [] → (side : Side) (m : ℕ → Bool) → tallied (list_on side shown) m ≡ 0
 none_kept shown fails passes Failing m = ap (λ (rows : List (List ℕ)). tallied rows m) fails
 none_kept shown fails passes Passing m = ap (λ (rows : List (List ℕ)). tallied rows m) passes
 

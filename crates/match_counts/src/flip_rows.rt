@@ -1,0 +1,23 @@
+//! Where a flip shows, as rows of lanes.
+ghost use Rattle.std.specs.Prelude.{◌≡◌, []};
+
+use lane_rows::Row;
+
+/// Where a flip of a net shows, a row for each place: the lanes whose bits are Failing, and those whose bits are Passing.
+/// Rows without a lane are left out.
+#[derive(Debug, Drop)]
+pub struct FlipRows {
+    pub fails: Vec<Row>,
+    pub passes: Vec<Row>,
+}
+
+impl FlipRows {
+    /// Drops what was kept.
+    pub fn clear(&mut self)
+        ensures fails { self.new.fails.items ≡ [] }
+        ensures passes { self.new.passes.items ≡ [] }
+    {
+        self.fails.clear();
+        self.passes.clear();
+    }
+}
