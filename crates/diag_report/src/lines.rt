@@ -1,12 +1,12 @@
-ghost use Rattle.std.specs.Prelude.{◌≡◌, ◌++◌, ◌∷◌, [], ◌<◌, length, decimal, OnOk};
+ghost use Rattle.std.specs.Prelude.{◌≡◌, ◌++◌, ◌∷◌, [], ◌<◌, decimal, OnOk};
 ghost use Rattle.scan_model.specs.ReportText as text_of;
-ghost use Rattle.fault_universe.specs.LineWords.{after_spaces};
 ghost use Rattle.diag_report.specs.LineEnds.{AddsLines};
 ghost use Rattle.diag_report.specs.Layout.{score_words};
 
 use crate::draft::{Draft, end_line};
 use crate::names::ReportNames;
 use fault_universe::{push_number, push_word};
+use itoa::Buffer;
 use scan_model::{Bit, Name, NoMemory, Scored};
 
 /// Adds a line of a word and a name.
@@ -43,24 +43,24 @@ pub(crate) fn bit_line<N: ReportNames>(
     end_line(draft)
 }
 
-/// Adds a word and a number.
+/// Adds a label, which has its spaces with it, and a number in decimal digits.
 fn push_labelled(line: &mut Name, label: &[u8], number: u64) -> Result<(), NoMemory>
-    ensures { OnOk result (line.new ≡ line.old ++ after_spaces (label.now ∷ decimal number ∷ [])) }
+    ensures { OnOk result (line.new ≡ line.old ++ label.now ++ decimal number) }
 {
-    push_word(line, label)?;
-    push_number(line, number)
+    line.append(label)?;
+    let mut digits = Buffer::new();
+    line.append(digits.format(number).as_bytes())
 }
 
 /// Adds the words of a candidate, up to its fault.
 fn push_scores(line: &mut Name, rank: u64, row: &Scored) -> Result<(), NoMemory>
     ensures { OnOk result (line.new ≡ line.old ++ text_of.spaced (score_words rank row.now)) }
 {
-    line.append(b"candidate")?;
-    push_number(line, rank)?;
-    push_labelled(line, b"fault", u64::from(row.place))?;
-    push_labelled(line, b"tfsf", row.counts.tfsf)?;
-    push_labelled(line, b"tfsp", row.counts.tfsp)?;
-    push_labelled(line, b"tpsf", row.counts.tpsf)
+    push_labelled(line, b"candidate ", rank)?;
+    push_labelled(line, b" fault ", u64::from(row.place))?;
+    push_labelled(line, b" tfsf ", row.counts.tfsf)?;
+    push_labelled(line, b" tfsp ", row.counts.tfsp)?;
+    push_labelled(line, b" tpsf ", row.counts.tpsf)
 }
 
 /// Adds the line of a candidate of a rank.
