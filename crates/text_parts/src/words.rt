@@ -75,7 +75,12 @@ pub fn words_of(alloc: Global, line: &[u8]) -> Result<Vec<&[u8]>, AllocError>
 pub fn is_name_byte(b: u8) -> bool
     ensures { result ≡ is_name_byte b }
 {
-    matches!(b, 33..=126) && !matches!(b, b'(' | b')' | b',' | b'=' | b'#' | b'%' | b'"')
+    // All letters are in the first arm, so that most bytes of a name take one comparison.
+    match b {
+        b'>'..=b'~' => true,
+        b'-'..=b'<' | b'*' | b'+' | b'&' | b'\'' | b'$' | b'!' => true,
+        _ => false,
+    }
 }
 
 fn is_name(word: &[u8]) -> bool
