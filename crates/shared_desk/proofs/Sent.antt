@@ -10,7 +10,7 @@ use Rattle.book.specs.contracts.state.die.Die as die
 use Rattle.desk_outside.specs.declared.keeper.Keeper.{Ghosts}
 use Rattle.book.specs.contracts.book.Book as book
 use Rattle.shared_desk.specs.contracts.open_book.OpenBook as open_book
-use Rattle.book.specs.contracts.state.Kept as kept
+use Rattle.book.specs.contracts.state.BookState as kept
 use Rattle.diagnosis.specs.contracts.log.ReadLog as log
 use Rattle.book.specs.contracts.sign.Sign as sign
 use Rattle.diagnosis.specs.contracts.design.Design as design
