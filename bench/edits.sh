@@ -3,7 +3,7 @@
 # prover must refuse.
 #     bench/edits.sh [-j N] [CRATE..]
 # Without CRATE those of all crates. The repository is copied to a scratch folder, with the work that
-# earlier checks kept of all that stands below the crates asked for: so a crate's edits cost the check
+# `rt lib` or `rt check` kept of all that stands below the crates asked for: so a crate's edits cost the check
 # of that crate (`rt must-fail`) and nothing below it. At most N provers run at once, or RT_JOBS, or one
 # for each core, and never more than there are cores.
 # Each edit that isn't refused is named, also one that doesn't apply, compile or read; and each that is
