@@ -11,3 +11,4 @@ mod Trying
 mod BlockFits
 pub mod Serving
 pub mod Counting
+mod KeptFits

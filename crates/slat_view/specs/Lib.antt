@@ -6,3 +6,4 @@ pub mod Straight
 pub mod SameTables
 pub mod Tests
 pub mod SlatText
+pub mod Whole

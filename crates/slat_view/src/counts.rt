@@ -4,10 +4,13 @@ ghost use Rattle.scan_model.specs.declared.logs.LogFacts.{LogFacts};
 ghost use Rattle.log_join.specs.Joining.{StandsFor};
 ghost use Rattle.fault_effects.specs.Owners.{places_of};
 ghost use Rattle.slat_view.specs.Tests.{IsTested, IsBlockOf, IsSlatUpTo, HaveAllFits};
+ghost use Rattle.slat_view.specs.Whole.{IsWholeOf, kept_fits};
 
+use crate::kept_fits::{MOST_FITS, with_block};
 use crate::places::count_with;
 use crate::slat::{Slat, SlatCount};
 use crate::tested::{BlockFits, Tested};
+use crate::whole::WholeSlat;
 use fault_universe::universe_len;
 use scan_model::{NoMemory, Parts, Rows};
 use std::alloc::Global;
@@ -55,20 +58,26 @@ fn add_block(
     Ok(())
 }
 
-/// The counts of all patterns.
-pub(crate) fn counts_of(alloc: Global, tested: &Tested<'_>) -> Result<Slat, NoMemory>
+/// The counts of all patterns, with the fits of each block.
+pub(crate) fn whole_of(alloc: Global, tested: &Tested<'_>) -> Result<WholeSlat, NoMemory>
     requires { IsTested tested.now }
-    ensures { (logs : List LogFacts) → StandsFor logs tested.now.die.now.joined → HaveAllFits tested.now.parts.now logs (places_of tested.now.die.now.suspects) → IfOk result (IsSlatUpTo tested.now.parts.now logs (length tested.now.parts.now.patterns)) }
+    ensures whole { (logs : List LogFacts) → StandsFor logs tested.now.die.now.joined → HaveAllFits tested.now.parts.now logs (places_of tested.now.die.now.suspects) → IfOk result (IsWholeOf tested.now.parts.now logs) }
+    ensures few { IfOk result (λ whole. kept_fits whole ≤ MOST_FITS) }
 {
     let patterns = tested.parts.patterns().len() as u32;
     let mut slat = Slat {
         failing: 0,
         rows: Rows::new(alloc),
     };
+    let mut blocks = Some(Rows::new(alloc));
+    let mut count: usize = 0;
     for block in 0..patterns.div_ceil(512) {
         let tried = tested.block(alloc, block)?;
         let end = (512 * block + 512).min(patterns);
         add_block(&mut slat, tested.parts, block, end, &tried)?;
+        let BlockFits { fits, .. } = tried;
+        count = count.saturating_add(fits.len());
+        blocks = with_block(blocks, fits, count);
     }
-    Ok(slat)
+    Ok(WholeSlat { slat, blocks })
 }

@@ -1,28 +1,30 @@
 //! The explained patterns of a view of a die.
-ghost use Rattle.std.specs.Prelude.{◌≡◌, ◌<◌, All, Contains, length, map, IfOk};
+ghost use Rattle.std.specs.Prelude.{◌≡◌, ◌^◌, ◌<◌, ◌≤◌, All, Contains, length, map, IfOk};
 ghost use Rattle.scan_model.specs.MatchCounts.{candidates};
 ghost use Rattle.diagnosis.specs.Designs.{facts_of};
 ghost use Rattle.slat_view.specs.Slat.{failing_patterns, slat_rows, fitting_places};
+ghost use Rattle.slat_view.specs.Whole.{IsWholeOf, kept_fits};
 
-use crate::counts::counts_of;
+use crate::counts::whole_of;
 use crate::places::places_with;
 use crate::prepared::Prepared;
 use crate::slat::Slat;
 use crate::tested::Tested;
+use crate::whole::WholeSlat;
 use diagnosis::{DieView, joined_of};
 use scan_model::{NoMemory, Rows};
 use std::alloc::Global;
 use std::thread::Threads;
 
-/// How many patterns of a die are failing, and which of them single faults explain, each with the number of faults that fit.
-/// Suspects alone are tried, 512 patterns at a time: one flip serves all faults of a net.
-pub fn slat_counts<R: Threads + Sync>(
+/// The counts of a die, with the faults that fit each pattern, where these are no more than 2^18 in all blocks of 512 patterns.
+/// Suspects alone are tried, a block at a time: one flip serves all faults of a net.
+pub fn whole_slat<R: Threads + Sync>(
     _rt: &R,
     alloc: Global,
     view: &DieView,
-) -> Result<Slat, NoMemory>
-    ensures failing { IfOk result (λ slat. slat.failing ≡ failing_patterns view.now.design.test (facts_of view.now.logs)) }
-    ensures rows { IfOk result (λ slat. slat.rows ≡ slat_rows view.now.design.test (facts_of view.now.logs)) }
+) -> Result<WholeSlat, NoMemory>
+    ensures whole { IfOk result (IsWholeOf view.now.design.test (facts_of view.now.logs)) }
+    ensures few { IfOk result (λ whole. kept_fits whole ≤ 2 ^ 18) }
 {
     let design = view.design();
     let parts = design.parts();
@@ -34,7 +36,20 @@ pub fn slat_counts<R: Threads + Sync>(
         expected,
         die: &die,
     };
-    counts_of(alloc, &tested)
+    whole_of(alloc, &tested)
+}
+
+/// How many patterns of a die are failing, and which of them single faults explain, each with the number of faults that fit.
+pub fn slat_counts<R: Threads + Sync>(
+    rt: &R,
+    alloc: Global,
+    view: &DieView,
+) -> Result<Slat, NoMemory>
+    ensures failing { IfOk result (λ slat. slat.failing ≡ failing_patterns view.now.design.test (facts_of view.now.logs)) }
+    ensures rows { IfOk result (λ slat. slat.rows ≡ slat_rows view.now.design.test (facts_of view.now.logs)) }
+{
+    let WholeSlat { slat, .. } = whole_slat(rt, alloc, view)?;
+    Ok(slat)
 }
 
 /// The places of the faults that fit a pattern, rising: none where it isn't failing. Each is a candidate of the report over the
