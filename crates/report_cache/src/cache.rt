@@ -1,27 +1,30 @@
 //! Kept reports.
-ghost use Rattle.std.specs.Prelude.{◌≡◌, ◌≤◌, List, IfOk, IfSome};
+ghost use Rattle.std.specs.Prelude.{◌≡◌, ◌≤◌, List, IfOk};
 ghost use Rattle.std.specs.Arc.{arc_value};
 ghost use Rattle.desk_outside.specs.declared.deed.Deed.{Deed};
-ghost use Rattle.diagnosis.specs.Designs.{view_lines};
+ghost use Rattle.diagnosis.specs.Designs.{view_lines, facts_of};
+ghost use Rattle.slat_view.specs.Whole.{IsWholeOf};
 ghost use Rattle.book.specs.Changes.{IsViewIn};
 ghost use Rattle.report_cache.specs.Truth.{IsTrueFor, IsReportIn, fresh_cache, report_for};
 
+use crate::findings::{Findings, share};
 use crate::key::ReportKey;
 use crate::whole::WholeReport;
 use diagnosis::{DieView, make_report};
 use lru::LruCache;
 use scan_model::NoMemory;
+use slat_view::{WholeSlat, whole_slat};
 use std::alloc::Global;
 use std::marker::Model;
 use std::num::NonZeroUsize;
 use std::sync::Arc;
 use std::thread::Threads;
 
-/// Whole reports, each kept for its design, die and revision; the one that was used longest ago goes first. Contracts see
-/// what is kept, and how many there may be.
+/// Whole reports and explained patterns, kept for a design, a die and a revision; those that were used longest ago go first.
+/// Contracts see what is kept, and for how many.
 #[derive(Drop)]
 pub struct ReportCache {
-    kept: LruCache<ReportKey, Arc<WholeReport>>,
+    kept: LruCache<ReportKey, Findings>,
     hits: u64,
 }
 
@@ -49,6 +52,21 @@ fn make_whole<R: Threads + Sync>(
     }
 }
 
+// The explained patterns of a die, told anew.
+fn make_slat<R: Threads + Sync>(
+    rt: &R,
+    alloc: Global,
+    view: &DieView,
+) -> Result<Arc<WholeSlat>, NoMemory>
+    ensures { IfOk result (λ slat. IsWholeOf view.now.design.test (facts_of view.now.logs) (arc_value slat)) }
+{
+    let slat = whole_slat(rt, alloc, view)?;
+    match Arc::new(alloc, slat) {
+        Ok(slat) => Ok(slat),
+        Err(_) => Err(NoMemory),
+    }
+}
+
 impl ReportCache {
     /// A cache for so many reports, one at least. It keeps none, and so is true for each list of deeds.
     pub fn make(alloc: Global, entries: usize) -> Result<ReportCache, NoMemory>
@@ -63,34 +81,38 @@ impl ReportCache {
         Ok(ReportCache { kept, hits: 0 })
     }
 
-    /// How many look-ups found a report. The count stays at 2^64 - 1 once it is there.
+    /// How many look-ups found what they asked for. The count stays at 2^64 - 1 once it is there.
     pub fn hits(&self) -> u64 {
         self.hits
     }
 
-    // The report that is kept for a key, which then was used last. One that can't be shared for want of memory isn't found.
-    fn find(&mut self, key: &ReportKey) -> Option<Arc<WholeReport>>
-        ensures entries { self.new.entries ≡ self.old.entries }
-        ensures stays { (deeds : List Deed) → IsTrueFor self.old deeds → IsTrueFor self.new deeds }
-        ensures found { (deeds : List Deed) → IsTrueFor self.old deeds → IfSome result (λ report. IsReportIn deeds (report_for key.now (arc_value report))) }
+    // Counts a look-up that did.
+    fn count_hit(&mut self)
+        ensures { self.new ≡ self.old }
     {
-        let Ok(report) = Arc::try_clone(self.kept.peek(key)?) else {
-            return None;
-        };
-        self.kept.promote(key);
         self.hits = self.hits.saturating_add(1);
-        Some(report)
     }
 
-    // Keeps a report, if there is memory for it.
-    fn keep(&mut self, key: ReportKey, report: &Arc<WholeReport>)
+    // What is kept for a key, which then was used last. What can't be shared for want of memory isn't found.
+    fn find(&mut self, key: &ReportKey) -> Findings
         ensures entries { self.new.entries ≡ self.old.entries }
-        ensures stays { (deeds : List Deed) → IsTrueFor self.old deeds → IsReportIn deeds (report_for key (arc_value report.now)) → IsTrueFor self.new deeds }
+        ensures stays { (deeds : List Deed) → IsTrueFor self.old deeds → IsTrueFor self.new deeds }
+        ensures found { (deeds : List Deed) → IsTrueFor self.old deeds → IsReportIn deeds (report_for key.now result) }
     {
-        let Ok(report) = Arc::try_clone(report) else {
-            return;
+        let Some(kept) = self.kept.peek(key) else {
+            return Findings::none();
         };
-        let _kept = self.kept.put(key, report);
+        let found = kept.shared();
+        self.kept.promote(key);
+        found
+    }
+
+    // Keeps findings for a key, in place of those that it had, if there is memory for them.
+    fn keep(&mut self, key: ReportKey, findings: Findings)
+        ensures entries { self.new.entries ≡ self.old.entries }
+        ensures stays { (deeds : List Deed) → IsTrueFor self.old deeds → IsReportIn deeds (report_for key findings) → IsTrueFor self.new deeds }
+    {
+        let _kept = self.kept.put(key, findings);
     }
 
     /// The report of a die, which is made where it isn't kept. Where memory is too short to keep it, it is answered all the
@@ -110,11 +132,46 @@ impl ReportCache {
         let Ok(key) = ReportKey::of(alloc, view) else {
             return make_whole(rt, alloc, view);
         };
-        if let Some(report) = self.find(&key) {
+        let Findings { report, slat } = self.find(&key);
+        if let Some(report) = report {
+            self.count_hit();
             return Ok(report);
         }
         let report = make_whole(rt, alloc, view)?;
-        self.keep(key, &report);
+        let findings = Findings {
+            report: share(&report),
+            slat,
+        };
+        self.keep(key, findings);
         Ok(report)
+    }
+
+    /// The explained patterns of a die with their counts, in the same way.
+    pub fn slat<R: Threads + Sync>(
+        &mut self,
+        rt: &R,
+        alloc: Global,
+        view: &DieView,
+    ) -> Result<Arc<WholeSlat>, NoMemory>
+        ensures entries { self.new.entries ≡ self.old.entries }
+        ensures stays { (deeds : List Deed) → IsViewIn deeds view.now → IsTrueFor self.old deeds → IsTrueFor self.new deeds }
+        ensures made { (deeds : List Deed) → IsViewIn deeds view.now → IsTrueFor self.old deeds → IfOk result (λ slat. IsWholeOf view.now.design.test (facts_of view.now.logs) (arc_value slat)) }
+    {
+        let _revision = view.revision();
+        let Ok(key) = ReportKey::of(alloc, view) else {
+            return make_slat(rt, alloc, view);
+        };
+        let Findings { report, slat } = self.find(&key);
+        if let Some(slat) = slat {
+            self.count_hit();
+            return Ok(slat);
+        }
+        let slat = make_slat(rt, alloc, view)?;
+        let findings = Findings {
+            report,
+            slat: share(&slat),
+        };
+        self.keep(key, findings);
+        Ok(slat)
     }
 }

@@ -1,10 +1,12 @@
-use Rattle.std.specs.Arc.{arc_value}
-use Rattle.report_cache.proofs.Kept.{kept_is, may_be_kept}
+use Rattle.std.proofs.Common.{refl}
+use Rattle.report_cache.proofs.Kept.{kept_lines, with_lines}
 use Rattle.report_cache.proofs.cache.ReportCache.report.Goals as goal
 
 pub returns-in-Some-clause-made : goal.returns-in-Some-clause-made
-returns-in-Some-clause-made g c deeds in_deeds t = kept_is deeds c.args.view.now c.revision-revision.ensures.view in_deeds c.in-Ok.key (arc_value c.in-Some.report) c.in-Ok.ensures (c.in-Some.ensures.found deeds t)
+returns-in-Some-clause-made g c deeds in_deeds t =
+    kept_lines deeds c.args.view.now c.revision-revision.ensures.view in_deeds c.in-Ok.key c.in-Ok.ensures c.find-report.result (c.find-report.ensures.found deeds t) c.in-Some.report c.in-Some.is
 
 pub returns-clause-stays : goal.returns-clause-stays
 returns-clause-stays g c deeds in_deeds t =
-    c.keep.ensures.stays deeds (c.find.ensures.stays deeds t) (may_be_kept deeds c.args.view.now c.revision-revision.ensures.view in_deeds c.in-Ok.key (arc_value c.in_ok-report.report) c.in-Ok.ensures c.in_ok-report.ensures)
+    c.keep.ensures.stays deeds (c.find-report.ensures.stays deeds t)
+    (with_lines deeds c.args.view.now c.revision-revision.ensures.view in_deeds c.in-Ok.key c.in-Ok.ensures c.find-report.result (c.find-report.ensures.found deeds t) c.in_ok-report.report c.share.result _ c.in_ok-report.ensures c.share.ensures refl)
