@@ -174,7 +174,7 @@ fn get_at<R: Threads + Sync, D, S: SeatAt<R, D>>(
         } => {
             let revision = u64::from(*revision);
             let (design, die) = (design.as_slice(), die.as_slice());
-            get_slat(rt, alloc, desk, seat, design, die, revision)
+            get_slat(rt, alloc, desk, seat, cache, design, die, revision)
         }
         Resource::SlatPattern {
             design,
@@ -182,9 +182,9 @@ fn get_at<R: Threads + Sync, D, S: SeatAt<R, D>>(
             revision,
             pattern,
         } => {
-            let revision = u64::from(*revision);
+            let (revision, pattern) = (u64::from(*revision), *pattern);
             let (design, die) = (design.as_slice(), die.as_slice());
-            get_slat_pattern(rt, alloc, desk, seat, design, die, revision, *pattern)
+            get_slat_pattern(rt, alloc, desk, seat, cache, design, die, revision, pattern)
         }
         Resource::Sign {
             design,

@@ -22,7 +22,7 @@ returns-then-is_empty g c =
     let none : (ltb w (length t.patterns) && is_explained t logs w) ≡ false =
     pattern_hidden t logs w c.in_ok-places.places c.in_ok-places.ensures.places (eqb-true _ _ (sym c.is_empty.ensures ∙ c.if-is_empty.true)) in
     let body : c.unknown_pattern_body-body.result ≡ unknown_pattern_body (length (slat_rows t logs)) =
-    c.unknown_pattern_body-body.ensures ∙ ap unknown_pattern_body (c.len.ensures ∙ ap (λ (rows : List SlatCount). length rows) c.in_ok-slat.ensures.rows) in
+    c.unknown_pattern_body-body.ensures ∙ ap unknown_pattern_body (c.len.ensures ∙ ap (λ (rows : List SlatCount). length rows) c.requires.rows) in
     c.short.ensures
     ∙ ap (λ (b : List ℕ). response_of (plain status.NotFound b)) body
     ∙ sym (ap (λ (b : Bool). response_of (if b then plain status.Ok (pattern_text t logs w) else plain status.NotFound (unknown_pattern_body (length (slat_rows t logs))))) none)

@@ -10,6 +10,6 @@ pub returns-clause-faults : goal.returns-clause-faults
 returns-clause-faults g c =
     let t = c.args.view.now.design.test in
     let fitting = fitting_places t (facts_of c.args.view.now.logs) c.args.pattern in
-    IfOk-weaker c.slat_places.result (λ (places : List ℕ). places ≡ fitting) (ArePlaces t)
+    IfOk-weaker c.places.result (λ (places : List ℕ). places ≡ fitting) (ArePlaces t)
     (λ (places : List ℕ) is. subst (ArePlaces t) (sym is) (places_below t (facts_of c.args.view.now.logs) c.args.pattern))
-    c.slat_places.ensures.places
+    c.places.ensures.places
