@@ -75,12 +75,14 @@ pub fn words_of(alloc: Global, line: &[u8]) -> Result<Vec<&[u8]>, AllocError>
 pub fn is_name_byte(b: u8) -> bool
     ensures { result ≡ is_name_byte b }
 {
-    // All letters are in the first arm, so that most bytes of a name take one comparison.
-    match b {
-        b'>'..=b'~' => true,
-        b'-'..=b'<' | b'*' | b'+' | b'&' | b'\'' | b'$' | b'!' => true,
-        _ => false,
+    // Letters first: a `match` would look for them last.
+    if b >= b'>' {
+        return b <= b'~';
     }
+    if b >= b'-' {
+        return b != b'=';
+    }
+    matches!(b, b'*' | b'+' | b'&' | b'\'' | b'$' | b'!')
 }
 
 fn is_name(word: &[u8]) -> bool
