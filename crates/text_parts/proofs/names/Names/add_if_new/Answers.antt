@@ -1,6 +1,5 @@
-use Rattle.std.proofs.Common.{◌≡◌, ◌≢◌, ◌∷◌, ◌++◌, [], ap, sym, ◌∙◌, unwrap_or, is_some, length, not, arith}
+use Rattle.std.proofs.Common.{◌≡◌, ◌≢◌, ◌∷◌, ◌++◌, [], ap, sym, ◌∙◌, is_some, length, not, arith}
 use Rattle.std.proofs.lemmas.List.{length-map, map_push}
-use Rattle.std.specs.List.{position}
 use Rattle.std.specs.Str.{bytes_eq}
 use Rattle.text_parts.specs.Views.{nows}
 use Rattle.text_parts.proofs.Places.{found_there, found_nowhere, any_position}
