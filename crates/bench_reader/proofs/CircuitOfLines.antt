@@ -14,9 +14,9 @@ use Rattle.scan_model.specs.Words.{has_word}
 use Rattle.scan_model.specs.NetlistLines.{Form, nothing, input, output, definition, no_form}
 use Rattle.scan_model.specs.NetlistRules.{nets_of, new_output, pins_of, pins_after, defined_names, net_limit, pin_limit}
 use Rattle.scan_model.specs.NetlistText.{net_number, line_nets, nets_after, line_pins, line_pins_after, circuit_in}
-use Rattle.bench_reader.specs.Kept.{uses_undefined}
-use Rattle.bench_reader.specs.Clean.{AreClean, AreKnown}
-use Rattle.bench_reader.specs.Uses.{operand_pin}
+use Rattle.bench_reader.specs.NetlistDrafts.{uses_undefined}
+use Rattle.bench_reader.specs.FaultlessLines.{AreClean, AreKnown}
+use Rattle.bench_reader.specs.NetUses.{operand_pin}
 use Rattle.bench_reader.proofs.NamesDiffer.{number_in_range, outputs_all, outputs_none}
 use Rattle.bench_reader.proofs.UsesOfLines.{length-line_pins_after}
 use Rattle.bench_reader.proofs.OneMoreNet.{IsPart}

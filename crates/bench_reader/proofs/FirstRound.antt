@@ -17,11 +17,11 @@ use Rattle.scan_model.specs.NetlistLines.{Form, nothing, input, output, definiti
 use Rattle.scan_model.specs.NetlistRules.{forms_of, nets_of, new_output, pins_of, pins_after, defined_names, outputs_of, defines_among, has_long_name, is_no_form, has_unknown_word, has_wrong_count, net_limit, pin_limit, makes_past, first_rule, first_rules}
 use Rattle.scan_model.proofs.FaultSteps.{fault_goes_on, fault_is_here, fault_is_none}
 use Rattle.text_parts.specs.Views.{nows}
-use Rattle.bench_reader.specs.declared.first.Lines.{Lines}
+use Rattle.bench_reader.specs.declared.first_round.NetlistDraft.{NetlistDraft}
 use Rattle.scan_model.specs.NetlistText.{line_nets}
-use Rattle.bench_reader.specs.Uses.{use_view, use_views, line_uses}
-use Rattle.bench_reader.specs.Kept.{AddsNames, TakesRest, Takes, IsAfter, IsWithin, net_lines_from}
-use Rattle.bench_reader.specs.Clean.{AreClean, HasItsOperands}
+use Rattle.bench_reader.specs.NetUses.{use_view, use_views, line_uses}
+use Rattle.bench_reader.specs.NetlistDrafts.{AddsNames, TakesRest, Takes, IsAfter, IsWithin, net_lines_from}
+use Rattle.bench_reader.specs.FaultlessLines.{AreClean, HasItsOperands}
 use Rattle.bench_reader.proofs.UsesOfLines.{outputs_after, length-line_uses, length-line_nets, new_output_pins, nets_after_push, inputs_after_push, uses_after_push}
 use Rattle.bench_reader.proofs.CircuitOfLines.{length-nets_after}
 
@@ -45,11 +45,11 @@ net_lines_push n fs f =
     ∙ flat_map-append (λ (e : ℕ × Form). map (λ (w : List ℕ). e.0) (nets_of e.1)) (enumerate_from n fs) ((n + length fs, f) ∷ [])
     ∙ ap (λ ls. net_lines_from n fs ++ ls) (append-nil (map (λ (w : List ℕ). n + length fs) (nets_of f)))
 
-takes_count : (old new : Lines) (f : Form) (number : ℕ) → Takes old new number f → length new.uses.items ≡ length old.uses.items + length (pins_of old.outputs f)
+takes_count : (old new : NetlistDraft) (f : Form) (number : ℕ) → Takes old new number f → length new.uses.items ≡ length old.uses.items + length (pins_of old.outputs f)
 takes_count old new f number takes =
     omega (arith, ap length takes.uses, length-append (use_views old.uses.items) (line_uses number (length old.nets.items) old.outputs f), length-line_uses number (length old.nets.items) old.outputs f, length-map old.uses.items use_view, length-map new.uses.items use_view)
 
-within_more : (old new : Lines) (f : Form) (number : ℕ) → IsWithin old → Takes old new number f → length old.defined + length (nets_of f) ≤ net_limit → length old.uses.items + length (pins_of old.outputs f) ≤ pin_limit → IsWithin new
+within_more : (old new : NetlistDraft) (f : Form) (number : ℕ) → IsWithin old → Takes old new number f → length old.defined + length (nets_of f) ≤ net_limit → length old.uses.items + length (pins_of old.outputs f) ≤ pin_limit → IsWithin new
 within_more old new f number within takes nets pins =
     let count : length new.uses.items ≡ length old.uses.items + length (pins_of old.outputs f) = takes_count old new f number takes in
     record {
@@ -59,7 +59,7 @@ within_more old new f number within takes nets pins =
       outputs = omega (arith, within.outputs, count, ap length takes.outputs, length-append old.outputs (new_output old.outputs f), new_output_pins old.outputs f);
     }
 
-takes_both : (old named new : Lines) (f : Form) (number : ℕ) → TakesRest named new number f → AddsNames old named number (nets_of f) → Takes old new number f
+takes_both : (old named new : NetlistDraft) (f : Form) (number : ℕ) → TakesRest named new number f → AddsNames old named number (nets_of f) → Takes old new number f
 takes_both old named new f number rest names = record {
   nets = rw (← names.nets, ← names.uses) rest.nets;
   inputs = rw (← names.inputs, ← names.nets) rest.inputs;
@@ -70,12 +70,12 @@ takes_both old named new f number rest names = record {
 }
 
 -- no limit is passed after one more line, whose net's name is added first
-pub within_both : (old named new : Lines) (f : Form) (number : ℕ) → IsWithin old → TakesRest named new number f → AddsNames old named number (nets_of f)
+pub within_both : (old named new : NetlistDraft) (f : Form) (number : ℕ) → IsWithin old → TakesRest named new number f → AddsNames old named number (nets_of f)
     → length old.defined + length (nets_of f) ≤ net_limit → length old.uses.items + length (pins_of old.outputs f) ≤ pin_limit → IsWithin new
 within_both old named new f number within rest names nets pins = within_more old new f number within (takes_both old named new f number rest names) nets pins
 
--- what is kept after one more line
-after_takes : (old new : Lines) (fs : List Form) (f : Form) (number : ℕ) → number ≡ 1 + length fs → IsAfter old fs → Takes old new number f → IsAfter new (fs ++ f ∷ [])
+-- the draft of a netlist after one more line
+after_takes : (old new : NetlistDraft) (fs : List Form) (f : Form) (number : ℕ) → number ≡ 1 + length fs → IsAfter old fs → Takes old new number f → IsAfter new (fs ++ f ∷ [])
 after_takes old new fs f number is after takes =
     let nets : length old.nets.items ≡ 0 + length (defined_names fs) = omega (arith, ap length after.nets, length-nets_after fs) in
     let pins : length old.uses.items ≡ 0 + length (pins_after [] fs) = omega (arith, after.pins) in
@@ -146,42 +146,42 @@ pub clean_none : AreClean []
 unfolding IsDistinct
 clean_none = record { counts = tt; differ = tt; short = All-nil (λ n. length n ≤ 64) }
 
-module _ (ls : List (List ℕ)) (items : List (Bor (List ℕ))) (i : ℕ) (d : Bor (List ℕ)) (kept : Lines)
+module _ (ls : List (List ℕ)) (items : List (Bor (List ℕ))) (i : ℕ) (d : Bor (List ℕ)) (draft : NetlistDraft)
     (same : nows items ≡ ls)
     (so_far : fault_from (first_rule ls) i (length ls - i) ≡ first_fault (first_rule ls) (length ls))
-    (after : IsAfter kept (forms_of (take i ls))) where
+    (after : IsAfter draft (forms_of (take i ls))) where
   lines_length : length items ≡ length ls
   lines_length = sym (length-map items (λ x. x.now)) ∙ ap length same
 
   line_is : i < length items → (get_or items i d).now ≡ line_at ls i
   line_is lt = sym (get_or-map (λ x. x.now) items i d [] lt) ∙ ap (λ ts. line_at ts i) same
 
-  rule_is : i < length items → lowest (first_rules kept.defined kept.outputs (length kept.uses.items) (get_or items i d).now) ≡ first_rule ls i
+  rule_is : i < length items → lowest (first_rules draft.defined draft.outputs (length draft.uses.items) (get_or items i d).now) ≡ first_rule ls i
   rule_is lt = rw (after.defined, after.outputs, after.pins, line_is lt) refl
 
-  pub line_is_faulty : (r : ℕ) → i < length items → Some r ≡ lowest (first_rules kept.defined kept.outputs (length kept.uses.items) (get_or items i d).now)
+  pub line_is_faulty : (r : ℕ) → i < length items → Some r ≡ lowest (first_rules draft.defined draft.outputs (length draft.uses.items) (get_or items i d).now)
       → first_fault (first_rule ls) (length ls) ≡ Some (i + 1, r)
   line_is_faulty r lt some =
       let lt' : i < length ls = omega (arith, lines_length) in
       fault_is_here (first_rule ls) (length ls) i _ r lt' (sym (some ∙ rule_is lt)) so_far
 
-  pub no_fault_more : i < length items → None ≡ lowest (first_rules kept.defined kept.outputs (length kept.uses.items) (get_or items i d).now)
+  pub no_fault_more : i < length items → None ≡ lowest (first_rules draft.defined draft.outputs (length draft.uses.items) (get_or items i d).now)
       → fault_from (first_rule ls) (i + 1) (length ls - (i + 1)) ≡ first_fault (first_rule ls) (length ls)
   no_fault_more lt none =
       let lt' : i < length ls = omega (arith, lines_length) in
       fault_goes_on (first_rule ls) (length ls) i _ lt' (sym (none ∙ rule_is lt)) so_far
 
-  pub after_more : (new : Lines) → i < length items → Takes kept new (i + 1) (form_of (get_or items i d).now) → IsAfter new (forms_of (take (i + 1) ls))
+  pub after_more : (new : NetlistDraft) → i < length items → Takes draft new (i + 1) (form_of (get_or items i d).now) → IsAfter new (forms_of (take (i + 1) ls))
   after_more new lt takes =
       let lt' : i < length ls = omega (arith, lines_length) in
       let number : i + 1 ≡ 1 + length (forms_of (take i ls)) = omega (arith, length-map (take i ls) form_of, length-take i ls) in
-      rw (map_more form_of ls i [] lt', ← line_is lt) (after_takes kept new (forms_of (take i ls)) _ (i + 1) number after takes)
+      rw (map_more form_of ls i [] lt', ← line_is lt) (after_takes draft new (forms_of (take i ls)) _ (i + 1) number after takes)
 
-  pub clean_after : i < length items → None ≡ lowest (first_rules kept.defined kept.outputs (length kept.uses.items) (get_or items i d).now) → AreClean (forms_of (take i ls)) → AreClean (forms_of (take (i + 1) ls))
+  pub clean_after : i < length items → None ≡ lowest (first_rules draft.defined draft.outputs (length draft.uses.items) (get_or items i d).now) → AreClean (forms_of (take i ls)) → AreClean (forms_of (take (i + 1) ls))
   clean_after lt none clean =
       let lt' : i < length ls = omega (arith, lines_length) in
-      let none' : lowest (first_rules kept.defined kept.outputs (length kept.uses.items) (get_or items i d).now) ≡ None = sym none in
-      rw (map_more form_of ls i [] lt', ← line_is lt) (clean_more (forms_of (take i ls)) kept.outputs (length kept.uses.items) (get_or items i d).now clean (rw after.defined at none'))
+      let none' : lowest (first_rules draft.defined draft.outputs (length draft.uses.items) (get_or items i d).now) ≡ None = sym none in
+      rw (map_more form_of ls i [] lt', ← line_is lt) (clean_more (forms_of (take i ls)) draft.outputs (length draft.uses.items) (get_or items i d).now clean (rw after.defined at none'))
 
   pub round_is_over : length items ≤ i
       → (first_fault (first_rule ls) (length ls) ≡ None) × (take i ls ≡ ls)

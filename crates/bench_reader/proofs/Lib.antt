@@ -11,4 +11,4 @@ pub mod NamesDiffer
 pub mod PartsOfLines
 pub mod CircuitOfLines
 pub mod ThirdRound
-pub mod Judged
+pub mod FirstFaults

@@ -15,7 +15,7 @@ use Rattle.scan_model.specs.Words.{has_word}
 use Rattle.scan_model.specs.NetlistLines.{Form, nothing, input, output, definition, no_form}
 use Rattle.scan_model.specs.NetlistRules.{new_output}
 use Rattle.scan_model.specs.NetlistText.{net_number}
-use Rattle.bench_reader.specs.Kept.{uses_undefined}
+use Rattle.bench_reader.specs.NetlistDrafts.{uses_undefined}
 
 -- the names of lists that follow each other are numbered in their order
 pub number_after : (front back : List (List ℕ)) (n : List ℕ) → IsDistinct bytes_eq (front ++ n ∷ back) → net_number (front ++ n ∷ back) n ≡ length front

@@ -9,8 +9,8 @@ use Rattle.text_parts.proofs.Places.{any_position}
 use Rattle.scan_model.specs.declared.circuit.Pin.{Pin}
 use Rattle.scan_model.specs.Words.{has_word}
 use Rattle.scan_model.specs.NetlistText.{net_number}
-use Rattle.bench_reader.specs.declared.first.Use.{Use}
-use Rattle.bench_reader.specs.Uses.{NamedUse, use_view, use_views, operand_use, use_pin, undefined_use}
+use Rattle.bench_reader.specs.declared.first_round.Use.{Use}
+use Rattle.bench_reader.specs.NetUses.{NamedUse, use_view, use_views, operand_use, use_pin, undefined_use}
 use Rattle.bench_reader.proofs.FirstRound.{enumerate_from_push}
 
 pub operand_used : (line net i : ℕ) (front uses new : List NamedUse) (ops : List (Bor (List ℕ))) (d : Bor (List ℕ)) → i < length ops

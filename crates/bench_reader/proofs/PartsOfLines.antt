@@ -18,8 +18,8 @@ use Rattle.scan_model.specs.Words.{has_word}
 use Rattle.scan_model.specs.NetlistLines.{Form, nothing, input, output, definition, no_form, driver_named, takes_one}
 use Rattle.scan_model.specs.NetlistRules.{nets_of, new_output, pins_of, defined_names}
 use Rattle.scan_model.specs.NetlistText.{net_number, line_nets, nets_after, line_pins, line_pins_after, inputs_of}
-use Rattle.bench_reader.specs.Clean.{HasItsOperands}
-use Rattle.bench_reader.specs.Uses.{operand_pin}
+use Rattle.bench_reader.specs.FaultlessLines.{HasItsOperands}
+use Rattle.bench_reader.specs.NetUses.{operand_pin}
 use Rattle.bench_reader.proofs.NamesDiffer.{number_after}
 use Rattle.bench_reader.proofs.UsesOfLines.{length-line_pins, length-line_nets}
 use Rattle.bench_reader.proofs.OneMoreNet.{IsPart, one_more_net}

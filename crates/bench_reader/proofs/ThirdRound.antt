@@ -14,7 +14,7 @@ use Rattle.scan_model.specs.NetlistRules.{forms_of, form_at, nets_of, defined_na
 use Rattle.scan_model.specs.NetlistText.{net_number, circuit_in, circuit_of, third_rule, netlist_reading}
 use Rattle.scan_model.proofs.FaultSteps.{fault_from_none}
 use Rattle.scan_model.proofs.LevelTests.{test-from_gate_level, test-from_no_level}
-use Rattle.bench_reader.specs.Kept.{net_lines_from}
+use Rattle.bench_reader.specs.NetlistDrafts.{net_lines_from}
 use Rattle.bench_reader.proofs.NamesDiffer.{number_after}
 use Rattle.bench_reader.proofs.CircuitOfLines.{length-nets_after}
 

@@ -16,10 +16,10 @@ use Rattle.scan_model.specs.TextFaults.{first_fault, refused_or}
 use Rattle.scan_model.specs.NetlistLines.{Form, nothing, input, output, definition, no_form}
 use Rattle.scan_model.specs.NetlistRules.{nets_of, new_output, outputs_of, pins_of, pins_after, defined_names, forms_of, first_rule, early_fault}
 use Rattle.scan_model.specs.NetlistText.{net_number, line_nets, nets_after, line_pins, line_pins_after, inputs_of, circuit_in}
-use Rattle.bench_reader.specs.declared.first.Lines.{Lines}
-use Rattle.bench_reader.specs.Uses.{NamedUse, operand_use, operand_pin, use_views, line_uses, uses_after, inputs_after, use_pin, undefined_use}
-use Rattle.bench_reader.specs.Kept.{lacks, uses_undefined, first_line, filled_from}
-use Rattle.bench_reader.specs.Clean.{IsRead}
+use Rattle.bench_reader.specs.declared.first_round.NetlistDraft.{NetlistDraft}
+use Rattle.bench_reader.specs.NetUses.{NamedUse, operand_use, operand_pin, use_views, line_uses, uses_after, inputs_after, use_pin, undefined_use}
+use Rattle.bench_reader.specs.NetlistDrafts.{lacks, uses_undefined, first_line, filled_from}
+use Rattle.bench_reader.specs.FaultlessLines.{IsRead}
 use Rattle.bench_reader.proofs.NamesDiffer.{number_after}
 use Rattle.bench_reader.proofs.SecondRound.{in_uses, two_rounds, none_passes}
 
@@ -195,9 +195,9 @@ early_is ls uses defined o first are names is =
     ∙ ap (option_map (λ n. (n, 7))) (sym (first_use_is (defined_names (forms_of ls)) (forms_of ls) 1 0 [] refl) ∙ sym (sym is ∙ rw (are, names) refl))
 
 -- the lists of all lines are those of the circuit
-pub lists_are : (kept : Lines) (fs : List Form) (nets : List Net) (pins : List Pin) (inputs outputs : List ℕ) → IsRead kept fs → nets ≡ kept.nets.items → inputs ≡ kept.inputs.items → pins ≡ map (use_pin kept.defined) (use_views kept.uses.items) → outputs ≡ map (net_number kept.defined) kept.outputs
+pub lists_are : (draft : NetlistDraft) (fs : List Form) (nets : List Net) (pins : List Pin) (inputs outputs : List ℕ) → IsRead draft fs → nets ≡ draft.nets.items → inputs ≡ draft.inputs.items → pins ≡ map (use_pin draft.defined) (use_views draft.uses.items) → outputs ≡ map (net_number draft.defined) draft.outputs
     → netlist nets pins inputs outputs ≡ circuit_in fs
-lists_are kept fs nets pins inputs outputs read nets_kept inputs_kept pins_by_use outputs_by_name =
+lists_are draft fs nets pins inputs outputs read nets_kept inputs_kept pins_by_use outputs_by_name =
     let defined : List (List ℕ) = defined_names fs in
     let pins_is : pins ≡ line_pins_after defined [] fs = pins_by_use ∙ rw (read.after.defined, read.after.uses) (pins_are defined read.clean.differ fs [] 1 [] refl) in
     let inputs_is : inputs ≡ map (net_number defined) (flat_map inputs_of fs) = inputs_kept ∙ read.after.inputs ∙ inputs_are defined read.clean.differ fs [] refl in

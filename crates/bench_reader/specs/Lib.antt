@@ -1,8 +1,9 @@
+-- What the contracts of netlists' texts say.
 pub mod Tokens
 pub mod Lines
-pub mod Lists
+pub mod NameLists
 pub mod FirstRules
-pub mod Uses
-pub mod Kept
-pub mod Clean
-pub mod Drafts
+pub mod NetUses
+pub mod NetlistDrafts
+pub mod FaultlessLines
+pub mod CircuitDrafts

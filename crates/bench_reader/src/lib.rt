@@ -1,11 +1,11 @@
 //! Reads ISCAS'89 `.bench` netlists.
 #![tactic(auto)]
 
-mod build;
 mod driver;
-mod first;
+mod first_round;
 mod line;
 mod reading;
+mod second_round;
 mod token;
 
 pub use reading::{NamedCircuit, read_netlist, read_netlist_named};

@@ -34,9 +34,9 @@ pub struct Line<'t, 'a> {
     pub operands: &'t [&'a [u8]],
 }
 
-// What a list of names begins with.
+// What a list of names starts with.
 #[derive(Clone, Copy)]
-enum Begins<'a> {
+enum ListStart<'a> {
     // A name and `)`, and nothing else.
     Last(&'a [u8]),
     // A name and a comma.
@@ -45,55 +45,56 @@ enum Begins<'a> {
     Other,
 }
 
-impl<'a> Begins<'a> {
-    ghost use Rattle.bench_reader.specs.Lists.{Begin};
+impl<'a> ListStart<'a> {
+    ghost use Rattle.bench_reader.specs.NameLists.{IsListStart};
 
     fn of(tokens: &[Token<'a>]) -> Self
-        ensures { Begin result (token_views tokens.now) }
+        ensures { IsListStart result (token_views tokens.now) }
     {
         let [first, more @ ..] = tokens else {
-            return Begins::Other;
+            return ListStart::Other;
         };
         let Token::Name(name) = first else {
-            return Begins::Other;
+            return ListStart::Other;
         };
         let [second, rest @ ..] = more else {
-            return Begins::Other;
+            return ListStart::Other;
         };
         match second {
-            Token::Comma => Begins::Comma(*name),
+            Token::Comma => ListStart::Comma(*name),
             Token::Close => {
                 if !rest.is_empty() {
-                    return Begins::Other;
+                    return ListStart::Other;
                 }
-                Begins::Last(*name)
+                ListStart::Last(*name)
             }
-            _ => Begins::Other,
+            _ => ListStart::Other,
         }
     }
 }
 
-// Puts the names of `name , name , .. )` in place of those that the list has; answers whether that stands there.
+// Puts the names of `name , name , .. )` in place of what the list has; answers whether that stands there.
 fn listed<'a>(names: &mut Vec<&'a [u8]>, tokens: &[Token<'a>]) -> Result<bool, AllocError>
     ensures { IfOk result (λ b. cond b (Some (nows names.new.items)) None ≡ listed_names (token_views tokens.now)) }
 {
     names.clear();
     let mut at = 0;
     while at < tokens.len() {
-        match Begins::of(&tokens[at..]) {
-            Begins::Last(name) => {
+        match ListStart::of(&tokens[at..]) {
+            ListStart::Last(name) => {
                 names.push(name)?;
                 return Ok(true);
             }
-            Begins::Comma(name) => names.push(name)?,
-            Begins::Other => return Ok(false),
+            ListStart::Comma(name) => names.push(name)?,
+            ListStart::Other => return Ok(false),
         }
         at += 2;
     }
     Ok(false)
 }
 
-// The same, or none at all.
+// Puts the operands of a definition, `name , name , .. )` or `)` alone, in place of what the list has; answers
+// whether that stands there.
 fn operands<'a>(names: &mut Vec<&'a [u8]>, tokens: &[Token<'a>]) -> Result<bool, AllocError>
     ensures { IfOk result (λ b. cond b (Some (nows names.new.items)) None ≡ operand_names (token_views tokens.now)) }
 {

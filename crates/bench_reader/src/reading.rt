@@ -7,32 +7,36 @@ ghost use Rattle.scan_model.specs.TextFaults.{HasNoFault, IsFirstInRounds, first
 ghost use Rattle.scan_model.specs.NetlistRules.{forms_of, first_rule, early_fault};
 ghost use Rattle.scan_model.specs.ScanText.{net_names};
 ghost use Rattle.scan_model.specs.NetlistText.{circuit_of, netlist_breaks, netlist_rounds, netlist_reading};
-ghost use Rattle.text_parts.specs.Gives.{Gives, IfFault};
+ghost use Rattle.text_parts.specs.ReadResults.{Gives, IfFault};
 ghost use Rattle.text_parts.specs.Views.{nows};
-ghost use Rattle.bench_reader.specs.Kept.{IsAfter, IsWithin};
-ghost use Rattle.bench_reader.specs.Uses.{use_views, uses_after};
-ghost use Rattle.bench_reader.specs.Clean.{IsRead};
+ghost use Rattle.bench_reader.specs.NetlistDrafts.{IsAfter, IsWithin};
+ghost use Rattle.bench_reader.specs.NetUses.{use_views, uses_after};
+ghost use Rattle.bench_reader.specs.FaultlessLines.{IsRead};
 
-use crate::build::{numbers_of, pins_of};
-use crate::first::{Found, Lines};
+use crate::first_round::{LineBuffers, NetlistDraft};
+use crate::second_round::{numbers_of, pins_of};
 use scan_model::{Circuit, MakeFault, Net, Pin, Rows};
 use std::alloc::Global;
 use text_parts::{Names, ReadFault, TextFault, lines_of};
 
 // Takes the lines of a netlist, up to its first fault by the first round.
-fn take_lines<'a>(alloc: Global, kept: &mut Lines<'a>, texts: &[&'a [u8]]) -> Result<(), ReadFault>
-    requires within { IsWithin kept.old }
-    requires after { IsAfter kept.old [] }
-    ensures fault { Gives (λ done. use_views kept.new.uses.items) result (refused_or (first_fault (first_rule (nows texts.now)) (length (nows texts.now))) (uses_after 1 0 [] (forms_of (nows texts.now)))) }
-    ensures read { OnOk result (IsRead kept.new (forms_of (nows texts.now))) }
+fn take_lines<'a>(
+    alloc: Global,
+    draft: &mut NetlistDraft<'a>,
+    texts: &[&'a [u8]],
+) -> Result<(), ReadFault>
+    requires within { IsWithin draft.old }
+    requires after { IsAfter draft.old [] }
+    ensures fault { Gives (λ done. use_views draft.new.uses.items) result (refused_or (first_fault (first_rule (nows texts.now)) (length (nows texts.now))) (uses_after 1 0 [] (forms_of (nows texts.now)))) }
+    ensures read { OnOk result (IsRead draft.new (forms_of (nows texts.now))) }
 {
-    let mut found = Found {
+    let mut buffers = LineBuffers {
         tokens: Vec::new(alloc),
         operands: Vec::new(alloc),
     };
     for (i, text) in texts.iter().enumerate() {
         let line = i as u64 + 1;
-        if let Some(rule) = kept.take_line(alloc, &mut found, line, text)? {
+        if let Some(rule) = draft.take_line(alloc, &mut buffers, line, text)? {
             return Err(ReadFault::Text(TextFault { line, rule }));
         }
     }
@@ -40,20 +44,20 @@ fn take_lines<'a>(alloc: Global, kept: &mut Lines<'a>, texts: &[&'a [u8]]) -> Re
 }
 
 // What the lines of a netlist say, or its first fault by the first round.
-fn first_round(alloc: Global, bytes: &[u8]) -> Result<Lines<'_>, ReadFault>
-    ensures fault { Gives (λ kept. use_views kept.uses.items) result (refused_or (first_fault (first_rule (text_lines bytes.now)) (length (text_lines bytes.now))) (uses_after 1 0 [] (forms_of (text_lines bytes.now)))) }
-    ensures read { IfOk result (λ kept. IsRead kept (forms_of (text_lines bytes.now))) }
+fn first_round(alloc: Global, bytes: &[u8]) -> Result<NetlistDraft<'_>, ReadFault>
+    ensures fault { Gives (λ draft. use_views draft.uses.items) result (refused_or (first_fault (first_rule (text_lines bytes.now)) (length (text_lines bytes.now))) (uses_after 1 0 [] (forms_of (text_lines bytes.now)))) }
+    ensures read { IfOk result (λ draft. IsRead draft (forms_of (text_lines bytes.now))) }
 {
     let texts = lines_of(alloc, bytes)?;
-    let mut kept = Lines::new(alloc, texts.len())?;
-    take_lines(alloc, &mut kept, &texts)?;
-    Ok(kept)
+    let mut draft = NetlistDraft::new(alloc, texts.len())?;
+    take_lines(alloc, &mut draft, &texts)?;
+    Ok(draft)
 }
 
 /// The lists of a circuit, which may lack levels, with the names of its nets and the number of the line that defines
 /// each.
 #[derive(Drop)]
-pub struct Draft<'a> {
+pub struct CircuitDraft<'a> {
     pub nets: Rows<Net>,
     pub pins: Rows<Pin>,
     pub inputs: Rows<u32>,
@@ -62,24 +66,24 @@ pub struct Draft<'a> {
     pub net_lines: Vec<u64>,
 }
 
-impl<'a> Draft<'a> {
-    ghost use Rattle.bench_reader.specs.Drafts.{IsDraft};
+impl<'a> CircuitDraft<'a> {
+    ghost use Rattle.bench_reader.specs.CircuitDrafts.{IsDraft};
 
     // The draft of a netlist, or its first fault by the first two rounds.
     fn read(alloc: Global, bytes: &'a [u8]) -> Result<Self, ReadFault>
         ensures fault { Gives (λ d. netlist d.nets d.pins d.inputs d.outputs) result (refused_or (early_fault (text_lines bytes.now)) (circuit_of bytes.now)) }
         ensures draft { IfOk result (λ d. IsDraft d (forms_of (text_lines bytes.now))) }
     {
-        let kept = first_round(alloc, bytes)?;
-        let pins = pins_of(alloc, &kept.defined, &kept.uses)?;
-        let outputs = numbers_of(alloc, &kept.defined, kept.outputs.as_slice())?;
-        Ok(Draft {
-            nets: Rows::from_vec(kept.nets),
+        let draft = first_round(alloc, bytes)?;
+        let pins = pins_of(alloc, &draft.defined, &draft.uses)?;
+        let outputs = numbers_of(alloc, &draft.defined, draft.outputs.as_slice())?;
+        Ok(CircuitDraft {
+            nets: Rows::from_vec(draft.nets),
             pins,
-            inputs: Rows::from_vec(kept.inputs),
+            inputs: Rows::from_vec(draft.inputs),
             outputs,
-            names: kept.defined,
-            net_lines: kept.net_lines,
+            names: draft.defined,
+            net_lines: draft.net_lines,
         })
     }
 }
@@ -98,7 +102,7 @@ pub fn read_netlist_named(alloc: Global, bytes: &[u8]) -> Result<NamedCircuit<'_
     ensures none { IfOk result (λ n. HasNoFault (netlist_breaks (text_lines bytes.now)) (length (text_lines bytes.now))) }
     ensures names { IfOk result (λ n. n.names ≡ net_names n.circuit.nets) }
 {
-    let draft = Draft::read(alloc, bytes)?;
+    let draft = CircuitDraft::read(alloc, bytes)?;
     match Circuit::make(alloc, draft.nets, draft.pins, draft.inputs, draft.outputs) {
         Ok(circuit) => Ok(NamedCircuit {
             circuit,

@@ -14,7 +14,7 @@ use Rattle.scan_model.specs.ScanTest.{same_pair}
 use Rattle.scan_model.proofs.FaultSteps.{fault_goes_on, fault_is_here, fault_is_none}
 use Rattle.text_parts.proofs.Places.{any_position}
 use Rattle.bridge_pairs.specs.PairText.{TwoNames, trimmed, record_at, nets_named, has_other_form, numbered, is_named, with_pair, pairs_before, pairs_in, pair_rules, pair_rule, pairs_fault, naming, names_no_net, names_one_net, names_too_many, pair_limit}
-use Rattle.bridge_pairs.specs.NamedNets.{AreNamed}
+use Rattle.bridge_pairs.specs.NamedPairs.{AreNamed}
 
 pub none_named : (nets : ℕ) → AreNamed nets []
 unfolding IsDistinct

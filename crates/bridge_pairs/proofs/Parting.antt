@@ -14,7 +14,7 @@ use Rattle.scan_model.specs.Netlist.{Netlist}
 use Rattle.scan_model.specs.Cone.{in_fan_in}
 use Rattle.scan_model.specs.ScanTest.{same_pair, IsNoFeedback, ArePairs}
 use Rattle.bridge_pairs.specs.PairText.{is_feedback, parted}
-use Rattle.bridge_pairs.specs.NamedNets.{AreNamed}
+use Rattle.bridge_pairs.specs.NamedPairs.{AreNamed}
 
 kept_one : (b : Bool) (p : Pair) → cond (not b) (p ∷ []) [] ≡ cond b [] (p ∷ [])
 kept_one true p = refl

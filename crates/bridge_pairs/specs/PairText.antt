@@ -13,7 +13,7 @@ use Rattle.scan_model.specs.TextFaults.{breaks, lowest, first_fault, refused_or}
 use Rattle.scan_model.specs.NetlistText.{net_number}
 use Rattle.scan_model.specs.ScanText.{net_names}
 use Rattle.scan_model.specs.ScanTest.{same_pair}
-use Rattle.text_parts.specs.Ended.{ended}
+use Rattle.text_parts.specs.TextEnd.{ended}
 
 -- the most different pairs that a list may name, kept and left out together
 abbrev pub pair_limit : ℕ

@@ -1,3 +1,5 @@
+//! The fields of a record: two names of nets, or the header.
+
 ghost use Rattle.std.specs.Prelude.{◌≡◌, map, option_map};
 ghost use Rattle.csv.specs.Records.{fields_of};
 ghost use Rattle.bridge_pairs.specs.PairText.{after_blanks, trimmed, two_names, is_header};

@@ -2,7 +2,7 @@
 #![tactic(auto)]
 
 mod fields;
-mod named;
+mod named_pairs;
 mod ranks;
 mod reading;
 mod records;

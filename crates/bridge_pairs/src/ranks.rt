@@ -1,3 +1,5 @@
+//! The ranks of nets in an order of evaluation.
+
 ghost use Rattle.std.specs.Prelude.{◌≡◌, ◌<◌, ◌≤◌, ℕ, length, All, IfOk, slice_index};
 ghost use Rattle.scan_model.specs.Walks.{IsEvaluationOrder};
 ghost use Rattle.bridge_pairs.specs.Ranks.{RanksFrom, IsRanked, start_of, target_of};
@@ -8,7 +10,7 @@ use std::alloc::Global;
 /// A circuit with an order of evaluation and the rank of each net in it: 0 for a net that is no gate, else the gate's
 /// place, counted from 1. What a net reads through gates has a lower rank.
 #[derive(Clone, Copy)]
-pub struct Ranked<'a> {
+pub struct RankedCircuit<'a> {
     pub circuit: &'a Circuit,
     pub order: &'a [u32],
     pub ranks: &'a [u32],
@@ -48,9 +50,9 @@ pub fn in_order(ranks: &[u32], pair: &Pair) -> (usize, usize)
     if ranks[a] <= ranks[b] { (a, b) } else { (b, a) }
 }
 
-/// Between which places of the order a sweep for a batch of pairs runs: behind the lowest start, up to the highest
+/// Between which places of the order a sweep for a batch of pairs runs: after the lowest start, up to the highest
 /// target.
-pub fn window(ranked: &Ranked<'_>, batch: &[Pair]) -> (usize, usize)
+pub fn window(ranked: &RankedCircuit<'_>, batch: &[Pair]) -> (usize, usize)
     requires ranked { IsRanked ranked.now.circuit.now ranked.now.order.now ranked.now.ranks.now }
     requires nets { All (λ p. (p.a < length ranked.now.circuit.now.nets) × (p.b < length ranked.now.circuit.now.nets)) batch.now }
     ensures low { All (λ p. result.0 ≤ slice_index ranked.now.ranks.now (start_of ranked.now.ranks.now p)) batch.now }

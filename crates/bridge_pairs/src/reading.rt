@@ -1,12 +1,14 @@
+//! A whole list of neighbouring nets.
+
 ghost use Rattle.std.specs.Prelude.{◌≡◌, ◌≤◌, length, IfOk};
 ghost use Rattle.scan_model.specs.TextFaults.{HasNoFault, IsFirstFault};
 ghost use Rattle.scan_model.specs.ScanText.{net_names};
 ghost use Rattle.scan_model.specs.ScanTest.{ArePairs};
-ghost use Rattle.text_parts.specs.Gives.{Gives, IfFault};
+ghost use Rattle.text_parts.specs.ReadResults.{Gives, IfFault};
 ghost use Rattle.bridge_pairs.specs.PairText.{records_in, naming, pairs_break, pairs_reading};
-ghost use Rattle.bridge_pairs.specs.NamedNets.{AreNamed};
+ghost use Rattle.bridge_pairs.specs.NamedPairs.{AreNamed};
 
-use crate::named::NamedPairs;
+use crate::named_pairs::NamedPairs;
 use crate::records::records_of;
 use crate::sweep::part;
 use scan_model::{Circuit, Pair, Pairs};
@@ -30,7 +32,8 @@ fn named_pairs(alloc: Global, names: &Names<'_>, bytes: &[u8]) -> Result<Vec<Pai
     Ok(named.into_vec())
 }
 
-/// The same as `read_pairs`, by the names of the circuit's nets.
+/// The pairs that a list of neighbouring nets names, or its first fault by rules 31 to 34, where the names of the
+/// circuit's nets are there already.
 pub fn read_pairs_named(
     alloc: Global,
     circuit: &Circuit,

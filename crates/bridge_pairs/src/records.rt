@@ -1,7 +1,9 @@
+//! The records of a list, read by the `csv` crate.
+
 ghost use Rattle.std.specs.Prelude.{◌≡◌, IfOk, map};
 ghost use Rattle.csv.specs.Reading.{default_config, records, strip_bom};
 ghost use Rattle.csv.specs.Records.{fields_of};
-ghost use Rattle.text_parts.specs.Ended.{is_ended, ended};
+ghost use Rattle.text_parts.specs.TextEnd.{is_ended, ended};
 
 use csv::{ByteRecord, ReaderBuilder};
 use scan_model::NoMemory;

@@ -1,3 +1,5 @@
+//! Which pairs are feedback pairs: sweeps over the gates, each for 512 pairs.
+
 ghost use Rattle.std.specs.Prelude.{◌≡◌, ◌<◌, ◌≤◌, ◌==◌, [], ◌∷◌, ◌++◌, ◌≢◌, ◌||◌, ℕ, if◌then◌else◌, length, filter, not, All, IfOk, OnOk, slice_index_or};
 ghost use Rattle.std.specs.List.{list_any};
 ghost use Rattle.scan_model.specs.Netlist.{reads};
@@ -6,7 +8,7 @@ ghost use Rattle.bridge_pairs.specs.PairText.{is_feedback, parted};
 ghost use Rattle.bridge_pairs.specs.PairRows.{has_pair, IsBlank};
 ghost use Rattle.bridge_pairs.specs.Ranks.{IsRanked, start_of, target_of};
 
-use crate::ranks::{Ranked, in_order, ranks_of, window};
+use crate::ranks::{RankedCircuit, in_order, ranks_of, window};
 use lane_rows::Row;
 use scan_model::{Circuit, NoMemory, Pair, Pairs, Rows};
 use std::alloc::Global;
@@ -56,7 +58,7 @@ fn set_starts(rows: &mut [Row], ranks: &[u32], batch: &[Pair])
 }
 
 /// Gives the fan-out cone of the start of pair j lane j, up to the batch's highest target.
-fn sweep(ranked: &Ranked<'_>, rows: &mut [Row], batch: &[Pair])
+fn sweep(ranked: &RankedCircuit<'_>, rows: &mut [Row], batch: &[Pair])
     requires ranked { IsRanked ranked.now.circuit.now ranked.now.order.now ranked.now.ranks.now }
     requires rows { length rows.old ≡ length ranked.now.circuit.now.nets }
     requires nets { All (λ p. (p.a < length ranked.now.circuit.now.nets) × (p.b < length ranked.now.circuit.now.nets)) batch.now }
@@ -88,7 +90,7 @@ fn add_parted(parts: &mut Pairs, pair: Pair, is_feedback: bool) -> Result<(), No
 
 /// Adds a batch of pairs at the ends of those kept and those left out.
 fn part_batch(
-    ranked: &Ranked<'_>,
+    ranked: &RankedCircuit<'_>,
     rows: &mut [Row],
     batch: &[Pair],
     parts: &mut Pairs,
@@ -111,8 +113,8 @@ fn part_batch(
     Ok(())
 }
 
-/// Takes all lanes away that an earlier batch has left.
-fn clear_behind(rows: &mut [Row], at: usize)
+/// Clears the rows of the lanes that an earlier batch has left.
+fn clear_rows(rows: &mut [Row], at: usize)
     requires { at ≡ 0 → IsBlank rows.old }
     ensures len { length rows.new ≡ length rows.old }
     ensures blank { IsBlank rows.new }
@@ -124,7 +126,7 @@ fn clear_behind(rows: &mut [Row], at: usize)
 
 /// Adds all pairs, batch by batch.
 fn part_all(
-    ranked: &Ranked<'_>,
+    ranked: &RankedCircuit<'_>,
     rows: &mut [Row],
     pairs: &[Pair],
     parts: &mut Pairs,
@@ -139,7 +141,7 @@ fn part_all(
 {
     let mut at = 0;
     while at < pairs.len() {
-        clear_behind(rows, at);
+        clear_rows(rows, at);
         let end = pairs.len().min(at + BATCH);
         part_batch(ranked, rows, &pairs[at..end], parts)?;
         at = end;
@@ -155,7 +157,7 @@ pub fn part(alloc: Global, circuit: &Circuit, pairs: &[Pair]) -> Result<Pairs, N
     let order = circuit.order().as_slice();
     let ranks = ranks_of(alloc, circuit, order)?;
     let mut rows = vec![in alloc; Row::none(); circuit.nets().len()]?;
-    let ranked = Ranked {
+    let ranked = RankedCircuit {
         circuit,
         order,
         ranks: &ranks,

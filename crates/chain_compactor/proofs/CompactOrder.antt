@@ -10,8 +10,8 @@ use Rattle.std.proofs.Math.Nat.{add-mul}
 use Rattle.std.proofs.lemmas.List.Elements.{Contains-append_right, All-nil, All-cons, All-append, All-map}
 use Rattle.scan_model.specs.declared.parts.Point.{Point}
 use Rattle.scan_model.specs.declared.parts.Point.TheVariants.{Output, Cell}
-use Rattle.fail_logs.specs.IsFrame.{ArePoints, IsPointOf}
-use Rattle.fail_logs.proofs.Rising.{Rising, Below, Rising-append, Rising-weaken, Rising-lt}
+use Rattle.fail_logs.specs.FrameFacts.{ArePoints, IsPointOf}
+use Rattle.fail_logs.proofs.RisingLists.{Rising, Below, Rising-append, Rising-weaken, Rising-lt}
 use Rattle.fail_logs.proofs.Whole.{range_below, All-flat_map}
 use Rattle.fail_logs.proofs.TestOrder.{contains_here, contains_later, in_cycles, rising_outputs, rising_blocks, map-flat_map}
 use Rattle.chain_compactor.specs.Channels.{greatest, shown_in, points_over}

@@ -6,8 +6,8 @@ use Rattle.scan_model.specs.ScanTest.{ScanTest}
 use Rattle.scan_model.specs.TextFaults.{HasNoFault, IsFirstFault}
 use Rattle.scan_model.proofs.FirstFaults.{IsLowest, lowest_is, has_none, is_first}
 use Rattle.text_parts.specs.declared.fault.ReadFault.{ReadFault}
-use Rattle.text_parts.specs.Gives.{Gives, IfFault}
-use Rattle.text_parts.proofs.Judged.{judged_first, judged_none}
+use Rattle.text_parts.specs.ReadResults.{Gives, IfFault}
+use Rattle.text_parts.proofs.FirstFaults.{judged_first, judged_none}
 use Rattle.chain_compactor.specs.Channels.{Compactor}
 use Rattle.chain_compactor.specs.ChannelText.{channel_table, channel_rule, channel_breaks, channel_fault, channel_reading, compactor_of_lines}
 

@@ -17,7 +17,7 @@ use Rattle.scan_model.specs.ScanTest.{ScanTest, IsScanTest, IsPoint, points_of, 
 use Rattle.scan_model.specs.Coverage.{bit_of}
 use Rattle.scan_model.specs.Response.{observed, predicts_fail}
 use Rattle.scan_model.proofs.counting.Shown.{not_opposite_itself, predicts_fail-is}
-use Rattle.fail_logs.specs.IsFrame.{IsPointOf, point_among}
+use Rattle.fail_logs.specs.FrameFacts.{IsPointOf, point_among}
 use Rattle.fail_logs.proofs.TestOrder.{contains_here, contains_later, output_stands, cell_stands}
 use Rattle.chain_compactor.specs.Channels.{Compactor, IsCompactorOf, no_channel, channel_at, chain_length, cycles_of}
 use Rattle.chain_compactor.specs.Compaction.{cell_shown, cells_shown, members, compact_value, predicts_compact_fail}

@@ -10,7 +10,7 @@ use Rattle.scan_model.specs.declared.parts.Point.TheVariants.{Output, Cell}
 use Rattle.scan_model.specs.ScanTest.{ScanTest, IsPoint}
 use Rattle.scan_model.proofs.Orders.{filter_range_all}
 use Rattle.fail_logs.specs.BitNumbers.{place_in}
-use Rattle.fail_logs.specs.IsFrame.{ArePoints, point_among}
+use Rattle.fail_logs.specs.FrameFacts.{ArePoints, point_among}
 use Rattle.fail_logs.proofs.TestFrame.{cells_at}
 use Rattle.fault_effects.proofs.NetPoints.{filtered}
 use Rattle.chain_compactor.specs.Channels.{Compactor, IsCompactorOf, no_channel, channel_at, chain_length, cycles_of, greatest}

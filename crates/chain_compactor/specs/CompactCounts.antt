@@ -10,7 +10,7 @@ use Rattle.lane_rows.specs.Planes.{Planes, held}
 use Rattle.lane_rows.specs.Sources.{no_planes}
 use Rattle.place_sets.specs.Places.{has_place}
 use Rattle.lane_rows.specs.GoodRows.{pattern_of}
-use Rattle.fail_logs.specs.IsFrame.{point_among}
+use Rattle.fail_logs.specs.FrameFacts.{point_among}
 use Rattle.fault_effects.specs.FaultModel.{Table}
 use Rattle.chain_compactor.specs.Channels.{Compactor}
 use Rattle.chain_compactor.specs.Compaction.{compact_value}

@@ -10,7 +10,7 @@ use Rattle.scan_model.specs.ScanTest.{ScanTest}
 use Rattle.scan_model.specs.Universe.{universe}
 use Rattle.scan_model.specs.Ranking.{ranked}
 use Rattle.scan_model.specs.ReportText.{ReportForm, point_words, fault_words, no_fault, layout_with, joined}
-use Rattle.fail_logs.specs.IsFrame.{point_among}
+use Rattle.fail_logs.specs.FrameFacts.{point_among}
 use Rattle.chain_compactor.specs.Channels.{Compactor, channel_at}
 use Rattle.chain_compactor.specs.Compaction.{compact_bits, compact_class, compact_candidates}
 

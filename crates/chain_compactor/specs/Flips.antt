@@ -11,7 +11,7 @@ use Rattle.scan_model.specs.ScanTest.{ScanTest}
 use Rattle.scan_model.specs.NetValue.{good_value}
 use Rattle.scan_model.specs.Suspect.{observed_net}
 use Rattle.scan_model.specs.Masks.{flipped, place_is_point}
-use Rattle.fail_logs.specs.IsFrame.{point_among}
+use Rattle.fail_logs.specs.FrameFacts.{point_among}
 use Rattle.chain_compactor.specs.Channels.{Compactor}
 use Rattle.chain_compactor.specs.Compaction.{members}
 

@@ -2,7 +2,7 @@
 use Rattle.std.specs.Prelude.{length}
 use Rattle.scan_model.specs.declared.parts.Point.{Point}
 use Rattle.scan_model.specs.ScanTest.{ScanTest}
-use Rattle.fail_logs.specs.IsFrame.{IsPointOf}
+use Rattle.fail_logs.specs.FrameFacts.{IsPointOf}
 use Rattle.chain_compactor.specs.Channels.{Compactor}
 
 -- an output of the test or a channel of the compactor

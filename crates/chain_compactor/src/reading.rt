@@ -3,7 +3,7 @@
 ghost use Rattle.std.specs.Prelude.{◌≡◌, ◌≤◌, [], length, IfOk, OnOk};
 ghost use Rattle.scan_model.specs.Lines.{text_lines};
 ghost use Rattle.scan_model.specs.TextFaults.{HasNoFault, IsFirstFault, first_fault, refused_or};
-ghost use Rattle.text_parts.specs.Gives.{Gives, IfFault};
+ghost use Rattle.text_parts.specs.ReadResults.{Gives, IfFault};
 ghost use Rattle.text_parts.specs.Views.{nows};
 ghost use Rattle.chain_compactor.specs.Channels.{IsCompactorOf, compactor_of};
 ghost use Rattle.chain_compactor.specs.ChannelText.{chain_names, channel_rule, channel_breaks, channel_reading, compactor_of_lines};

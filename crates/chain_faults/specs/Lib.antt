@@ -1,0 +1,1 @@
+-- The contracts of this crate cite `scan_model/specs/ChainShift`.

@@ -2,7 +2,7 @@
 use Rattle.std.proofs.Common.{◌≡◌, ◌≤◌, ℕ, List, length, Some, Result, Ok, Err, refl}
 use Rattle.text_parts.specs.declared.fault.ReadFault.{ReadFault}
 use Rattle.text_parts.specs.declared.fault.ReadFault.TheVariants as read_fault
-use Rattle.text_parts.specs.Gives.{Gives}
+use Rattle.text_parts.specs.ReadResults.{Gives}
 use Rattle.desk_outside.specs.declared.shelf.File.{File}
 use Rattle.desk_outside.specs.Files.{text_of}
 use Rattle.diagnosis.specs.Texts.{by_rules}

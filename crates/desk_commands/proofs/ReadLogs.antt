@@ -3,7 +3,7 @@ use Rattle.std.proofs.Common.{◌≡◌, ◌∙◌, ◌<◌, ◌≤◌, ◌+◌,
 use Rattle.std.proofs.lemmas.List.{drop-map, drop_more}
 use Rattle.text_parts.specs.declared.fault.ReadFault.{ReadFault}
 use Rattle.text_parts.specs.declared.fault.ReadFault.TheVariants as read_fault
-use Rattle.text_parts.specs.Gives.{Fails}
+use Rattle.text_parts.specs.ReadResults.{Fails}
 use Rattle.desk_outside.specs.declared.shelf.File.{File}
 use Rattle.desk_outside.specs.Files.{text_of}
 use Rattle.scan_model.specs.declared.logs.LogFacts.{LogFacts}

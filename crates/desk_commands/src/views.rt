@@ -7,7 +7,7 @@ ghost use Rattle.scan_model.specs.Coverage.{FitsLog};
 ghost use Rattle.scan_model.specs.LogText.{LogFrame, log_reading};
 ghost use Rattle.scan_model.specs.Words.{has_word};
 ghost use Rattle.scan_model.specs.DieReport.{different};
-ghost use Rattle.text_parts.specs.Gives.{Gives};
+ghost use Rattle.text_parts.specs.ReadResults.{Gives};
 ghost use Rattle.log_join.specs.Joining.{StandsFor};
 ghost use Rattle.desk_commands.specs.Logs.{AreJoined, IsJoinedFor, StandsForSome, read_logs};
 ghost use Rattle.desk_commands.specs.Stops.{Follows, ends_by_fault};

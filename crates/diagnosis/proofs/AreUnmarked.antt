@@ -1,6 +1,6 @@
 -- Texts of which no line begins with `%`.
 use Rattle.std.specs.Prelude.{◌≡◌, false, All}
-use Rattle.text_parts.specs.Ended.{ended}
+use Rattle.text_parts.specs.TextEnd.{ended}
 use Rattle.diagnosis.specs.Texts.{FourTexts}
 use Rattle.diagnosis.specs.Bundle.{is_mark, pieces}
 

@@ -5,7 +5,7 @@ use Rattle.std.specs.Str.Lines.{strip_carriage_return}
 use Rattle.std.proofs.Math.Seq.{get_or-append_seam}
 use Rattle.std.proofs.lemmas.List.Elements.{All-nil, All-cons, All-head, All-tail}
 use Rattle.scan_model.specs.Lines.{text_lines}
-use Rattle.text_parts.specs.Ended.{is_ended, ended}
+use Rattle.text_parts.specs.TextEnd.{is_ended, ended}
 use Rattle.diagnosis.specs.Bundle.{is_mark, pieces, joined}
 use Rattle.diagnosis.proofs.LineEnds.{HasNoEnd, with_ends, with_end, with_ends-append, in_lines, lines-with_ends, pieces-with_ends}
 

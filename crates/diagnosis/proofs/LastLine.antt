@@ -6,7 +6,7 @@ use Rattle.std.proofs.Math.Seq.{get_or-append_seam}
 use Rattle.std.proofs.lemmas.Bool.{or_parts}
 use Rattle.std.proofs.lemmas.List.Splits.{slice_split_none}
 use Rattle.scan_model.specs.Lines.{text_lines, is_accepted, has_refused_byte}
-use Rattle.text_parts.specs.Ended.{is_ended, ended}
+use Rattle.text_parts.specs.TextEnd.{is_ended, ended}
 use Rattle.diagnosis.proofs.LineEnds.{HasNoEnd, with_end, with_ends-append, in_lines, lines-with_ends}
 
 differs_from_cr : (b : ℕ) → not (is_accepted b) ≡ false → eqb b 13 ≡ false

@@ -6,7 +6,7 @@ use Rattle.std.proofs.lemmas.Bool.Decides.{nat_tests}
 use Rattle.std.proofs.lemmas.List.Elements.{All-nil, All-cons, All-head, All-tail}
 use Rattle.std.proofs.lemmas.List.Splits.{slice_split_at, length-slice_split}
 use Rattle.scan_model.specs.Lines.{text_lines}
-use Rattle.text_parts.specs.Ended.{is_ended}
+use Rattle.text_parts.specs.TextEnd.{is_ended}
 use Rattle.diagnosis.specs.Bundle.{pieces}
 
 abbrev pub HasNoEnd : List ℕ → Type 0

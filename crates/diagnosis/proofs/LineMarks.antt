@@ -8,7 +8,7 @@ use Rattle.std.proofs.lemmas.List.{length-map, get_or-map}
 use Rattle.std.proofs.lemmas.List.Elements.{All-nil, All-cons, All-tail}
 use Rattle.std.proofs.lemmas.List.Splits.{length-slice_split}
 use Rattle.scan_model.specs.Lines.{text_lines}
-use Rattle.text_parts.specs.Ended.{is_ended, ended}
+use Rattle.text_parts.specs.TextEnd.{is_ended, ended}
 use Rattle.diagnosis.specs.Bundle.{is_mark, pieces}
 use Rattle.diagnosis.proofs.Percents.{has_percent}
 

@@ -7,7 +7,7 @@ use Rattle.scan_model.specs.Coverage.{FitsLog}
 use Rattle.scan_model.specs.Lines.{text_lines}
 use Rattle.scan_model.specs.ScanTest.{ScanTest, IsScanTest, points_of}
 use Rattle.scan_model.specs.LogText.{LogFrame, LogLine, log_frame, log_fault, log_reading, log_of_lines, later_lines, is_shift}
-use Rattle.fail_logs.specs.IsFrame.{IsFrame}
+use Rattle.fail_logs.specs.FrameFacts.{IsFrame}
 use Rattle.fail_logs.specs.Places.{places_in}
 use Rattle.fail_logs.proofs.Accepted.{faultless}
 use Rattle.fail_logs.proofs.TestFrame.{frame_is_sound, test_points}

@@ -12,7 +12,7 @@ use Rattle.scan_model.specs.Lines.{is_blank}
 use Rattle.scan_model.specs.Words.{has_word}
 use Rattle.scan_model.specs.TextFaults.{lowest}
 use Rattle.scan_model.proofs.FaultSteps.{fault_from-clean}
-use Rattle.text_parts.specs.Ended.{ended}
+use Rattle.text_parts.specs.TextEnd.{ended}
 use Rattle.bridge_pairs.specs.PairText.{after_blanks, trimmed, records_in, record_at, two_names, is_header, has_other_form, names_no_net, names_one_net, names_too_many, nets_named, pairs_before, pair_rules, pair_rule, pairs_fault}
 use Rattle.diagnosis.proofs.Percents.{has_percent, some_field, some_record}
 use Rattle.diagnosis.proofs.FieldPercents.{records_percent}

@@ -13,7 +13,7 @@ use Rattle.scan_model.specs.NetlistRules.{first_rule, second_rule, early_fault}
 use Rattle.scan_model.specs.NetlistText.{third_rule, netlist_fault, netlist_reading, circuit_of}
 use Rattle.scan_model.specs.ScanText.{net_names, scan_fault, scan_reading, chains_of}
 use Rattle.scan_model.specs.PatternText.{pattern_frame, pattern_fault, pattern_reading, patterns_of}
-use Rattle.text_parts.specs.Ended.{ended}
+use Rattle.text_parts.specs.TextEnd.{ended}
 use Rattle.bridge_pairs.specs.PairText.{records_in, pairs_in, pairs_fault, pairs_reading, parted}
 use Rattle.diagnosis.specs.Texts.{FourTexts}
 use Rattle.diagnosis.specs.Bundle.{is_mark, pieces, texts_reading}

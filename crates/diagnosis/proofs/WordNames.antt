@@ -22,8 +22,8 @@ use Rattle.scan_model.specs.NetlistLines.{Form}
 use Rattle.scan_model.specs.NetlistRules.{forms_of, defined_names, outputs_of, first_rule, second_rule, early_fault}
 use Rattle.scan_model.specs.NetlistText.{net_number, nets_after, circuit_in, circuit_of, third_rule, netlist_fault, netlist_reading}
 use Rattle.scan_model.specs.ScanText.{ChainNames, chain_of, chains, numbered, chains_of, scan_fault, scan_reading}
-use Rattle.bench_reader.specs.Clean.{AreKnown}
-use Rattle.bench_reader.specs.Kept.{filled_from, first_line, uses_undefined}
+use Rattle.bench_reader.specs.FaultlessLines.{AreKnown}
+use Rattle.bench_reader.specs.NetlistDrafts.{filled_from, first_line, uses_undefined}
 use Rattle.bench_reader.proofs.CircuitOfLines.{names_after, length-nets_after}
 use Rattle.bench_reader.proofs.NamesDiffer.{number_in_range, outputs_all, outputs_none}
 use Rattle.bench_reader.proofs.SecondRound.{two_rounds, none_passes}

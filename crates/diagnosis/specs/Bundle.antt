@@ -8,7 +8,7 @@ use Rattle.scan_model.specs.declared.fault.Profile.TheVariants.{One, Two}
 use Rattle.scan_model.specs.ScanTest.{ScanTest}
 use Rattle.scan_model.specs.Lines.{text_lines, line_at}
 use Rattle.scan_model.specs.TextFaults.{first_fault}
-use Rattle.text_parts.specs.Ended.{ended}
+use Rattle.text_parts.specs.TextEnd.{ended}
 use Rattle.diagnosis.specs.declared.section.Section.{Section}
 use Rattle.diagnosis.specs.declared.section.Section.TheVariants.{Bundle, Netlist, Scan, Patterns, Neighbours}
 use Rattle.diagnosis.specs.Texts.{FourTexts, Place, Source, value, and_then, source_reading}

@@ -1,7 +1,7 @@
 //! The profile and the four texts in a bundle.
 ghost use Rattle.std.specs.Prelude.{◌≡◌, ◌<◌, ◌≤◌, ◌^◌, ◌+◌, ℕ, List, true, [], ◌∷◌, ◌++◌, length, None, Some, IfOk, IfErr, IfSome, IfNone, OnOk};
 ghost use Rattle.scan_model.specs.Lines.{text_lines};
-ghost use Rattle.text_parts.specs.Ended.{is_ended, ended};
+ghost use Rattle.text_parts.specs.TextEnd.{is_ended, ended};
 ghost use Rattle.diagnosis.specs.Bundle.{is_mark, pieces, sections, marks_fault, texts_in, behind_line, profile_of, marked_part, lines_before, bundle_fault, bundle_texts, named_text, bundle_text};
 ghost use Rattle.diagnosis.specs.BundleRest.{marker, line_in, is_at_mark, is_due, rest_fault, rest_texts, HasRoom};
 ghost use Rattle.diagnosis.specs.Sections.{four_texts};

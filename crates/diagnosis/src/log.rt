@@ -2,7 +2,7 @@
 ghost use Rattle.std.specs.Prelude.{◌≡◌, true, IfOk};
 ghost use Rattle.scan_model.specs.Words.{is_tag};
 ghost use Rattle.scan_model.specs.LogText.{log_frame, log_reading};
-ghost use Rattle.text_parts.specs.Gives.{Gives};
+ghost use Rattle.text_parts.specs.ReadResults.{Gives};
 ghost use Rattle.diagnosis.specs.Designs.{IsLogOf};
 ghost use Rattle.diagnosis.specs.Cases.{IsLogOver};
 

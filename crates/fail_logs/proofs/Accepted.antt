@@ -19,12 +19,12 @@ use Rattle.scan_model.specs.LogText.{LogFrame, LogLine, Headers, die_line, desig
 use Rattle.scan_model.proofs.FaultSteps.{fault_from-clean}
 use Rattle.fail_logs.specs.BitNumbers.{point_named, number_named, numbers_named}
 use Rattle.fail_logs.specs.Groups.{IsGroupIn}
-use Rattle.fail_logs.specs.Kept.{with_line, EndsBelow}
-use Rattle.fail_logs.specs.Taken.{later_by, later_of, headers_after}
-use Rattle.fail_logs.specs.IsFrame.{IsFrame}
+use Rattle.fail_logs.specs.HeaderLines.{with_line, EndsBelow}
+use Rattle.fail_logs.specs.LogDrafts.{later_by, later_of, headers_after}
+use Rattle.fail_logs.specs.FrameFacts.{IsFrame}
 use Rattle.fail_logs.proofs.Later.{later_push, headers_push}
 use Rattle.fail_logs.proofs.Loop.{differs}
-use Rattle.fail_logs.proofs.Named.{holds, found_by_any, filter_map-cons, point_named-below}
+use Rattle.fail_logs.proofs.NamedPoints.{holds, found_by_any, filter_map-cons, point_named-below}
 
 -- a later line breaks none of the rules on its range, its place and its pattern
 pub record IsAccepted (frame : LogFrame) (h : Headers) (l : LogLine) : Type 0 where

@@ -22,11 +22,11 @@ use Rattle.scan_model.specs.LogTextV1 as v1
 use Rattle.scan_model.specs.LogTextV1.{LogV1, covers_v1}
 use Rattle.text_parts.specs.declared.fault.ReadFault.{ReadFault}
 use Rattle.text_parts.specs.declared.fault.ReadFault.TheVariants.{Text, NoMemory}
-use Rattle.text_parts.specs.Gives.{Gives}
-use Rattle.fail_logs.specs.GivesV1.{SaysAsBefore, GivesV1}
-use Rattle.fail_logs.specs.Taken.{later_of}
+use Rattle.text_parts.specs.ReadResults.{Gives}
+use Rattle.fail_logs.specs.ReadResultsV1.{SaysAsBefore, GivesV1}
+use Rattle.fail_logs.specs.LogDrafts.{later_of}
 use Rattle.fail_logs.proofs.Accepted.{NoneBroken, none_broken, ranges_there}
-use Rattle.fail_logs.proofs.Named.{holds}
+use Rattle.fail_logs.proofs.NamedPoints.{holds}
 use Rattle.fail_logs.proofs.Later.{later_push, filled_push}
 use Rattle.fail_logs.proofs.Whole.{was_read}
 use Rattle.scan_model.proofs.FaultSteps.{fault_from-clean}

@@ -11,8 +11,8 @@ use Rattle.std.proofs.lemmas.List.Folds.{Any-from_list_any, list_any_at}
 use Rattle.std.proofs.lemmas.List.Kept.{AllPairs-from_increasing}
 use Rattle.scan_model.specs.Coverage.{bit_of}
 use Rattle.fail_logs.specs.BitNumbers.{bit_numbered}
-use Rattle.fail_logs.specs.Rising.{IsRisingOf}
-use Rattle.fail_logs.proofs.Rising.{Rising, Below, has_number, rising_is_filter}
+use Rattle.fail_logs.specs.RisingNumbers.{IsRisingOf}
+use Rattle.fail_logs.proofs.RisingLists.{Rising, Below, has_number, rising_is_filter}
 
 -- a range in two parts
 pub range_split : (a n m t : ℕ) → n + m ≡ t → range_with_len a t ≡ range_with_len a n ++ range_with_len (a + n) m

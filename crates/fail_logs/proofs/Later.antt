@@ -9,9 +9,9 @@ use Rattle.scan_model.specs.declared.logs.LogForm.{LogForm}
 use Rattle.scan_model.specs.TextFaults.{or_else}
 use Rattle.scan_model.specs.Words.{has_words}
 use Rattle.scan_model.specs.LogText.{LogLine, Headers, die_line, design_line, tested_line, out_line, cell_line, cut_out_line, cut_chain_line, end_line, truncated_line, other_line, LogFrame, log_line, version_of, first_version, lines_after, is_end, is_truncated, is_die, is_design, is_entry, range_of, group_cut, headers_in, is_closed}
-use Rattle.fail_logs.specs.Kept.{with_line}
+use Rattle.fail_logs.specs.HeaderLines.{with_line}
 use Rattle.fail_logs.specs.BitNumbers.{number_named, numbers_named}
-use Rattle.fail_logs.specs.Taken.{title_after, later_by, later_of, headers_after, closed_after, truncated_after, fails_after, cuts_after}
+use Rattle.fail_logs.specs.LogDrafts.{title_after, later_by, later_of, headers_after, closed_after, truncated_after, fails_after, cuts_after}
 
 pub or_false : (b : Bool) → (b || false) ≡ b
 or_false true = refl

@@ -1,14 +1,14 @@
-pub mod Rising
+pub mod RisingLists
 pub mod Later
 pub mod Loop
 pub mod TestOrder
-pub mod Named
+pub mod NamedPoints
 pub mod BitOrder
 pub mod CellTable
 pub mod TestFrame
 pub mod Accepted
 pub mod Whole
-pub mod Judged
+pub mod FirstFaults
 pub mod CutGroups
 pub mod Marks
 pub mod Before

@@ -11,9 +11,9 @@ use Rattle.scan_model.proofs.FaultSteps.{fault_goes_on, fault_is_here, fault_is_
 use Rattle.text_parts.specs.Views.{nows}
 use Rattle.fail_logs.specs.Frames.{headers_view}
 use Rattle.fail_logs.specs.BitNumbers.{numbers_named}
-use Rattle.fail_logs.specs.LineFacts.{LineFacts, facts_of, kept_facts}
-use Rattle.fail_logs.specs.Taken.{later_of, Takes, IsAfter}
-use Rattle.fail_logs.specs.declared.kept.Kept.{Kept}
+use Rattle.fail_logs.specs.LineFacts.{LineFacts, facts_of, draft_facts}
+use Rattle.fail_logs.specs.LogDrafts.{later_of, Takes, IsAfter}
+use Rattle.fail_logs.specs.declared.log_draft.LogDraft.{LogDraft}
 use Rattle.fail_logs.proofs.Later.{later_push, title_push, closed_push, truncated_push, headers_push, fails_push, cuts_push}
 
 pub differs : (i n : ℕ) → i < n → eqb i n ≡ false
@@ -22,8 +22,8 @@ differs i n lt = grind (arith, nat_tests)
 pub same : (n : ℕ) → eqb n n ≡ true
 same n = grind (arith, nat_tests)
 
--- what is kept after one more line
-after_takes : (frame : LogFrame) (rows : List (List ℕ)) (old new : Kept) (before : List (List ℕ)) (line : List ℕ) → IsAfter frame rows old before → Takes frame rows old new (words line) → IsAfter frame rows new (before ++ line ∷ [])
+-- the draft of a log after one more line
+after_takes : (frame : LogFrame) (rows : List (List ℕ)) (old new : LogDraft) (before : List (List ℕ)) (line : List ℕ) → IsAfter frame rows old before → Takes frame rows old new (words line) → IsAfter frame rows new (before ++ line ∷ [])
 after_takes frame rows old new before line after takes =
     let push : word_lines (before ++ line ∷ []) ≡ word_lines before ++ words line ∷ [] = map_push words before line in
     let more : later_of frame.form old.title (words line) ≡ later_of frame.form (title_of frame.form before) (words line) = ap (λ t. later_of frame.form t (words line)) after.title in
@@ -38,60 +38,60 @@ after_takes frame rows old new before line after takes =
       cuts = takes.cuts ∙ rw after.cuts (sym (ap (filter_map (group_cut frame)) lines ∙ cuts_push frame (later_lines frame.form before) added));
     }
 
-facts_after : (frame : LogFrame) (rows : List (List ℕ)) (kept : Kept) (before : List (List ℕ)) → IsAfter frame rows kept before → kept_facts kept ≡ facts_of frame rows (later_lines frame.form before)
-facts_after frame rows kept before after =
+facts_after : (frame : LogFrame) (rows : List (List ℕ)) (draft : LogDraft) (before : List (List ℕ)) → IsAfter frame rows draft before → draft_facts draft ≡ facts_of frame rows (later_lines frame.form before)
+facts_after frame rows draft before after =
     let ls : List LogLine = later_lines frame.form before in
     rw (after.truncated, after.fails, after.cuts) (ap (λ (h : Headers). let facts : LineFacts = record { ranges = h.ranges; truncated = list_any is_truncated ls; fails = numbers_named frame rows ls; cuts = filter_map (group_cut frame) ls } in facts) after.headers)
 
-module _ (frame : LogFrame) (rows : List (List ℕ)) (ls : List (List ℕ)) (items : List (Bor (List ℕ))) (i : ℕ) (d : Bor (List ℕ)) (kept : Kept)
+module _ (frame : LogFrame) (rows : List (List ℕ)) (ls : List (List ℕ)) (items : List (Bor (List ℕ))) (i : ℕ) (d : Bor (List ℕ)) (draft : LogDraft)
     (all : nows items ≡ ls)
     (so_far : fault_from (log_rule frame ls) i ((length ls + 1) - i) ≡ first_fault (log_rule frame ls) (length ls + 1))
-    (after : IsAfter frame rows kept (take i ls)) where
+    (after : IsAfter frame rows draft (take i ls)) where
   lines_length : length items ≡ length ls
   lines_length = sym (length-map items (λ x. x.now)) ∙ ap length all
 
   line_is : i < length items → (get_or items i d).now ≡ line_at ls i
   line_is lt = sym (get_or-map (λ x. x.now) items i d [] lt) ∙ ap (λ ts. line_at ts i) all
 
-  rule_is : i < length items → lowest (log_rules frame kept.title kept.closed (headers_view kept.headers) (get_or items i d).now) ≡ log_rule frame ls i
+  rule_is : i < length items → lowest (log_rules frame draft.title draft.closed (headers_view draft.headers) (get_or items i d).now) ≡ log_rule frame ls i
   rule_is lt =
       let lt' : i < length ls = omega (arith, lines_length) in
-      ap (λ h. lowest (log_rules frame kept.title kept.closed h (get_or items i d).now)) after.headers
+      ap (λ h. lowest (log_rules frame draft.title draft.closed h (get_or items i d).now)) after.headers
       ∙ rw (after.title, after.closed, line_is lt, differs i (length ls) lt') refl
 
-  pub line_is_faulty : (r : ℕ) → i < length items → Some r ≡ lowest (log_rules frame kept.title kept.closed (headers_view kept.headers) (get_or items i d).now)
+  pub line_is_faulty : (r : ℕ) → i < length items → Some r ≡ lowest (log_rules frame draft.title draft.closed (headers_view draft.headers) (get_or items i d).now)
       → refused_or (first_fault (log_rule frame ls) (length ls + 1)) (facts_of frame rows (later_lines frame.form ls)) ≡ Err (i + 1, r)
   line_is_faulty r lt some =
       let lt' : i < length ls + 1 = omega (arith, lines_length) in
       ap (λ f. refused_or f (facts_of frame rows (later_lines frame.form ls))) (fault_is_here (log_rule frame ls) (length ls + 1) i _ r lt' (sym (some ∙ rule_is lt)) so_far)
 
-  pub no_fault_more : i < length items → None ≡ lowest (log_rules frame kept.title kept.closed (headers_view kept.headers) (get_or items i d).now)
+  pub no_fault_more : i < length items → None ≡ lowest (log_rules frame draft.title draft.closed (headers_view draft.headers) (get_or items i d).now)
       → fault_from (log_rule frame ls) (i + 1) ((length ls + 1) - (i + 1)) ≡ first_fault (log_rule frame ls) (length ls + 1)
   no_fault_more lt none =
       let lt' : i < length ls + 1 = omega (arith, lines_length) in
       fault_goes_on (log_rule frame ls) (length ls + 1) i _ lt' (sym (none ∙ rule_is lt)) so_far
 
-  pub after_more : (new : Kept) → i < length items → Takes frame rows kept new (words (get_or items i d).now) → IsAfter frame rows new (take (i + 1) ls)
+  pub after_more : (new : LogDraft) → i < length items → Takes frame rows draft new (words (get_or items i d).now) → IsAfter frame rows new (take (i + 1) ls)
   after_more new lt takes =
       let lt' : i < length ls = omega (arith, lines_length) in
-      rw (take_more ls i [] lt') (after_takes frame rows kept new (take i ls) (line_at ls i) after (rw (line_is lt) at takes))
+      rw (take_more ls i [] lt') (after_takes frame rows draft new (take i ls) (line_at ls i) after (rw (line_is lt) at takes))
 
-  end_is : i ≡ length items → lowest (log_end_rules (is_some kept.title) kept.closed) ≡ log_rule frame ls i
+  end_is : i ≡ length items → lowest (log_end_rules (is_some draft.title) draft.closed) ≡ log_rule frame ls i
   end_is done =
       let n : i ≡ length ls = omega (arith, lines_length) in
       let whole : take i ls ≡ ls = take_all i ls (omega arith) in
       rw (after.title, after.closed, whole, n, same (length ls)) refl
 
-  pub end_is_faulty : (r : ℕ) → i ≡ length items → lowest (log_end_rules (is_some kept.title) kept.closed) ≡ Some r → refused_or (first_fault (log_rule frame ls) (length ls + 1)) (facts_of frame rows (later_lines frame.form ls)) ≡ Err (length items + 1, r)
+  pub end_is_faulty : (r : ℕ) → i ≡ length items → lowest (log_end_rules (is_some draft.title) draft.closed) ≡ Some r → refused_or (first_fault (log_rule frame ls) (length ls + 1)) (facts_of frame rows (later_lines frame.form ls)) ≡ Err (length items + 1, r)
   end_is_faulty r done some =
       let lt' : i < length ls + 1 = omega (arith, lines_length) in
       ap (λ f. refused_or f (facts_of frame rows (later_lines frame.form ls))) (fault_is_here (log_rule frame ls) (length ls + 1) i _ r lt' (sym (end_is done) ∙ some) so_far)
       ∙ ap (λ k. Err (k + 1, r)) done
 
-  pub log_is_whole : i ≡ length items → lowest (log_end_rules (is_some kept.title) kept.closed) ≡ None → refused_or (first_fault (log_rule frame ls) (length ls + 1)) (facts_of frame rows (later_lines frame.form ls)) ≡ Ok (kept_facts kept)
+  pub log_is_whole : i ≡ length items → lowest (log_end_rules (is_some draft.title) draft.closed) ≡ None → refused_or (first_fault (log_rule frame ls) (length ls + 1)) (facts_of frame rows (later_lines frame.form ls)) ≡ Ok (draft_facts draft)
   log_is_whole done none =
       let lt' : i < length ls + 1 = omega (arith, lines_length) in
       let whole : take i ls ≡ ls = take_all i ls (omega (arith, lines_length)) in
       let past = fault_goes_on (log_rule frame ls) (length ls + 1) i _ lt' (sym (end_is done) ∙ none) so_far in
       ap (λ f. refused_or f (facts_of frame rows (later_lines frame.form ls))) (fault_is_none (log_rule frame ls) (length ls + 1) (i + 1) _ (omega (arith, lines_length)) past)
-      ∙ ap Ok (ap (λ ts. facts_of frame rows (later_lines frame.form ts)) (sym whole) ∙ sym (facts_after frame rows kept (take i ls) after))
+      ∙ ap Ok (ap (λ ts. facts_of frame rows (later_lines frame.form ts)) (sym whole) ∙ sym (facts_after frame rows draft (take i ls) after))

@@ -18,10 +18,10 @@ use Rattle.scan_model.proofs.Outputs.{output_in_range}
 use Rattle.scan_model.proofs.Points.{points_are_points}
 use Rattle.fail_logs.specs.BitNumbers.{place_in}
 use Rattle.fail_logs.specs.Places.{places_in}
-use Rattle.fail_logs.specs.IsFrame.{IsFrame, IsPointIn, IsPointOf, ArePoints, frame_with}
+use Rattle.fail_logs.specs.FrameFacts.{IsFrame, IsPointIn, IsPointOf, ArePoints, frame_with}
 use Rattle.fail_logs.proofs.TestOrder.{cell_stands, points_differ}
 use Rattle.fail_logs.proofs.CellTable.{HasCell, place_is}
-use Rattle.fail_logs.proofs.Named.{within}
+use Rattle.fail_logs.proofs.NamedPoints.{within}
 
 -- names at two places differ
 names_apart : (ns : List (List ℕ)) (i j : ℕ) → IsDistinct bytes_eq ns → i < length ns → j < length ns → (i ≡ j → ⊥) → bytes_eq (get_or ns i []) (get_or ns j []) ≡ false

@@ -11,7 +11,7 @@ use Rattle.scan_model.specs.declared.parts.Chain.{Chain}
 use Rattle.scan_model.specs.declared.parts.Point.{Point}
 use Rattle.scan_model.specs.declared.parts.Point.TheVariants.{Output, Cell}
 use Rattle.scan_model.specs.ScanTest.{ScanTest, no_chain, chain_at, cycle, longest, points_of}
-use Rattle.fail_logs.proofs.Rising.{Rising, Below, Rising-append, Rising-weaken, Rising-lt}
+use Rattle.fail_logs.proofs.RisingLists.{Rising, Below, Rising-append, Rising-weaken, Rising-lt}
 
 pub contains_here : {X : Type 0} (x : X) (xs : List X) → Contains (x ∷ xs) x
 contains_here x xs = (0, omega arith, refl)

@@ -18,11 +18,11 @@ use Rattle.scan_model.specs.TextFaults.{refused_or}
 use Rattle.scan_model.specs.LogText.{LogFrame, LogLine, log_fault, log_reading, log_of_lines, later_lines, bits_listed, points_listed, is_listed, range_of, group_cut, group_points, is_in_group, each_once}
 use Rattle.fail_logs.specs.BitNumbers.{numbers_named}
 use Rattle.fail_logs.specs.Groups.{IsGroupIn}
-use Rattle.fail_logs.specs.Rising.{IsBitsOf}
+use Rattle.fail_logs.specs.RisingNumbers.{IsBitsOf}
 use Rattle.fail_logs.specs.LineFacts.{LineFacts, facts_of}
-use Rattle.fail_logs.specs.IsFrame.{IsFrame, point_in}
-use Rattle.fail_logs.proofs.Rising.{has_number}
-use Rattle.fail_logs.proofs.Named.{is_listed-is}
+use Rattle.fail_logs.specs.FrameFacts.{IsFrame, point_in}
+use Rattle.fail_logs.proofs.RisingLists.{has_number}
+use Rattle.fail_logs.proofs.NamedPoints.{is_listed-is}
 use Rattle.fail_logs.proofs.BitOrder.{bits_are, filter-agree, flat_map-agree}
 use Rattle.fail_logs.proofs.Accepted.{IsFaultless, IsTested, faultless, held_below, groups_in}
 

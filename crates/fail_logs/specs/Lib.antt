@@ -1,13 +1,14 @@
+-- What the contracts of fail logs say.
 pub mod LogViews
 pub mod Frames
 pub mod BitNumbers
-pub mod NamedBy
-pub mod Kept
-pub mod Taken
+pub mod LineTargets
+pub mod HeaderLines
+pub mod LogDrafts
 pub mod LineFacts
 pub mod Places
-pub mod IsFrame
-pub mod Rising
-pub mod Marked
+pub mod FrameFacts
+pub mod RisingNumbers
+pub mod TestedMarks
 pub mod Groups
-pub mod GivesV1
+pub mod ReadResultsV1

@@ -6,7 +6,7 @@ use Rattle.scan_model.specs.declared.logs.Range.{Range}
 use Rattle.scan_model.specs.declared.logs.CutGroup.{CutGroup}
 use Rattle.scan_model.specs.LogText.{LogFrame, LogLine, range_of, is_truncated, group_cut}
 use Rattle.fail_logs.specs.BitNumbers.{numbers_named}
-use Rattle.fail_logs.specs.declared.kept.Kept.{Kept}
+use Rattle.fail_logs.specs.declared.log_draft.LogDraft.{LogDraft}
 
 pub record LineFacts : Type 0 where
   pub ranges : List Range
@@ -22,5 +22,5 @@ facts_of frame rows ls = record {
   cuts = filter_map (group_cut frame) ls;
 }
 
-abbrev pub kept_facts : Kept → LineFacts
-kept_facts kept = record { ranges = kept.headers.tested; truncated = kept.truncated; fails = kept.fails.items; cuts = kept.cuts.items }
+abbrev pub draft_facts : LogDraft → LineFacts
+draft_facts draft = record { ranges = draft.headers.tested; truncated = draft.truncated; fails = draft.fails.items; cuts = draft.cuts.items }

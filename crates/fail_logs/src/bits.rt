@@ -2,9 +2,9 @@
 
 ghost use Rattle.std.specs.Prelude.{◌≡◌, ◌*◌, ◌<◌, ◌≤◌, map, All, IfOk, option_map};
 ghost use Rattle.fail_logs.specs.BitNumbers.{bit_number, bit_numbered};
-ghost use Rattle.fail_logs.specs.Rising.{IsRisingOf, IsBitsOf};
+ghost use Rattle.fail_logs.specs.RisingNumbers.{IsRisingOf, IsBitsOf};
 
-use crate::look_up::Named;
+use crate::target::LineTarget;
 use scan_model::{Bit, Rows};
 use std::alloc::{AllocError, Global};
 
@@ -17,13 +17,13 @@ fn bit_number(points: usize, pattern: u32, point: usize) -> u64
     pattern as u64 * points as u64 + point as u64
 }
 
-/// The number of the bit that a fail line names, where so many points follow each pattern.
-pub fn number_named(points: usize, named: Named) -> Option<u64>
+/// The number of the bit that is the target of a fail line, where each pattern has so many points.
+pub fn number_named(points: usize, target: LineTarget) -> Option<u64>
     requires points { points ≤ 131072 }
-    ensures { result ≡ option_map (λ p. bit_number points p named.point) named.pattern }
+    ensures { result ≡ option_map (λ p. bit_number points p target.point) target.pattern }
 {
-    let point = named.point as usize;
-    named
+    let point = target.point as usize;
+    target
         .pattern
         .map(|pattern| bit_number(points, pattern, point))
 }
@@ -38,7 +38,7 @@ fn rising(numbers: Vec<u64>) -> Vec<u64>
     rising
 }
 
-// The bit with a number, where so many points follow each pattern.
+// The bit of this number, where each pattern has so many points.
 fn bit_numbered(points: usize, n: u64) -> Bit
     requires points { points ≤ 131072 }
     requires n { n < 4096 * points }

@@ -26,7 +26,7 @@ impl<'a> Frame<'a> {
     ghost use Rattle.std.specs.List.{IsDistinct};
     ghost use Rattle.scan_model.specs.LogText.{log_frame};
     ghost use Rattle.fail_logs.specs.Frames.{frame_view};
-    ghost use Rattle.fail_logs.specs.IsFrame.{ArePoints, IsFrameOf, frame_with};
+    ghost use Rattle.fail_logs.specs.FrameFacts.{ArePoints, IsFrameOf, frame_with};
 
     /// The frame of a log of this form over these points, for a design and a die: with the names and the lengths of the
     /// chains, or of what stands in their place.

@@ -73,7 +73,7 @@ fn rows_cut(alloc: Global, chains: usize, groups: &[CutGroup]) -> Result<Vec<usi
     Ok(rows)
 }
 
-// Copies of some rows.
+// Copies of the rows at these places.
 fn copied(alloc: Global, rows: &[Vec<u32>], places: &[usize]) -> Result<Rows<Rows<u32>>, AllocError>
     requires { All (λ r. r < length rows.now) places.now }
     ensures { IfOk result (λ copies. copies ≡ map (λ r. slice_index_or (rows_view rows.now) r []) places.now) }

@@ -4,13 +4,13 @@
 mod bits;
 mod frame;
 mod groups;
-mod kept;
 mod line;
-mod look_up;
+mod log_draft;
 mod number;
 mod reading;
 mod rules;
 mod tables;
+mod target;
 mod tested;
 
 pub use frame::Frame;

@@ -7,31 +7,31 @@ ghost use Rattle.scan_model.specs.LogText.{log_frame, log_breaks, log_reading, l
 ghost use Rattle.scan_model.specs.LogTextV1.{is_version_1, log_v1};
 ghost use Rattle.scan_model.specs.Coverage.{FitsLog};
 ghost use Rattle.scan_model.specs.ScanTest.{points_of};
-ghost use Rattle.text_parts.specs.Gives.{Gives, IfFault};
+ghost use Rattle.text_parts.specs.ReadResults.{Gives, IfFault};
 ghost use Rattle.text_parts.specs.Views.{nows};
-ghost use Rattle.fail_logs.specs.GivesV1.{GivesV1};
+ghost use Rattle.fail_logs.specs.ReadResultsV1.{GivesV1};
 ghost use Rattle.fail_logs.specs.Frames.{frame_view, places_view, IsSmall};
-ghost use Rattle.fail_logs.specs.IsFrame.{IsFrameOf};
-ghost use Rattle.fail_logs.specs.LineFacts.{facts_of, kept_facts};
-ghost use Rattle.fail_logs.specs.Taken.{IsAfter};
+ghost use Rattle.fail_logs.specs.FrameFacts.{IsFrameOf};
+ghost use Rattle.fail_logs.specs.LineFacts.{facts_of, draft_facts};
+ghost use Rattle.fail_logs.specs.LogDrafts.{IsAfter};
 
 use crate::bits::bits_in_order;
 use crate::frame::Frame;
 use crate::groups::cut_points;
-use crate::kept::Kept;
+use crate::log_draft::LogDraft;
 use crate::rules::Headers;
 use scan_model::{LogFacts, Parts};
 use std::alloc::Global;
 use text_parts::{ReadFault, TextFault, lines_of};
 
 // The lowest rule that is broken at the end of a log.
-fn end_rule(kept: &Kept) -> Option<u32>
-    ensures { result ≡ lowest (log_end_rules (is_some kept.now.title) kept.now.closed) }
+fn end_rule(draft: &LogDraft) -> Option<u32>
+    ensures { result ≡ lowest (log_end_rules (is_some draft.now.title) draft.now.closed) }
 {
-    if kept.title.is_none() {
+    if draft.title.is_none() {
         return Some(52);
     }
-    if !kept.closed {
+    if !draft.closed {
         return Some(61);
     }
     None
@@ -41,21 +41,21 @@ fn end_rule(kept: &Kept) -> Option<u32>
 fn take_lines(
     alloc: Global,
     frame: &Frame<'_>,
-    kept: &mut Kept,
+    draft: &mut LogDraft,
     texts: &[&[u8]],
 ) -> Result<(), ReadFault>
     requires small { IsSmall frame.now }
-    requires after { IsAfter (frame_view frame.now) (places_view frame.now) kept.old [] }
-    ensures { Gives (λ done. kept_facts kept.new) result (refused_or (first_fault (log_rule (frame_view frame.now) (nows texts.now)) (length (nows texts.now) + 1)) (facts_of (frame_view frame.now) (places_view frame.now) (later_lines frame.now.form (nows texts.now)))) }
+    requires after { IsAfter (frame_view frame.now) (places_view frame.now) draft.old [] }
+    ensures { Gives (λ done. draft_facts draft.new) result (refused_or (first_fault (log_rule (frame_view frame.now) (nows texts.now)) (length (nows texts.now) + 1)) (facts_of (frame_view frame.now) (places_view frame.now) (later_lines frame.now.form (nows texts.now)))) }
 {
     let mut words = Vec::new(alloc);
     for (i, text) in texts.iter().enumerate() {
-        if let Some(rule) = kept.take_line(&mut words, frame, text)? {
+        if let Some(rule) = draft.take_line(&mut words, frame, text)? {
             let line = i as u64 + 1;
             return Err(ReadFault::Text(TextFault { line, rule }));
         }
     }
-    if let Some(rule) = end_rule(kept) {
+    if let Some(rule) = end_rule(draft) {
         let line = texts.len() as u64 + 1;
         return Err(ReadFault::Text(TextFault { line, rule }));
     }
@@ -63,14 +63,14 @@ fn take_lines(
 }
 
 // What the lines of a log say, or its first fault.
-fn read_lines(alloc: Global, frame: &Frame<'_>, bytes: &[u8]) -> Result<Kept, ReadFault>
+fn read_lines(alloc: Global, frame: &Frame<'_>, bytes: &[u8]) -> Result<LogDraft, ReadFault>
     requires small { IsSmall frame.now }
-    ensures { Gives kept_facts result (refused_or (log_fault (frame_view frame.now) bytes.now) (facts_of (frame_view frame.now) (places_view frame.now) (later_lines frame.now.form (text_lines bytes.now)))) }
+    ensures { Gives draft_facts result (refused_or (log_fault (frame_view frame.now) bytes.now) (facts_of (frame_view frame.now) (places_view frame.now) (later_lines frame.now.form (text_lines bytes.now)))) }
 {
     let texts = lines_of(alloc, bytes)?;
-    let mut kept = Kept::new(alloc);
-    take_lines(alloc, frame, &mut kept, &texts)?;
-    Ok(kept)
+    let mut draft = LogDraft::new(alloc);
+    take_lines(alloc, frame, &mut draft, &texts)?;
+    Ok(draft)
 }
 
 /// What a log stands for that is read for a frame, or its first fault by the rules of logs of its form.
@@ -81,14 +81,14 @@ pub fn read_framed(alloc: Global, frame: &Frame<'_>, bytes: &[u8]) -> Result<Log
     ensures none { IfOk result (λ log. HasNoFault (log_breaks (frame_view frame.now) (text_lines bytes.now)) (length (text_lines bytes.now) + 1)) }
     ensures fits { IfOk result (FitsLog (length frame.now.shifts.items) (length frame.now.points.now)) }
 {
-    let kept = read_lines(alloc, frame, bytes)?;
-    let Kept {
+    let draft = read_lines(alloc, frame, bytes)?;
+    let LogDraft {
         truncated,
         headers: Headers { tested, .. },
         fails,
         cuts,
         ..
-    } = kept;
+    } = draft;
     let fails = bits_in_order(alloc, frame.points.len(), fails)?;
     let cuts = cut_points(alloc, frame.chains.len(), frame.points, &cuts)?;
     Ok(LogFacts {

@@ -5,16 +5,17 @@ ghost use Rattle.scan_model.specs.TextFaults.{lowest};
 ghost use Rattle.scan_model.specs.LogText.{is_other, has_other_design, has_other_die, has_bad_range, is_untested, pattern_named, is_out_of_shift, is_first, is_misplaced, is_late, later_rules};
 ghost use Rattle.fail_logs.specs.LogViews.{line_view};
 ghost use Rattle.fail_logs.specs.Frames.{frame_view, places_view, headers_view};
-ghost use Rattle.fail_logs.specs.NamedBy.{IsNamedBy};
+ghost use Rattle.fail_logs.specs.LineTargets.{IsTarget};
 
 use crate::frame::Frame;
 use crate::line::LogLine;
-use crate::look_up::Named;
 use crate::number::number;
+use crate::target::LineTarget;
 use crate::tested::Tested;
 use scan_model::LogVersion;
 
-/// The lines that came: whether a `die` and a `design` line, and a fail or cut line, and the tested patterns.
+/// What the headers so far say: whether a `die` and a `design` line came, whether a fail or cut line came, and the tested
+/// patterns.
 #[derive(Drop)]
 pub struct Headers {
     pub die: bool,
@@ -69,7 +70,7 @@ fn is_untested(tested: &Tested, pattern: Option<u32>) -> bool
     }
 }
 
-// The pattern is the one that the line names.
+// Rule 60: a fail line names an output at a SHIFT pattern.
 fn is_out_of_shift(frame: &Frame<'_>, line: LogLine<'_>, pattern: Option<u32>) -> bool
     requires { pattern ≡ pattern_named (line_view line) }
     ensures { result ≡ is_out_of_shift (frame_view frame.now) (line_view line.entry) }
@@ -92,6 +93,7 @@ fn is_first(version: LogVersion) -> bool
     }
 }
 
+// Rule 63: a header comes twice, or another line before the headers. Version 1 has one `tested` line, version 2 any number.
 fn is_misplaced(version: LogVersion, headers: &Headers, line: LogLine<'_>) -> bool
     ensures { result ≡ is_misplaced version (headers_view headers.now) (line_view line.entry) }
 {
@@ -104,6 +106,7 @@ fn is_misplaced(version: LogVersion, headers: &Headers, line: LogLine<'_>) -> bo
     }
 }
 
+// Rule 64: in version 2, a `tested` line after a fail or cut line.
 fn is_late(version: LogVersion, headers: &Headers, line: LogLine<'_>) -> bool
     ensures { result ≡ is_late version (headers_view headers.now) (line_view line.entry) }
 {
@@ -113,21 +116,21 @@ fn is_late(version: LogVersion, headers: &Headers, line: LogLine<'_>) -> bool
     }
 }
 
-/// The lowest rule that a line breaks, after these headers, where this is what it names.
+/// The lowest rule that a line with this target breaks, after these headers.
 pub fn later_rule(
     frame: &Frame<'_>,
     version: LogVersion,
     headers: &Headers,
     line: LogLine<'_>,
-    named: Named,
+    target: LineTarget,
 ) -> Option<u32>
-    requires { IsNamedBy (frame_view frame.now) (places_view frame.now) (line_view line) named }
+    requires { IsTarget (frame_view frame.now) (places_view frame.now) (line_view line) target }
     ensures { result ≡ lowest (later_rules (frame_view frame.now) version (headers_view headers.now) (line_view line.entry)) }
 {
     if is_other(line) {
         return Some(53);
     }
-    if named.numberless {
+    if target.numberless {
         return Some(54);
     }
     if has_other_design(frame, line) {
@@ -139,13 +142,13 @@ pub fn later_rule(
     if has_bad_range(frame, line) {
         return Some(57);
     }
-    if named.nowhere {
+    if target.nowhere {
         return Some(58);
     }
-    if is_untested(&headers.tested, named.pattern) {
+    if is_untested(&headers.tested, target.pattern) {
         return Some(59);
     }
-    if is_out_of_shift(frame, line, named.pattern) {
+    if is_out_of_shift(frame, line, target.pattern) {
         return Some(60);
     }
     if is_misplaced(version, headers, line) {

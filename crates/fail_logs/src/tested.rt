@@ -18,7 +18,7 @@ pub struct Tested {
 impl Model for Tested {
     ghost use Rattle.std.specs.Prelude.{◌≡◌, List, length};
     ghost use Rattle.scan_model.specs.declared.logs.Range.{Range};
-    ghost use Rattle.fail_logs.specs.Marked.{AreMarked};
+    ghost use Rattle.fail_logs.specs.TestedMarks.{AreMarked};
 
     ghost Value = { List Range };
 

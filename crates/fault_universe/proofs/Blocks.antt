@@ -6,7 +6,7 @@ use Rattle.std.proofs.Math.Nat.{mul-suc}
 use Rattle.std.proofs.lemmas.List.Elements.{All-from_recursion, All-contains, Contains-append_cases}
 use Rattle.std.proofs.lemmas.Option.{slice_get_within}
 use Rattle.scan_model.specs.declared.fault.Fault.{Fault}
-use Rattle.fault_universe.specs.FoundPlace.{FindsPlace}
+use Rattle.fault_universe.specs.FaultPlaces.{FindsPlace}
 
 module _ {X : Type 0} where
   pub slice_get-left : (xs ys : List X) (k : ℕ) → k < length xs → slice_get (xs ++ ys) k ≡ slice_get xs k

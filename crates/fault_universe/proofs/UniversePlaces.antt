@@ -12,7 +12,7 @@ use Rattle.scan_model.specs.Netlist.{is_branch, pin_numbers}
 use Rattle.scan_model.specs.ScanTest.{ScanTest, IsScanTest, HasSite}
 use Rattle.scan_model.specs.Universe.{universe, stems, branches, bridges, cells}
 use Rattle.scan_model.proofs.Sites.{site_of}
-use Rattle.fault_universe.specs.FoundPlace.{FindsPlace}
+use Rattle.fault_universe.specs.FaultPlaces.{FindsPlace}
 use Rattle.fault_universe.proofs.Blocks.{Contains-at, slice_get-left, slice_get-right, found_before, found_after}
 use Rattle.fault_universe.proofs.StemPlaces.{only_stems}
 use Rattle.fault_universe.proofs.BranchPlaces.{branch_owner}

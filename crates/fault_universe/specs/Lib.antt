@@ -1,4 +1,5 @@
+-- What the contracts of the list of faults say.
 pub mod LineWords
 pub mod BitRows
-pub mod FoundPlace
+pub mod FaultPlaces
 pub mod KeptPairs

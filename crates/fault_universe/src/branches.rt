@@ -1,5 +1,7 @@
+//! The branch faults, and the place of each among them.
+
 ghost use Rattle.std.specs.Prelude.{◌≡◌, ◌++◌, ◌<◌, ◌≤◌, ◌^◌, length, filter, slice_get, OnOk, IfSome};
-ghost use Rattle.fault_universe.specs.FoundPlace.{FindsPlace};
+ghost use Rattle.fault_universe.specs.FaultPlaces.{FindsPlace};
 ghost use Rattle.scan_model.specs.declared.fault.Fault.TheVariants as fault;
 ghost use Rattle.scan_model.specs.Netlist.{is_branch, pin_numbers};
 ghost use Rattle.scan_model.specs.Universe.{branches};

@@ -1,5 +1,7 @@
+//! The bridge faults, and the place of each among them.
+
 ghost use Rattle.std.specs.Prelude.{◌≡◌, ◌++◌, ◌<◌, ◌≤◌, ◌^◌, length, slice_get, Some, OnOk, IfSome, MatchOption};
-ghost use Rattle.fault_universe.specs.FoundPlace.{FindsPlace};
+ghost use Rattle.fault_universe.specs.FaultPlaces.{FindsPlace};
 ghost use Rattle.fault_universe.specs.KeptPairs.{FindsPair, IsNoneOfPair};
 ghost use Rattle.scan_model.specs.declared.fault.Fault.TheVariants as fault;
 ghost use Rattle.scan_model.specs.Universe.{bridge_faults, bridges};

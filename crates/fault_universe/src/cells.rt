@@ -1,6 +1,8 @@
+//! The cell faults, and the place of each among them.
+
 ghost use Rattle.std.specs.Prelude.{◌≡◌, ℕ, ◌++◌, ◌<◌, ◌≤◌, ◌^◌, length, take, flat_map, slice_get, Some, OnOk, IfSome};
 ghost use Rattle.std.specs.List.{range_with_len};
-ghost use Rattle.fault_universe.specs.FoundPlace.{FindsPlace};
+ghost use Rattle.fault_universe.specs.FaultPlaces.{FindsPlace};
 ghost use Rattle.scan_model.specs.declared.fault.Fault.TheVariants as fault;
 ghost use Rattle.scan_model.specs.ScanTest.{IsScanTest, cells_of};
 ghost use Rattle.scan_model.specs.Universe.{cell_faults, cells};

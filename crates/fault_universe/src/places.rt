@@ -1,3 +1,5 @@
+//! The list of all faults, and the place of each in it.
+
 ghost use Rattle.std.specs.Prelude.{◌≡◌, ◌+◌, ◌<◌, ◌^◌, length, slice_get, option_map, Some, MatchOption, IfSome, Contains, IfOk};
 ghost use Rattle.scan_model.specs.ScanTest.{HasSite};
 ghost use Rattle.scan_model.specs.Universe.{universe};
@@ -50,8 +52,8 @@ pub fn fault_at(parts: &Parts, place: u32) -> Option<Fault>
     cell_at(parts, after_branches - bridges)
 }
 
-/// The place in the whole list of a place after so many faults.
-fn after(before: u32, place: Option<u32>) -> Option<u32>
+/// The place in the whole list, where so many faults of other kinds stand before.
+fn list_place(before: u32, place: Option<u32>) -> Option<u32>
     requires before { before < 2 ^ 31 }
     requires place { IfSome place (λ k. k < 2 ^ 31) }
     ensures { result ≡ option_map (λ k. before + k) place }
@@ -67,15 +69,15 @@ pub fn place_of(parts: &Parts, fault: &Fault) -> Option<u32>
     match *fault {
         Fault::Stem { net, value } => stem_place(parts, net, value),
         Fault::Branch { pin, value } => {
-            after(stem_count(parts), branch_place(parts, pin, value))
+            list_place(stem_count(parts), branch_place(parts, pin, value))
         }
         Fault::Bridge { a, b, kind } => {
             let before = stem_count(parts) + branch_count(parts);
-            after(before, bridge_place(parts, a, b, kind))
+            list_place(before, bridge_place(parts, a, b, kind))
         }
         Fault::Cell { chain, pos, kind } => {
             let before = stem_count(parts) + branch_count(parts) + bridge_count(parts);
-            after(before, cell_place(parts, chain, pos, kind))
+            list_place(before, cell_place(parts, chain, pos, kind))
         }
     }
 }

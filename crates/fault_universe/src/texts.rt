@@ -1,3 +1,5 @@
+//! The text of a fault in a report.
+
 ghost use Rattle.std.specs.Prelude.{◌≡◌, ◌++◌, ◌<◌, length, IfOk, OnOk};
 ghost use Rattle.fault_universe.specs.LineWords.{IsPlaceOf, after_spaces};
 ghost use Rattle.scan_model.specs.declared.fault.Fault.TheVariants as fault;

@@ -1,3 +1,5 @@
+//! The words of a fault's text: names and numbers.
+
 ghost use Rattle.std.specs.Prelude.{◌≡◌, ◌++◌, ◌∷◌, ◌<◌, length, decimal, OnOk};
 ghost use Rattle.scan_model.specs.ScanTest.{name_of, chain_at};
 

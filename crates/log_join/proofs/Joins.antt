@@ -15,7 +15,7 @@ use Rattle.scan_model.specs.BitTable.{table_bit}
 use Rattle.scan_model.specs.Coverage.{bit_of, same_bit, not_after, lists, covers, is_tested, has_point, group_goes_on, FitsLog}
 use Rattle.scan_model.specs.Classes.{some_fails, some_passes, class_by, class_of, is_failing, is_passing}
 use Rattle.scan_model.proofs.BitTables.{place_in_word, bit_of_and, bit_of_not}
-use Rattle.log_join.specs.Covered.{Covered, is_covered}
+use Rattle.log_join.specs.CoverageBits.{CoverageBits, is_covered}
 use Rattle.log_join.specs.Joining.{JoinedBits, StandsFor, is_set_aside}
 
 -- ---- a log's failing bits are covered
@@ -75,7 +75,7 @@ one_more_passes true false false = refl
 one_more_passes false listed true = refl
 one_more_passes false listed false = refl
 
-pub stands_for_more : (logs : List LogFacts) (log : LogFacts) (coverage : Covered) (patterns points : ℕ) (failed passed failed1 passed1 : List ℕ) → FitsLog patterns points log
+pub stands_for_more : (logs : List LogFacts) (log : LogFacts) (coverage : CoverageBits) (patterns points : ℕ) (failed passed failed1 passed1 : List ℕ) → FitsLog patterns points log
     → ((w k : ℕ) → k < points → table_bit failed1 points w k ≡ (lists log (bit_of w k) || table_bit failed points w k))
     → ((w k : ℕ) → k < points → table_bit passed1 points w k ≡ ((is_covered coverage w k && not (lists log (bit_of w k))) || table_bit passed points w k))
     → ((w k : ℕ) → w < patterns → k < points → covers log (bit_of w k) ≡ is_covered coverage w k)

@@ -10,7 +10,7 @@ use Rattle.scan_model.specs.declared.logs.Range.{Range}
 use Rattle.scan_model.specs.declared.logs.LogFacts.{LogFacts}
 use Rattle.scan_model.specs.BitTable.{table_bit}
 use Rattle.scan_model.specs.Coverage.{bit_of, same_bit, some_holds, FitsLog}
-use Rattle.log_join.specs.Reaching.{FitsWords}
+use Rattle.log_join.specs.FailReach.{FitsWords}
 
 here_or_there : (here seen is_set from old : Bool) → (here ≡ true → is_set ≡ from) → cond here is_set (cond seen from old) ≡ cond (seen || here) from old
 here_or_there true true is_set from old is = is refl

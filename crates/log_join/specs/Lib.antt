@@ -1,3 +1,4 @@
+-- What the contracts of joined logs say.
 pub mod Joining
-pub mod Reaching
-pub mod Covered
+pub mod FailReach
+pub mod CoverageBits

@@ -4,8 +4,8 @@ ghost use Rattle.std.specs.List.{list_any, list_all};
 ghost use Rattle.std.specs.Int.{bit_at};
 ghost use Rattle.scan_model.specs.BitTable.{table_bit};
 ghost use Rattle.scan_model.specs.Coverage.{bit_of, not_after, some_holds, has_point, group_goes_on, covers, FitsLog};
-ghost use Rattle.log_join.specs.Covered.{AreCoveredOf, is_covered};
-ghost use Rattle.log_join.specs.Reaching.{reaches, HasEnds, FitsWords, AreUnmarked};
+ghost use Rattle.log_join.specs.CoverageBits.{IsCoverageOf, is_covered};
+ghost use Rattle.log_join.specs.FailReach.{reaches, HasEnds, FitsWords, AreUnmarked};
 
 use crate::ends::{cut_groups, set_ends};
 use crate::reach::{Reach, reach_of};
@@ -26,10 +26,10 @@ pub struct Coverage {
 
 impl Model for Coverage {
     ghost use Rattle.std.specs.Prelude.{◌≡◌, vec_len};
-    ghost use Rattle.log_join.specs.Covered.{Covered};
-    ghost use Rattle.log_join.specs.Reaching.{AreUnmarked};
+    ghost use Rattle.log_join.specs.CoverageBits.{CoverageBits};
+    ghost use Rattle.log_join.specs.FailReach.{AreUnmarked};
 
-    ghost Value = { Covered };
+    ghost Value = { CoverageBits };
 
     ghost view = { λ c. record { tested = c.tested.items; ends = c.ends.items } };
 
@@ -152,7 +152,7 @@ fn cover_words(words: &mut [u64], points: usize, tested: &[u64], ends: &[u32])
 impl Coverage {
     /// No patterns yet, for so many patterns and points.
     pub fn make(alloc: Global, patterns: u32, points: u32) -> Result<Coverage, NoMemory>
-        ensures { IfOk result (AreCoveredOf patterns points) }
+        ensures { IfOk result (IsCoverageOf patterns points) }
     {
         let words = (patterns as usize + 63) / 64;
         let tested = vec![in alloc; 0u64; words]?;
@@ -167,9 +167,9 @@ impl Coverage {
 
     /// Takes what a log covers, in place of what another did.
     pub fn take(&mut self, patterns: u32, points: u32, facts: &LogFacts)
-        requires size { AreCoveredOf patterns points self.old }
+        requires size { IsCoverageOf patterns points self.old }
         requires facts { FitsLog patterns points facts.now }
-        ensures size { AreCoveredOf patterns points self.new }
+        ensures size { IsCoverageOf patterns points self.new }
         ensures covered { (w k : ℕ) → w < patterns → k < points
             → covers facts.now (bit_of w k) ≡ is_covered self.new w k }
     {

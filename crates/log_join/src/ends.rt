@@ -2,7 +2,7 @@
 ghost use Rattle.std.specs.Prelude.{◌≡◌, ℕ, ◌<◌, ◌&&◌, ◌||◌, not, false, length, All, nat_lt, slice_index_or, if◌then◌else◌};
 ghost use Rattle.std.specs.List.{list_all};
 ghost use Rattle.scan_model.specs.Coverage.{bit_of, has_point, group_goes_on};
-ghost use Rattle.log_join.specs.Reaching.{reaches, HasEnds, FitsWords, AreUnmarked};
+ghost use Rattle.log_join.specs.FailReach.{reaches, HasEnds, FitsWords, AreUnmarked};
 
 use crate::reach::{Reach, end_at, reach_of_marked};
 use scan_model::LogFacts;

@@ -1,3 +1,5 @@
+//! The bits that a log lists, in the tables of failed and of passed bits.
+
 ghost use Rattle.std.specs.Prelude.{◌≡◌, ℕ, ◌+◌, ◌*◌, ◌/◌, ◌<◌, ◌≤◌, ◌||◌, length, All, if◌then◌else◌};
 ghost use Rattle.std.specs.List.{list_any};
 ghost use Rattle.scan_model.specs.BitTable.{table_bit};

@@ -8,7 +8,7 @@ ghost use Rattle.scan_model.specs.ChainShift.{value_at};
 ghost use Rattle.scan_model.specs.Coverage.{bit_of, lists, covers, FitsLog};
 ghost use Rattle.scan_model.specs.Classes.{class_by, class_of, is_failing, is_passing};
 ghost use Rattle.log_join.specs.Joining.{StandsFor, HaveSameLogs, IsJoinedOf, FitsExpected, is_set_aside};
-ghost use Rattle.log_join.specs.Covered.{AreCoveredOf, is_covered};
+ghost use Rattle.log_join.specs.CoverageBits.{IsCoverageOf, is_covered};
 
 use crate::coverage::Coverage;
 use crate::fails::{copy_bits, set_listed};
@@ -30,13 +30,13 @@ pub struct Joined {
 impl Model for Joined {
     ghost use Rattle.std.specs.Prelude.{◌≡◌, ◌+◌, ◌*◌, ◌/◌, vec_len};
     ghost use Rattle.log_join.specs.Joining.{JoinedBits};
-    ghost use Rattle.log_join.specs.Covered.{AreCoveredOf};
+    ghost use Rattle.log_join.specs.CoverageBits.{IsCoverageOf};
 
     ghost Value = { JoinedBits };
 
     ghost view = { λ j. record { patterns = j.patterns; points = j.points; failed = j.failed.items; passed = j.passed.items } };
 
-    ghost invariant = { λ j. (vec_len j.failed ≡ (j.patterns + 63) / 64 * j.points) × (vec_len j.passed ≡ (j.patterns + 63) / 64 * j.points) × AreCoveredOf j.patterns j.points j.coverage };
+    ghost invariant = { λ j. (vec_len j.failed ≡ (j.patterns + 63) / 64 * j.points) × (vec_len j.passed ≡ (j.patterns + 63) / 64 * j.points) × IsCoverageOf j.patterns j.points j.coverage };
 }
 
 impl Joined {
@@ -119,7 +119,7 @@ impl Joined {
         self.failed.as_slice()[place] & !self.passed.as_slice()[place] & decided
     }
 
-    /// The Passing bits of a point in 64 patterns, in the same way.
+    /// The Passing bits of a point in 64 patterns: bit j is 1 exactly where pattern 64 * word + j exists and its bit is Passing.
     pub fn passing_word(&self, expected: &Expected, word: u32, point: u32) -> u64
         requires expected { FitsExpected expected.now self.now }
         requires word { 64 * word < self.now.patterns }
@@ -133,7 +133,8 @@ impl Joined {
         self.passed.as_slice()[place] & !self.failed.as_slice()[place] & decided
     }
 
-    /// The Conflict and the Masked bits of a point in 64 patterns, in the same way: what some log lists and is not Failing.
+    /// The Conflict and the Masked bits of a point in 64 patterns, which some log lists and which are not Failing: bit j is 1
+    /// exactly where pattern 64 * word + j exists and its bit is one of them.
     pub fn set_aside_word(&self, expected: &Expected, word: u32, point: u32) -> u64
         requires expected { FitsExpected expected.now self.now }
         requires word { 64 * word < self.now.patterns }
@@ -170,7 +171,7 @@ fn join(
     facts: &LogFacts,
 )
     requires facts { FitsLog patterns points facts.now }
-    requires coverage { AreCoveredOf patterns points coverage.now }
+    requires coverage { IsCoverageOf patterns points coverage.now }
     requires failed { length failed.old ≡ (patterns + 63) / 64 * points }
     requires passed { length passed.old ≡ (patterns + 63) / 64 * points }
     ensures failed { (w k : ℕ) → k < points → table_bit failed.new points w k ≡ (lists facts.now (bit_of w k) || table_bit failed.old points w k) }

@@ -2,7 +2,7 @@
 ghost use Rattle.std.specs.Prelude.{◌≡◌, ℕ, ◌+◌, ◌^◌, ◌<◌, ◌&&◌, ◌||◌, false, length, All, nat_lt, slice_index_or};
 ghost use Rattle.std.specs.List.{list_any};
 ghost use Rattle.scan_model.specs.Coverage.{bit_of, not_after};
-ghost use Rattle.log_join.specs.Reaching.{reaches, HasEnds, FitsWords};
+ghost use Rattle.log_join.specs.FailReach.{reaches, HasEnds, FitsWords};
 
 use scan_model::Bit;
 

@@ -12,7 +12,7 @@ use Rattle.csv.specs.declared.parser.Action.{Action}
 use Rattle.csv.specs.declared.parser.Action.TheVariants as act
 use Rattle.scan_model.specs.Lines.{is_blank}
 use Rattle.scan_model.specs.Words.{is_name_byte}
-use Rattle.text_parts.specs.Ended.{is_ended, ended}
+use Rattle.text_parts.specs.TextEnd.{is_ended, ended}
 use Rattle.bridge_pairs.specs.PairText.{TwoNames, after_blanks, trimmed}
 use Rattle.bridge_pairs.proofs.Listing.{are_the_records}
 use Rattle.diag_report.proofs.PlainWords.{not_byte}

@@ -20,8 +20,8 @@ use Rattle.scan_model.specs.ScanText.{net_names, is_flop_driver, is_flop_net, is
 use Rattle.scan_model.specs.NetlistLines.{Form, output, driver_named}
 use Rattle.scan_model.specs.NetlistRules.{forms_of, uses_of, new_output, early_fault}
 use Rattle.scan_model.specs.NetlistText.{net_number, nets_after, line_pins, line_pins_after, circuit_in, netlist_reading}
-use Rattle.bench_reader.specs.Clean.{HasItsOperands, AreClean}
-use Rattle.bench_reader.specs.Kept.{uses_undefined, lacks}
+use Rattle.bench_reader.specs.FaultlessLines.{HasItsOperands, AreClean}
+use Rattle.bench_reader.specs.NetlistDrafts.{uses_undefined, lacks}
 use Rattle.bench_reader.proofs.CircuitOfLines.{circuit_is_sound, names_after, length-nets_after}
 use Rattle.bench_reader.proofs.ThirdRound.{reads_circuit}
 use Rattle.bench_reader.proofs.NamesDiffer.{number_in_range}

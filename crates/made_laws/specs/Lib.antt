@@ -1,3 +1,4 @@
+-- Laws of made designs: what their texts stand for.
 pub mod Draws
 pub mod MadeNetlist
 pub mod MadeScan

@@ -4,4 +4,4 @@ pub mod SoundChains
 pub mod ScanLoop
 pub mod SoundPatterns
 pub mod PatternLoop
-pub mod Judged
+pub mod FirstFaults

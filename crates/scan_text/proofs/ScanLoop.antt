@@ -11,8 +11,8 @@ use Rattle.scan_model.specs.ScanText.{chain_of, chains, chains_before, cells_in,
 use Rattle.scan_model.proofs.FaultSteps.{fault_goes_on, fault_is_here, fault_is_none}
 use Rattle.text_parts.specs.Views.{nows}
 use Rattle.scan_text.proofs.SoundChains.{AreSound, line_more}
-use Rattle.scan_text.specs.AfterChains.{IsAfter}
-use Rattle.scan_text.specs.declared.chains.Chains.{Chains}
+use Rattle.scan_text.specs.ScanDrafts.{IsAfter}
+use Rattle.scan_text.specs.declared.chains.ScanDraft.{ScanDraft}
 
 filter_map_one : {X Y : Type 0} (f : X → Option Y) (x : X) → filter_map f (x ∷ []) ≡ option_to_list (f x)
 filter_map_one f x = one (f x)
@@ -29,7 +29,7 @@ chains_before_more ls i lt =
     ∙ filter_map-append chain_of (word_lines (take i ls)) (words (line_at ls i) ∷ [])
     ∙ ap (λ cs. chains_before ls i ++ cs) (filter_map_one chain_of (words (line_at ls i)))
 
-module _ (nets : List Net) (ls : List (List ℕ)) (items : List (Bor (List ℕ))) (i : ℕ) (d : Bor (List ℕ)) (kept : Chains)
+module _ (nets : List Net) (ls : List (List ℕ)) (items : List (Bor (List ℕ))) (i : ℕ) (d : Bor (List ℕ)) (kept : ScanDraft)
     (same : nows items ≡ ls)
     (so_far : fault_from (scan_rule nets ls) i (length ls - i) ≡ first_fault (scan_rule nets ls) (length ls))
     (after : IsAfter nets kept (chains_before ls i)) where
@@ -56,7 +56,7 @@ module _ (nets : List Net) (ls : List (List ℕ)) (items : List (Bor (List ℕ))
       let lt' : i < length ls = omega (arith, lines_length) in
       fault_goes_on (scan_rule nets ls) (length ls) i (first_fault (scan_rule nets ls) (length ls)) lt' (sym (none ∙ rule_is lt)) so_far
 
-  pub after_more : (new : Chains) → i < length items
+  pub after_more : (new : ScanDraft) → i < length items
       → IsAfter nets new (chains_before ls i ++ option_to_list (chain_of (words (get_or items i d).now))) → IsAfter nets new (chains_before ls (i + 1))
   after_more new lt h =
       let lt' : i < length ls = omega (arith, lines_length) in

@@ -1,3 +1,4 @@
+-- What the contracts of scan and pattern texts say.
 pub mod NamedChains
-pub mod AfterChains
+pub mod ScanDrafts
 pub mod Frames

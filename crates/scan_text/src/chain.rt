@@ -1,3 +1,5 @@
+//! The words of a chain's line.
+
 ghost use Rattle.std.specs.Prelude.{◌≡◌, option_map};
 ghost use Rattle.std.specs.List.{list_all};
 ghost use Rattle.scan_model.specs.ScanText.{chain_of};
@@ -6,7 +8,7 @@ ghost use Rattle.text_parts.specs.Views.{nows};
 
 use text_parts::is_short_name;
 
-/// The words of a chain's line behind its keyword.
+/// The words of a chain's line after its keyword.
 #[derive(Clone, Copy)]
 pub struct NamedChain<'a, 'b> {
     pub name: &'a [u8],

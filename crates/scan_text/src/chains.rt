@@ -1,3 +1,5 @@
+//! The draft of a scan text: its chains so far, and one more line.
+
 ghost use Rattle.std.specs.Prelude.{◌≡◌, ◌≤◌, length, map, not, IfOk, Ok, None, List, [], ◌∷◌, ◌++◌, option_to_list, slice_index_or};
 ghost use Rattle.std.specs.List.{list_any};
 ghost use Rattle.scan_model.specs.declared.circuit.Net.{Net};
@@ -96,22 +98,22 @@ fn chain_with(alloc: Global, name: &[u8], cells: Vec<u32>) -> Result<Chain, NoMe
     })
 }
 
-/// The chains of the lines so far, with the names of all their cells, and their own.
+/// The draft of a scan text, by its lines so far: the chains, the names of their cells, and the names of the chains.
 #[derive(Drop)]
-pub struct Chains<'a> {
+pub struct ScanDraft<'a> {
     pub chains: Vec<Chain>,
     pub cells: Names<'a>,
     pub titles: Names<'a>,
 }
 
-impl<'a> Chains<'a> {
-    ghost use Rattle.scan_text.specs.AfterChains.{chain_rules, IsAfter};
+impl<'a> ScanDraft<'a> {
+    ghost use Rattle.scan_text.specs.ScanDrafts.{chain_rules, IsAfter};
     ghost use Rattle.scan_text.specs.NamedChains.{named_view};
 
     pub fn new(alloc: Global) -> Self
         ensures { (nets : List Net) → IsAfter nets result [] }
     {
-        Chains {
+        ScanDraft {
             chains: Vec::new(alloc),
             cells: Names::new(alloc),
             titles: Names::new(alloc),

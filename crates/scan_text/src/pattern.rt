@@ -1,3 +1,5 @@
+//! The pattern of a line, and the rules of its words.
+
 ghost use Rattle.std.specs.Prelude.{◌≡◌, length, map, not, IfOk, Some, []};
 ghost use Rattle.std.specs.List.{list_any, list_all};
 ghost use Rattle.scan_model.specs.declared.parts.PatternKind.TheVariants.{Shift};
@@ -100,7 +102,7 @@ fn has_only_values(word: &[u8]) -> bool
 {
     let mut only = true;
     for b in word {
-        // No branch, so that many bytes are judged at once.
+        // Without a branch, so that the processor compares many bytes at once.
         only &= is_value(*b);
     }
     only

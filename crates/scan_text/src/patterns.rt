@@ -1,3 +1,5 @@
+//! The patterns of a whole text.
+
 ghost use Rattle.std.specs.Prelude.{◌≡◌, ◌+◌, length, false, All, IfOk, OnOk, Ok, None, [], ◌∷◌, ◌++◌};
 ghost use Rattle.scan_model.specs.declared.parts.PatternKind.TheVariants.{Capture};
 ghost use Rattle.scan_model.specs.Netlist.{Netlist};
@@ -5,7 +7,7 @@ ghost use Rattle.scan_model.specs.Lines.{text_lines};
 ghost use Rattle.scan_model.specs.TextFaults.{HasNoFault, IsFirstFault, lowest, first_fault, refused_or};
 ghost use Rattle.scan_model.specs.PatternText.{pattern_frame, line_pattern, pattern_rule, pattern_rules, pattern_breaks, patterns_of, pattern_reading};
 ghost use Rattle.scan_model.specs.ScanTest.{ArePatterns};
-ghost use Rattle.text_parts.specs.Gives.{Gives, IfFault};
+ghost use Rattle.text_parts.specs.ReadResults.{Gives, IfFault};
 ghost use Rattle.scan_text.specs.Frames.{frame_view, kind_rules};
 ghost use Rattle.text_parts.specs.Views.{nows};
 

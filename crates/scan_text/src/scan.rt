@@ -1,14 +1,16 @@
+//! The chains of a whole scan text.
+
 ghost use Rattle.std.specs.Prelude.{◌≡◌, ◌≤◌, [], length, IfOk, OnOk};
 ghost use Rattle.scan_model.specs.Netlist.{Netlist};
 ghost use Rattle.scan_model.specs.Lines.{text_lines};
 ghost use Rattle.scan_model.specs.TextFaults.{HasNoFault, IsFirstFault, first_fault, refused_or};
 ghost use Rattle.scan_model.specs.ScanText.{net_names, scan_rule, scan_breaks, chains_of, scan_reading};
 ghost use Rattle.scan_model.specs.ScanTest.{AreChains};
-ghost use Rattle.text_parts.specs.Gives.{Gives, IfFault};
+ghost use Rattle.text_parts.specs.ReadResults.{Gives, IfFault};
 ghost use Rattle.text_parts.specs.Views.{nows};
-ghost use Rattle.scan_text.specs.AfterChains.{IsAfter};
+ghost use Rattle.scan_text.specs.ScanDrafts.{IsAfter};
 
-use crate::chains::Chains;
+use crate::chains::ScanDraft;
 use scan_model::{Chain, Circuit, Net, Rows};
 use std::alloc::Global;
 use text_parts::{Names, ReadFault, TextFault, lines_of};
@@ -18,7 +20,7 @@ fn take_lines<'a>(
     alloc: Global,
     nets: &[Net],
     names: &Names<'_>,
-    chains: &mut Chains<'a>,
+    chains: &mut ScanDraft<'a>,
     lines: &[&'a [u8]],
 ) -> Result<(), ReadFault>
     requires limit { length nets.now ≤ 65536 }
@@ -49,12 +51,13 @@ fn read_chains(
     ensures fits { (c : Netlist) → c.nets ≡ nets.now → IfOk result (λ v. AreChains c v.items) }
 {
     let lines = lines_of(alloc, bytes)?;
-    let mut chains = Chains::new(alloc);
+    let mut chains = ScanDraft::new(alloc);
     take_lines(alloc, nets, names, &mut chains, &lines)?;
     Ok(chains.chains)
 }
 
-/// The same as `read_scan`, by the names of the circuit's nets.
+/// The chains that a scan text stands for, or its first fault by rules 11 to 15, where the names of the circuit's nets
+/// are there already.
 pub fn read_scan_named(
     alloc: Global,
     circuit: &Circuit,

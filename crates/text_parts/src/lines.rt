@@ -1,8 +1,10 @@
+//! The lines of a text, without comments, and the bytes that a text may have.
+
 ghost use Rattle.std.specs.Prelude.{◌≡◌, map, IfOk, ◌==◌, not, MatchOption};
 ghost use Rattle.std.specs.List.{position_or_len, before_first};
 ghost use Rattle.std.specs.Str.Lines.{strip_carriage_return};
 ghost use Rattle.scan_model.specs.Lines.{text_lines, has_refused_byte, is_accepted, without_comment};
-ghost use Rattle.text_parts.specs.Ended.{is_ended};
+ghost use Rattle.text_parts.specs.TextEnd.{is_ended};
 ghost use Rattle.text_parts.specs.FirstLine.{HasNoEnd, BeginsWith};
 ghost use Rattle.text_parts.specs.Views.{nows};
 
@@ -21,13 +23,13 @@ pub fn has_refused_byte(line: &[u8]) -> bool
 {
     let mut found = false;
     for b in line {
-        // No branch, so that many bytes are judged at once.
+        // Without a branch, so that the processor compares many bytes at once.
         found |= !is_accepted(*b);
     }
     found
 }
 
-// The place of the first of such bytes, or else the number of bytes.
+// The place of the first byte that equals this one, or else the number of bytes.
 fn place_of(byte: u8, bytes: &[u8]) -> usize
     ensures { result ≡ position_or_len (λ b. b == byte) bytes.now }
 {

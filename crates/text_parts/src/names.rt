@@ -1,3 +1,5 @@
+//! Names in their order, found by a hash map.
+
 ghost use Rattle.std.specs.Prelude.{◌≡◌, ◌≢◌, ◌≤◌, ℕ, List, [], ◌∷◌, ◌++◌, length, take, position, unwrap_or, OnOk, OnErr, IfOk, Ok, true, false, not};
 ghost use Rattle.std.specs.List.{list_any, position_or_len};
 ghost use Rattle.std.specs.Str.{bytes_eq};

@@ -1,3 +1,5 @@
+//! The words of a line, and which words are names.
+
 ghost use Rattle.std.specs.Prelude.{◌≡◌, [], ◌≤◌, length, false, IfOk, OnOk, MatchOption};
 ghost use Rattle.std.specs.List.{list_all, position, position_or_len};
 ghost use Rattle.scan_model.specs.Lines.{is_blank};
@@ -93,10 +95,11 @@ pub fn words_of(alloc: Global, line: &[u8]) -> Result<Vec<&[u8]>, AllocError>
     Ok(list)
 }
 
+/// Whether a byte may stand in a name: a printable one, but no blank and none of `"`, `#`, `%`, `(`, `)`, `,` and `=`.
 pub fn is_name_byte(b: u8) -> bool
     ensures { result ≡ is_name_byte b }
 {
-    // Letters first: a `match` would look for them last.
+    // Most bytes of names are letters or digits: the first two comparisons tell them.
     if b >= b'>' {
         return b <= b'~';
     }

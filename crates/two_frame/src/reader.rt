@@ -5,7 +5,7 @@ ghost use Rattle.scan_model.specs.Lines.{text_lines};
 ghost use Rattle.scan_model.specs.TextFaults.{HasNoFault, IsFirstFault};
 ghost use Rattle.scan_model.specs.PatternText.{pattern_breaks, pattern_reading};
 ghost use Rattle.scan_model.specs.ScanTest.{ArePatterns};
-ghost use Rattle.text_parts.specs.Gives.{Gives, IfFault};
+ghost use Rattle.text_parts.specs.ReadResults.{Gives, IfFault};
 ghost use Rattle.two_frame.specs.TwoFrame.{launch_frame};
 
 use scan_model::{Chain, Circuit, Pattern, Rows};

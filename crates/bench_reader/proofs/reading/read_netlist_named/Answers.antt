@@ -7,16 +7,16 @@ use Rattle.scan_model.specs.Lines.{text_lines}
 use Rattle.scan_model.specs.TextFaults.{refused_or}
 use Rattle.scan_model.specs.NetlistRules.{forms_of, early_fault}
 use Rattle.scan_model.specs.NetlistText.{circuit_of, netlist_reading}
-use Rattle.bench_reader.specs.declared.reading.Draft.{Draft}
-use Rattle.bench_reader.specs.Drafts.{IsDraft}
+use Rattle.bench_reader.specs.declared.reading.CircuitDraft.{CircuitDraft}
+use Rattle.bench_reader.specs.CircuitDrafts.{IsDraft}
 use Rattle.bench_reader.proofs.SecondRound.{not_refused}
 use Rattle.bench_reader.proofs.CircuitOfLines.{length-nets_after, names_after}
 use Rattle.bench_reader.proofs.ThirdRound.{reads_circuit, reads_level_fault, length-net_lines_from}
-use Rattle.bench_reader.proofs.Judged.{reads_first, reads_none, early_first}
+use Rattle.bench_reader.proofs.FirstFaults.{reads_first, reads_none, early_first}
 use Rattle.text_parts.specs.declared.fault.ReadFault.TheVariants.{Text}
 use Rattle.bench_reader.proofs.reading.read_netlist_named.Goals as goal
 
-module _ (bytes : List ℕ) (d : Draft) (read : refused_or (early_fault (text_lines bytes)) (circuit_of bytes) ≡ Ok (netlist d.nets d.pins d.inputs d.outputs)) (draft : IsDraft d (forms_of (text_lines bytes))) where
+module _ (bytes : List ℕ) (d : CircuitDraft) (read : refused_or (early_fault (text_lines bytes)) (circuit_of bytes) ≡ Ok (netlist d.nets d.pins d.inputs d.outputs)) (draft : IsDraft d (forms_of (text_lines bytes))) where
   early : early_fault (text_lines bytes) ≡ None
   early = not_refused (early_fault (text_lines bytes)) (circuit_of bytes) (netlist d.nets d.pins d.inputs d.outputs) read
 

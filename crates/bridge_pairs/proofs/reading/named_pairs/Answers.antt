@@ -1,7 +1,7 @@
 use Rattle.std.proofs.Common.{◌≡◌, ◌-◌, length, map, refl, sym, ap, ◌∙◌, Ok, arith}
 use Rattle.csv.specs.Records.{fields_of}
 use Rattle.csv.specs.Reading.{default_config, records, strip_bom}
-use Rattle.text_parts.specs.Ended.{ended}
+use Rattle.text_parts.specs.TextEnd.{ended}
 use Rattle.bridge_pairs.specs.PairText.{trimmed, records_in, nets_named, with_pair}
 use Rattle.bridge_pairs.proofs.PairLoop.{none_named, record_is_faulty, no_fault_more, pairs_more, named_more, list_is_whole, rows_trimmed}
 use Rattle.bridge_pairs.proofs.reading.named_pairs.Goals as goal

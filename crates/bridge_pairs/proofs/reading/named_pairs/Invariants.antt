@@ -1,7 +1,7 @@
 use Rattle.std.proofs.Common.{◌≡◌, ◌-◌, length}
 use Rattle.scan_model.specs.TextFaults.{fault_from}
 use Rattle.bridge_pairs.specs.PairText.{records_in, pair_rule, pairs_fault, pairs_before}
-use Rattle.bridge_pairs.specs.NamedNets.{AreNamed}
+use Rattle.bridge_pairs.specs.NamedPairs.{AreNamed}
 use Rattle.bridge_pairs.proofs.reading.named_pairs.Given as goal
 
 abbrev pub invariant-loop-i : goal.invariant-loop-i

@@ -2,10 +2,10 @@ use Rattle.std.proofs.Common.{rules, ◌≡◌, ◌≤◌, List, Ok, Err, length
 use Rattle.std.proofs.lemmas.List.{length-map}
 use Rattle.scan_model.specs.declared.parts.Pair.{Pair}
 use Rattle.scan_model.specs.ScanText.{net_names}
-use Rattle.text_parts.specs.Gives.{Fails}
-use Rattle.bridge_pairs.specs.NamedNets.{AreNamed}
+use Rattle.text_parts.specs.ReadResults.{Fails}
+use Rattle.bridge_pairs.specs.NamedPairs.{AreNamed}
 use Rattle.bridge_pairs.specs.PairText.{parted, records_in, naming}
-use Rattle.bridge_pairs.proofs.Judged.{pairs_first, pairs_none}
+use Rattle.bridge_pairs.proofs.FirstFaults.{pairs_first, pairs_none}
 use Rattle.bridge_pairs.proofs.Parting.{parted_fit}
 use Rattle.bridge_pairs.proofs.reading.read_pairs_named.Goals as goal
 

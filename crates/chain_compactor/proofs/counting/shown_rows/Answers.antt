@@ -6,7 +6,7 @@ use Rattle.scan_model.specs.declared.parts.Point.TheVariants.{Output}
 use Rattle.lane_rows.specs.Planes.{Planes, held}
 use Rattle.lane_rows.specs.Sources.{no_planes}
 use Rattle.lane_rows.specs.GoodRows.{pattern_of}
-use Rattle.fail_logs.specs.IsFrame.{point_among}
+use Rattle.fail_logs.specs.FrameFacts.{point_among}
 use Rattle.chain_compactor.specs.Compaction.{compact_value}
 use Rattle.chain_compactor.specs.CompactCounts.{expected_at}
 use Rattle.chain_compactor.proofs.Members.{point_is_there}

@@ -6,7 +6,7 @@ use Rattle.scan_model.specs.Coverage.{FitsLog}
 use Rattle.scan_model.specs.Lines.{text_lines}
 use Rattle.scan_model.specs.TextFaults.{HasNoFault, IsFirstFault}
 use Rattle.scan_model.specs.LogText.{LogFrame, is_shift, log_breaks, log_reading}
-use Rattle.text_parts.specs.Gives.{Gives, IfFault}
+use Rattle.text_parts.specs.ReadResults.{Gives, IfFault}
 use Rattle.chain_compactor.proofs.logs.read_compact_log.Goals as goal
 
 pub returns-clause-reading : goal.returns-clause-reading

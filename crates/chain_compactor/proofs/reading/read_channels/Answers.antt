@@ -3,7 +3,7 @@ use Rattle.std.proofs.lemmas.List.{length-map}
 use Rattle.scan_model.specs.Netlist.{Netlist}
 use Rattle.scan_model.specs.ScanTest.{ScanTest}
 use Rattle.scan_model.proofs.PointCount.{outputs_few}
-use Rattle.text_parts.specs.Gives.{Fails}
+use Rattle.text_parts.specs.ReadResults.{Fails}
 use Rattle.chain_compactor.specs.declared.compactor.Channel.{Channel}
 use Rattle.chain_compactor.specs.Channels.{Compactor, compactor, compactor_of, cycles_of, points_over}
 use Rattle.chain_compactor.specs.ChannelText.{channel_reading}

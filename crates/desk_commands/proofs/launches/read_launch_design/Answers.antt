@@ -1,5 +1,5 @@
 use Rattle.std.proofs.Common.{◌∙◌, ℕ, List, Ok, subst}
-use Rattle.text_parts.specs.Gives.{Gives}
+use Rattle.text_parts.specs.ReadResults.{Gives}
 use Rattle.scan_model.specs.NetlistText.{netlist_reading}
 use Rattle.diagnosis.proofs.Halting.{comes_after}
 use Rattle.command_words.specs.Shown.{shown_files}

@@ -1,5 +1,5 @@
 use Rattle.std.proofs.Common.{◌≡◌, Ok, subst}
-use Rattle.text_parts.specs.Gives.{Fails}
+use Rattle.text_parts.specs.ReadResults.{Fails}
 use Rattle.scan_model.specs.NetlistText.{netlist_reading}
 use Rattle.diagnosis.specs.Texts.{netlist_text, with_circuit}
 use Rattle.diagnosis.specs.Shown.{shown_over}

@@ -4,7 +4,7 @@ use Rattle.scan_model.specs.declared.logs.LogFacts.{LogFacts}
 use Rattle.scan_model.specs.Lines.{text_lines}
 use Rattle.scan_model.specs.TextFaults.{HasNoFault, IsFirstFault}
 use Rattle.scan_model.specs.LogText.{LogFrame, log_breaks, log_reading}
-use Rattle.text_parts.specs.Gives.{Gives, IfFault}
+use Rattle.text_parts.specs.ReadResults.{Gives, IfFault}
 use Rattle.fail_logs.proofs.Before.{gives_v1}
 use Rattle.fail_logs.proofs.reading.read_log.Goals as goal
 

@@ -4,7 +4,7 @@ use Rattle.scan_model.specs.declared.fault.BridgeKind.{BridgeKind}
 use Rattle.scan_model.specs.declared.fault.Fault.TheVariants.{Bridge}
 use Rattle.scan_model.specs.ScanTest.{ScanTest}
 use Rattle.scan_model.specs.Universe.{bridges}
-use Rattle.fault_universe.specs.FoundPlace.{FindsPlace}
+use Rattle.fault_universe.specs.FaultPlaces.{FindsPlace}
 use Rattle.fault_universe.specs.KeptPairs.{IsNoneOfPair}
 use Rattle.fault_universe.proofs.BridgePlaces.{no_bridge}
 use Rattle.fault_universe.proofs.bridges.bridge_place.Goals as goal

@@ -1,6 +1,6 @@
 use Rattle.std.proofs.Common.{ℕ, sym, ap, ◌∙◌, arith}
 use Rattle.scan_model.specs.Coverage.{bit_of}
-use Rattle.log_join.specs.Reaching.{reaches}
+use Rattle.log_join.specs.FailReach.{reaches}
 use Rattle.log_join.proofs.CoverSteps.{cut_on}
 use Rattle.log_join.proofs.ends.cut_ends.Goals as goal
 

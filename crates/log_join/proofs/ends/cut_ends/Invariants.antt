@@ -1,6 +1,6 @@
 use Rattle.std.proofs.Common.{◌≡◌, ℕ, ◌<◌, nat_lt, not, ◌&&◌, ◌||◌, take, length, get_or}
 use Rattle.scan_model.specs.Coverage.{bit_of, has_point}
-use Rattle.log_join.specs.Reaching.{reaches}
+use Rattle.log_join.specs.FailReach.{reaches}
 use Rattle.log_join.proofs.ends.cut_ends.Given as goal
 
 abbrev pub invariant-loop-i : goal.invariant-loop-i

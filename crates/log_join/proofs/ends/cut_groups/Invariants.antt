@@ -1,7 +1,7 @@
 use Rattle.std.proofs.Common.{◌≡◌, ℕ, ◌<◌, nat_lt, not, ◌&&◌, ◌||◌, take, length, get_or}
 use Rattle.std.specs.List.{list_all}
 use Rattle.scan_model.specs.Coverage.{bit_of, has_point, group_goes_on}
-use Rattle.log_join.specs.Reaching.{AreUnmarked}
+use Rattle.log_join.specs.FailReach.{AreUnmarked}
 use Rattle.log_join.proofs.ends.cut_groups.Given as goal
 
 abbrev pub invariant-loop-i : goal.invariant-loop-i

@@ -1,6 +1,6 @@
 use Rattle.std.proofs.Common.{◌≡◌, ℕ, ◌<◌, nat_lt, get_or}
 use Rattle.scan_model.specs.Coverage.{bit_of}
-use Rattle.log_join.specs.Reaching.{reaches}
+use Rattle.log_join.specs.FailReach.{reaches}
 use Rattle.log_join.proofs.ends.set_ends.Given as goal
 
 abbrev pub invariant-loop-point : goal.invariant-loop-point

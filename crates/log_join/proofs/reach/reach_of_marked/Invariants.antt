@@ -1,7 +1,7 @@
 use Rattle.std.proofs.Common.{◌≡◌, ℕ, take, false, ◌&&◌, get_or}
 use Rattle.std.specs.List.{list_any}
 use Rattle.scan_model.specs.Coverage.{bit_of, not_after}
-use Rattle.log_join.specs.Reaching.{reaches, HasEnds}
+use Rattle.log_join.specs.FailReach.{reaches, HasEnds}
 use Rattle.log_join.proofs.reach.reach_of_marked.Given as goal
 
 abbrev pub invariant-loop-i : goal.invariant-loop-i

@@ -1,9 +1,9 @@
 use Rattle.std.proofs.Common.{rules, ◌≡◌, List, Ok, Err}
 use Rattle.scan_model.specs.declared.parts.Pattern.{Pattern}
 use Rattle.scan_model.specs.PatternText.{pattern_reading}
-use Rattle.text_parts.specs.Gives.{Fails}
+use Rattle.text_parts.specs.ReadResults.{Fails}
 use Rattle.scan_text.specs.Frames.{frame_view}
-use Rattle.scan_text.proofs.Judged.{pattern_first, pattern_none}
+use Rattle.scan_text.proofs.FirstFaults.{pattern_first, pattern_none}
 use Rattle.scan_text.proofs.patterns.read_framed_patterns.Goals as goal
 
 pub returns-clause-none : goal.returns-clause-none

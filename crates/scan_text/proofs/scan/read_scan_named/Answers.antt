@@ -1,8 +1,8 @@
 use Rattle.std.proofs.Common.{rules, ◌≡◌, List, Ok, Err, sym, ◌∙◌}
 use Rattle.scan_model.specs.declared.parts.Chain.{Chain}
 use Rattle.scan_model.specs.ScanText.{scan_reading}
-use Rattle.text_parts.specs.Gives.{Fails}
-use Rattle.scan_text.proofs.Judged.{scan_first, scan_none}
+use Rattle.text_parts.specs.ReadResults.{Fails}
+use Rattle.scan_text.proofs.FirstFaults.{scan_first, scan_none}
 use Rattle.scan_text.proofs.scan.read_scan_named.Goals as goal
 
 pub returns-clause-fits : goal.returns-clause-fits

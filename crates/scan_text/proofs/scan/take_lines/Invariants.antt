@@ -2,7 +2,7 @@ use Rattle.std.proofs.Common.{◌≡◌, ◌-◌, length}
 use Rattle.scan_model.specs.TextFaults.{fault_from, first_fault}
 use Rattle.scan_model.specs.ScanText.{scan_rule, chains_before}
 use Rattle.text_parts.specs.Views.{nows}
-use Rattle.scan_text.specs.AfterChains.{IsAfter}
+use Rattle.scan_text.specs.ScanDrafts.{IsAfter}
 use Rattle.scan_text.proofs.SoundChains.{AreSound}
 use Rattle.scan_text.proofs.scan.take_lines.Given as goal
 
