@@ -1,3 +1,4 @@
+-- The specs of tracing failing bits back.
 pub mod Fails
 pub mod Keys
 pub mod Traces

@@ -1,3 +1,4 @@
+//! Whether a fault explains a failing bit of a block.
 ghost use Rattle.std.specs.Prelude.{◌≡◌, ℕ, ◌<◌, ◌&&◌, ◌||◌, None, nat_lt, length, slice_index, slice_index_or};
 ghost use Rattle.scan_model.specs.declared.fault.Fault.TheVariants as fault;
 ghost use Rattle.scan_model.specs.Values.{are_opposite};

@@ -1,3 +1,4 @@
+//! Marks on the faults that explain a failing bit of a block, kind by kind.
 ghost use Rattle.std.specs.Prelude.{◌≡◌, ℕ, ◌+◌, ◌*◌, ◌<◌, ◌^◌, true, length};
 ghost use Rattle.scan_model.specs.Universe as listed;
 ghost use Rattle.back_trace.specs.Marking.{IsPlaceBelow, IsUnreached, IsTraced, StandAt, MarksOn};

@@ -1,3 +1,4 @@
+-- The specs of tests behind a compactor.
 pub mod Channels
 pub mod ChannelText
 pub mod AfterChannels

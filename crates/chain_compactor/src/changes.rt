@@ -48,7 +48,7 @@ pub(crate) trait Changes {
             (λ row. (j : ℕ) → j < 512 → tells self.now j → IsChange (good self.now j point) (held row j) (shown self.now j point)) };
 }
 
-/// A row that is an XOR over fault-free values, with what one point shows.
+/// A row that is an XOR over fault-free values, with what one point shows instead of its own.
 fn changed<C: Changes>(changes: &C, row: Packed, point: Point, net: u32) -> Packed
     requires ready { C.ready changes.now }
     requires point { IsPoint (C.test changes.now) point }
@@ -70,8 +70,8 @@ fn nets_in(nets: &[Vec<u32>], chain: u32) -> &[u32]
     &nets[chain as usize]
 }
 
-/// The same with what a chain shows in an unload cycle, if it shows something. The nets are those that the cells of each chain
-/// observe.
+/// A row that is an XOR over fault-free values, with what the cell of a chain that is unloaded in a cycle shows instead; the
+/// row itself where the chain is shorter. The nets are those that the cells of each chain observe.
 fn chain_changed<C: Changes>(
     changes: &C,
     parts: &Parts,
@@ -98,7 +98,7 @@ fn chain_changed<C: Changes>(
     changed(changes, row, Point::Cell { chain, pos }, own[at])
 }
 
-/// The same with what chains show in an unload cycle.
+/// A row that is an XOR over the fault-free values of an unload cycle of some chains, with what their cells show instead.
 fn chains_changed<C: Changes>(
     changes: &C,
     parts: &Parts,

@@ -153,7 +153,7 @@ fn counts_at(
     list_candidates(alloc, suspects.as_slice(), &totals)
 }
 
-/// The same of all faults.
+/// The counts of all faults that explain a failing bit, in the order of their places.
 fn counts_of_all(
     alloc: Global,
     parts: &Parts,

@@ -118,7 +118,7 @@ pub fn compact_expected(
     compact_expected_over(alloc, parts, compact, &rows)
 }
 
-/// The same, from fault-free rows that are kept.
+/// The expected values at the compact points, from fault-free rows that are kept.
 pub fn compact_expected_over(
     alloc: Global,
     parts: &Parts,

@@ -1,1 +1,2 @@
+-- The specs of expected values.
 pub mod ShownWords

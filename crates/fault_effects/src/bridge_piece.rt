@@ -64,7 +64,8 @@ fn bridge_part<O: Observer, L: Ledger>(
     Ok(work.observer.both(of_first, of_second))
 }
 
-/// The same over what is kept. The faults of a pair, and mostly pairs of one net, come one after another.
+/// The part of a bridge fault, from the flips of its two nets. Those that are kept from the fault before serve again: the faults
+/// of a pair, and mostly pairs of one net, come one after another.
 fn pair_part<O: Observer, L: Ledger>(
     work: &BlockWork<'_, O>,
     scratch: &mut Scratch,

@@ -51,7 +51,8 @@ impl Listing {
         })
     }
 
-    /// Lists a net that wasn't seen and owns a suspect. What stands behind it is due: of a net without one nothing behind it shows either.
+    /// Lists a net that wasn't seen, if it owns a suspect, and its upstream nets that only its gate reads are due next. Those of
+    /// a net that isn't listed wait for their own turn.
     fn put(
         &mut self,
         parts: &Parts,

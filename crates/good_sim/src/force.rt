@@ -1,3 +1,4 @@
+//! What a fault of the logic forces, from the fault-free values of its nets.
 ghost use Rattle.std.specs.Prelude.{◌≡◌, length, IfOk, IfSome};
 ghost use Rattle.scan_model.specs.Faults as model;
 ghost use Rattle.scan_model.specs.ChainShift.{value_at};

@@ -1,3 +1,4 @@
+//! What outputs show, what cells capture, and the values of the points.
 ghost use Rattle.std.specs.Prelude.{◌≡◌, ◌<◌, length, map, All, IfOk};
 ghost use Rattle.scan_model.specs.ChainShift.{value_at};
 ghost use Rattle.scan_model.specs.ScanTest.{IsFlop};

@@ -1,3 +1,4 @@
+//! An order of evaluation of the gates, and for each net the gates that read it.
 ghost use Rattle.std.specs.Prelude.{◌≡◌, ◌≢◌, ◌||◌, ◌==◌, ℕ, ◌+◌, ◌<◌, ◌≤◌, ◌^◌, true, false, Contains, length, All, IfOk, IsTrue, slice_index};
 ghost use Rattle.std.specs.List.{list_any};
 ghost use Rattle.scan_model.specs.Netlist.{is_gate, is_gate_net, reads, pin_at};

@@ -45,7 +45,7 @@ pub record IsBuiltFor (t : ScanTest) (g : PackedGood) : Type 0 where
   pub net_count : length g.points ≡ length t.netlist.nets
   pub points : (n : ℕ) → n < length t.netlist.nets → slice_index_or g.points n [] ≡ points_of_net t n
 
--- The same, and the rows are the fault-free ones of the test's patterns.
+-- Wiring, points and rows are those of a test, and the rows are the fault-free ones of its patterns.
 pub record BelongsTo (t : ScanTest) (g : PackedGood) : Type 0 where
   pub rows : AreGoodRows t g.rows
   pub built : IsBuiltFor t g
@@ -71,7 +71,7 @@ pub record IsScratchIn (g : PackedGood) (s : Scratch) : Type 0 where
   pub empty : (k : ℕ) → has_place s.waiting k ≡ false
   pub room : length g.points ≤ room s.waiting
 
--- The same, and no net has a row of its own.
+-- The scratch has room, nothing waits, and no net has a row of its own.
 pub record IsScratchOf (g : PackedGood) (s : Scratch) : Type 0 where
   pub inside : IsScratchIn g s
   pub clean : IsClean s.overlay

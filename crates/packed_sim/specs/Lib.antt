@@ -1,3 +1,4 @@
+-- The specs of simulation by rows.
 pub mod Rows
 pub mod Spread
 pub mod Belongs

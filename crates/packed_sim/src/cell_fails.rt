@@ -1,3 +1,4 @@
+//! The fails that a fault of a shift path predicts, by point and pattern.
 ghost use Rattle.std.specs.Prelude.{◌≡◌, ℕ, ◌+◌, ◌*◌, ◌/◌, ◌<◌, ◌≤◌, ◌==◌, ◌&&◌, None, Some, nat_lt, length, Contains, MatchOption};
 ghost use Rattle.std.specs.Int.{bit_at};
 ghost use Rattle.scan_model.specs.declared.fault.Fault.TheVariants as fault;

@@ -1,3 +1,4 @@
+//! Chains in the patterns of a block: what a cell is loaded with, captures and unloads under a fault of the shift path.
 ghost use Rattle.std.specs.Prelude.{◌≡◌, ℕ, ◌+◌, ◌-◌, ◌<◌, ◌≤◌, Some, drop, length, if◌then◌else◌};
 ghost use Rattle.scan_model.specs.declared.fault.Fault.TheVariants as fault;
 ghost use Rattle.scan_model.specs.declared.parts.Point.TheVariants as point;

@@ -1,3 +1,4 @@
+//! The rows of a block under a change: those that the change gave to nets, else the fault-free ones.
 ghost use Rattle.std.specs.Prelude.{◌≡◌, length};
 
 use crate::overlay::Overlay;

@@ -1,3 +1,4 @@
+//! The fails that a fault predicts in the 64 patterns of a word.
 ghost use Rattle.std.specs.Prelude.{◌≡◌, ℕ, ◌+◌, ◌*◌, ◌/◌, ◌%◌, ◌<◌, ◌≤◌, ◌==◌, ◌&&◌, false, Contains, length, slice_index};
 ghost use Rattle.std.specs.Int.{bit_at};
 ghost use Rattle.scan_model.specs.declared.circuit.PinPlace.TheVariants as place;
@@ -265,7 +266,7 @@ impl PackedGood {
         }
     }
 
-    /// The same, with the changes left in the scratch.
+    /// The fails that a fault predicts in the 64 patterns of a word; the rows that it changes stay in the scratch.
     fn write_fails<L: Ledger>(
         &self,
         parts: &Parts,

@@ -1,3 +1,4 @@
+//! Nets forced or flipped in some lanes of a block, with what follows in their cones.
 ghost use Rattle.std.specs.Prelude.{◌≡◌, ℕ, ◌+◌, ◌<◌, ◌≤◌, [], ◌∷◌, ◌&&◌, ◌↔◌, true, Contains, IsTrue, MatchOption, nat_eq, length, slice_index_or};
 ghost use Rattle.std.specs.List.{IsDistinct};
 ghost use Rattle.scan_model.specs.Values.{are_opposite, tri_xor};

@@ -1,3 +1,4 @@
+//! A change put on one net or on two, spread through the gates that it reaches.
 ghost use Rattle.std.specs.Prelude.{◌≡◌, ℕ, ◌+◌, ◌<◌, ◌≤◌, [], ◌∷◌, true, false, Bool, length, count_by};
 ghost use Rattle.scan_model.specs.declared.values.Tri.{Tri};
 ghost use Rattle.scan_model.specs.NetValue.{Forced, values_of};

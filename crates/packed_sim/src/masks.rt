@@ -1,3 +1,4 @@
+//! The lanes in which a fault flips its site: a stuck net, the gate of a stuck pin, a net of a bridge.
 ghost use Rattle.std.specs.Prelude.{◌≡◌, ℕ, ◌+◌, ◌<◌, ◌==◌, true, false, length, slice_index_or, count_by, MatchOption};
 ghost use Rattle.scan_model.specs.declared.circuit.PinPlace.TheVariants as place;
 ghost use Rattle.scan_model.specs.declared.circuit.Driver.TheVariants as driver;

@@ -1,3 +1,4 @@
+//! The room in which a change spreads, each gate evaluated once at most.
 ghost use Rattle.std.specs.Prelude.{◌≡◌, ℕ, ◌+◌, ◌<◌, ◌≤◌, ◌^◌, [], Some, true, false, length, All, IfOk, IsTrue, slice_set, slice_index, slice_index_or, ◌==◌, ◌||◌, Bool, count_by};
 ghost use Rattle.std.specs.List.{list_any};
 ghost use Rattle.scan_model.specs.declared.values.Tri.{Tri};
