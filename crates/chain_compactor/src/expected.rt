@@ -12,7 +12,7 @@ ghost use Rattle.chain_compactor.specs.Compaction.{cell_shown, cells_shown, comp
 ghost use Rattle.chain_compactor.specs.Shown.{IsThere};
 
 use crate::compactor::Compact;
-use expected_values::{ShownRows, expected_of, point_in_block};
+use expected_values::{ResponseRows, expected_of, point_in_block};
 use lane_rows::{Block, GoodRows, Packed};
 use scan_model::{Expected, NoMemory, Parts, Point, Tri};
 use std::alloc::Global;
@@ -85,7 +85,7 @@ struct CompactRows<'a> {
     rows: &'a GoodRows,
 }
 
-impl ShownRows for CompactRows<'_> {
+impl ResponseRows for CompactRows<'_> {
     ghost use Rattle.std.specs.Prelude.{length};
     ghost use Rattle.lane_rows.specs.GoodRows.{AreGoodRows};
     ghost use Rattle.chain_compactor.specs.Channels.{IsCompactorOf};

@@ -1,2 +1,2 @@
 -- The specs of expected values.
-pub mod ShownWords
+pub mod ResponseWords

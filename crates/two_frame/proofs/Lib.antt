@@ -4,7 +4,7 @@ pub mod SlowPins
 pub mod Transitions
 pub mod NextFrame
 pub mod ShownFails
-pub mod ShownRows
+pub mod FrameResponses
 pub mod Reaching
 pub mod TransitionPlaces
 pub mod BlockReads

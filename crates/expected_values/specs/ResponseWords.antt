@@ -6,7 +6,7 @@ use Rattle.scan_model.specs.ChainShift.{value_at}
 use Rattle.lane_rows.specs.Planes.{Planes, held}
 use Rattle.lane_rows.specs.Sources.{no_planes}
 use Rattle.lane_rows.specs.GoodRows.{pattern_of}
-use Rattle.expected_values.specs.declared.expected.ShownWords.{ShownWords}
+use Rattle.expected_values.specs.declared.expected.ResponseWords.{ResponseWords}
 
 -- a row for each place, with its values in the patterns of block b, as far as there are patterns
 pub record ShowsBlock (table : List (List Tri)) (places b : ℕ) (rows : List Planes) : Type 0 where
@@ -15,7 +15,7 @@ pub record ShowsBlock (table : List (List Tri)) (places b : ℕ) (rows : List Pl
       → held (slice_index_or rows k no_planes) j ≡ value_at (slice_index_or table (pattern_of b j) []) k
 
 -- there are n words, which have the values of their patterns, as far as there are patterns
-pub record AreShown (table : List (List Tri)) (places n : ℕ) (words : ShownWords) : Type 0 where
+pub record AreResponseWords (table : List (List Tri)) (places n : ℕ) (words : ResponseWords) : Type 0 where
   pub known : length words.known ≡ n
   pub ones : length words.ones ≡ n
   pub value : (w k : ℕ) → w < length table → k < places → w / 64 * places + k < n

@@ -8,7 +8,7 @@ ghost use Rattle.lane_rows.specs.GoodRows.{pattern_of};
 use lane_rows::Packed;
 
 /// What places show in the patterns of a test, 512 patterns at a time.
-pub trait ShownRows {
+pub trait ResponseRows {
     ghost use Rattle.std.specs.Prelude.{ℕ, List};
     ghost use Rattle.scan_model.specs.declared.values.Tri.{Tri};
 

@@ -14,8 +14,8 @@ use Rattle.scan_model.proofs.BitTables.{place_inside, tables_are, bit_of_or}
 use Rattle.lane_rows.specs.Planes.{Planes, held}
 use Rattle.lane_rows.specs.Sources.{no_planes}
 use Rattle.lane_rows.specs.GoodRows.{pattern_of}
-use Rattle.expected_values.specs.declared.expected.ShownWords.{ShownWords}
-use Rattle.expected_values.specs.ShownWords.{AreShown, ShowsBlock}
+use Rattle.expected_values.specs.declared.expected.ResponseWords.{ResponseWords}
+use Rattle.expected_values.specs.ResponseWords.{AreResponseWords, ShowsBlock}
 
 -- a value behind others
 module _ {X : Type 0} (values more : List X) (added d : X) (n : ℕ) (len : length values ≡ n) (is : more ≡ values ++ added ∷ []) where
@@ -55,10 +55,10 @@ pub word_shows : (ones zeros i : ℕ) (v : Tri) → (bit_at ones i == 1) ≡ is_
 word_shows ones zeros i v one zero = rw (bit_of_or ones zeros i, one, zero) (value_of_its_bits v)
 
 -- what a place shows in the 64 patterns of a word, behind what the places before it show
-pub one_more : (table : List (List Tri)) (places : ℕ) (words more : ShownWords) (word k known ones : ℕ) → k < places
-    → AreShown table places (word * places + k) words → more.known ≡ words.known ++ known ∷ [] → more.ones ≡ words.ones ++ ones ∷ []
+pub one_more : (table : List (List Tri)) (places : ℕ) (words more : ResponseWords) (word k known ones : ℕ) → k < places
+    → AreResponseWords table places (word * places + k) words → more.known ≡ words.known ++ known ∷ [] → more.ones ≡ words.ones ++ ones ∷ []
     → ((i : ℕ) → i < 64 → 64 * word + i < length table → value_in known ones i ≡ value_at (get_or table (64 * word + i) []) k)
-    → AreShown table places (word * places + (k + 1)) more
+    → AreResponseWords table places (word * places + (k + 1)) more
 one_more table places words more word k known ones in_places before is_known is_ones shows =
     let n = word * places + k in
     record {
@@ -81,8 +81,8 @@ one_more table places words more word k known ones in_places before is_known is_
     }
 
 -- all words are the expected values
-pub words_are : (table : List (List Tri)) (patterns places : ℕ) (words : ShownWords) → length table ≡ patterns → All (λ row. length row ≡ places) table
-    → AreShown table places ((patterns + 63) / 64 * places) words → table_rows words.known words.ones patterns places ≡ table
+pub words_are : (table : List (List Tri)) (patterns places : ℕ) (words : ResponseWords) → length table ≡ patterns → All (λ row. length row ≡ places) table
+    → AreResponseWords table places ((patterns + 63) / 64 * places) words → table_rows words.known words.ones patterns places ≡ table
 words_are table patterns places words len whole shown =
     ap (λ (n : ℕ). table_rows words.known words.ones n places) (sym len)
     ∙ tables_are words.known words.ones places table whole

@@ -10,7 +10,7 @@ use Rattle.lane_rows.specs.GoodRows.{pattern_of, AreBlockRows, no_block}
 use Rattle.chain_compactor.specs.Compaction.{compact_value}
 use Rattle.chain_compactor.proofs.CompactRows.{length-compact_rows, compact_row}
 use Rattle.chain_compactor.proofs.Members.{point_is_there}
-use Rattle.chain_compactor.proofs.expected.CompactRowsShownRows.row.Goals as goal
+use Rattle.chain_compactor.proofs.expected.CompactRowsResponseRows.row.Goals as goal
 
 pub bounds-blocks-block : goal.bounds-blocks-block
 bounds-blocks-block c =

@@ -11,7 +11,7 @@ use Rattle.scan_model.proofs.ExpectedRows.{length-expected_rows, expected_row}
 use Rattle.scan_model.proofs.Points.{points_are_points}
 use Rattle.lane_rows.specs.declared.block.Block.{Block}
 use Rattle.lane_rows.specs.GoodRows.{pattern_of, AreBlockRows, no_block}
-use Rattle.expected_values.proofs.point_rows.PointRowsShownRows.row.Goals as goal
+use Rattle.expected_values.proofs.point_rows.PointRowsResponseRows.row.Goals as goal
 
 pub bounds-blocks-block : goal.bounds-blocks-block
 bounds-blocks-block c =

@@ -14,8 +14,8 @@ use Rattle.lane_rows.specs.Sources.{lane_values, no_planes}
 use Rattle.lane_rows.specs.GoodRows.{pattern_of, no_block}
 use Rattle.two_frame.specs.TwoFrame.{second_source, frame_observed, frame_response}
 use Rattle.two_frame.proofs.BlockReads.{values_read, second_values, net_read}
-use Rattle.two_frame.proofs.ShownRows.{net_shows, length-frame_rows}
-use Rattle.two_frame.proofs.expected.FramePointsShownRows.row.Goals as goal
+use Rattle.two_frame.proofs.FrameResponses.{net_shows, length-frame_rows}
+use Rattle.two_frame.proofs.expected.FramePointsResponseRows.row.Goals as goal
 
 pub bounds-blocks-block : goal.bounds-blocks-block
 bounds-blocks-block c =
