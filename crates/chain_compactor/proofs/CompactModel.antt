@@ -40,7 +40,7 @@ use Rattle.fault_effects.proofs.SoleReader.{pin_flips-is}
 use Rattle.chain_compactor.specs.Channels.{Compactor, IsCompactorOf}
 use Rattle.chain_compactor.specs.Compaction.{predicts_compact_fail}
 use Rattle.chain_compactor.specs.Flips.{differs, flip_differs, straight_value, members_at, flip_shows_through, straight_through}
-use Rattle.chain_compactor.specs.Seeing.{seeing}
+use Rattle.chain_compactor.specs.ObservationPoints.{seeing}
 use Rattle.chain_compactor.specs.CompactModel.{compact_model}
 use Rattle.chain_compactor.proofs.OneFlip.{captured_fails, shifted_fails, unknown_hides}
 use Rattle.chain_compactor.proofs.Behind.{flips_behind}

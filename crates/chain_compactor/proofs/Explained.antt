@@ -21,7 +21,7 @@ use Rattle.scan_model.specs.Classes.{class, class_by, is_failing}
 use Rattle.scan_model.specs.MatchCounts.{counts_of}
 use Rattle.chain_compactor.specs.Channels.{Compactor, IsCompactorOf}
 use Rattle.chain_compactor.specs.Compaction.{compact_bits, compact_class, compact_counts_of, predicts_compact_fail}
-use Rattle.chain_compactor.specs.Tracing.{IsBitIn, AreBits, ListsBehind, complete_log}
+use Rattle.chain_compactor.specs.TracedBits.{IsBitIn, AreBits, ListsBehind, complete_log}
 use Rattle.chain_compactor.proofs.Members.{fail_has_one_behind}
 use Rattle.chain_compactor.proofs.SeenBehind.{seen}
 

@@ -22,7 +22,7 @@ use Rattle.fail_logs.proofs.TestOrder.{contains_here, contains_later, output_sta
 use Rattle.chain_compactor.specs.Channels.{Compactor, IsCompactorOf, no_channel, channel_at, chain_length, cycles_of}
 use Rattle.chain_compactor.specs.Compaction.{cell_shown, cells_shown, members, compact_value, predicts_compact_fail}
 use Rattle.chain_compactor.specs.Flips.{members_at}
-use Rattle.chain_compactor.specs.Shown.{IsThere}
+use Rattle.chain_compactor.specs.CompactPoints.{IsThere}
 use Rattle.chain_compactor.proofs.CompactOrder.{points_are}
 use Rattle.chain_compactor.proofs.Xors.{xor_one, some_fails}
 

@@ -12,8 +12,8 @@ ghost use Rattle.packed_sim.specs.Changes.{IsChange};
 ghost use Rattle.fail_logs.specs.Frames.{rows_view};
 ghost use Rattle.chain_compactor.specs.Channels.{IsCompactorOf};
 ghost use Rattle.chain_compactor.specs.Compaction.{cell_shown, cells_shown, members};
-ghost use Rattle.chain_compactor.specs.Seeing.{chain_nets};
-ghost use Rattle.chain_compactor.specs.Shown.{IsThere};
+ghost use Rattle.chain_compactor.specs.ObservationPoints.{chain_nets};
+ghost use Rattle.chain_compactor.specs.CompactPoints.{IsThere};
 
 use crate::compactor::Compact;
 use lane_rows::{Packed, Row};

@@ -9,7 +9,7 @@ ghost use Rattle.lane_rows.specs.Planes.{held};
 ghost use Rattle.lane_rows.specs.GoodRows.{pattern_of, AreBlockRows, AreGoodRows};
 ghost use Rattle.chain_compactor.specs.Channels.{IsCompactorOf, chain_length as model_length};
 ghost use Rattle.chain_compactor.specs.Compaction.{cell_shown, cells_shown, compact_value, compact_rows};
-ghost use Rattle.chain_compactor.specs.Shown.{IsThere};
+ghost use Rattle.chain_compactor.specs.CompactPoints.{IsThere};
 
 use crate::compactor::Compact;
 use expected_values::{ResponseRows, expected_of, point_in_block};

@@ -12,8 +12,8 @@ ghost use Rattle.packed_sim.specs.Belongs.{BelongsTo};
 ghost use Rattle.fault_effects.specs.PointRows.{no_point_row};
 ghost use Rattle.chain_compactor.specs.Channels.{IsCompactorOf};
 ghost use Rattle.chain_compactor.specs.Compaction.{compact_rows, compact_counts_of};
-ghost use Rattle.chain_compactor.specs.Seeing.{seeing, AreTables};
-ghost use Rattle.chain_compactor.specs.Tracing.{AddsLanes, AddsBehind, ListsBehind, AreBits, complete_log};
+ghost use Rattle.chain_compactor.specs.ObservationPoints.{seeing, AreTables};
+ghost use Rattle.chain_compactor.specs.TracedBits.{AddsLanes, AddsBehind, ListsBehind, AreBits, complete_log};
 
 use crate::compactor::Compact;
 use crate::tables::Tables;

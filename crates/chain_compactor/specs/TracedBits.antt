@@ -11,7 +11,7 @@ use Rattle.fault_effects.specs.declared.point_row.PointRow.{PointRow}
 use Rattle.fault_effects.specs.PointRows.{no_point_row}
 use Rattle.chain_compactor.specs.Channels.{Compactor}
 use Rattle.chain_compactor.specs.Compaction.{compact_class}
-use Rattle.chain_compactor.specs.Seeing.{seeing}
+use Rattle.chain_compactor.specs.ObservationPoints.{seeing}
 
 -- a bit of so many patterns and points
 abbrev pub IsBitIn : ℕ → ℕ → Bit → Type 0
