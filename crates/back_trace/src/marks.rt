@@ -1,7 +1,7 @@
 //! Marks on the faults that explain a failing bit of a block, kind by kind.
 ghost use Rattle.std.specs.Prelude.{◌≡◌, ℕ, ◌+◌, ◌*◌, ◌<◌, ◌^◌, true, length};
 ghost use Rattle.scan_model.specs.Universe as listed;
-ghost use Rattle.back_trace.specs.Marking.{IsPlaceBelow, IsUnreached, IsTraced, StandAt, MarksOn};
+ghost use Rattle.back_trace.specs.SuspectMarks.{IsPlaceBelow, IsUnreached, IsTraced, StandAt, MarksOn};
 
 use crate::explain::{is_explained, pin_of};
 use crate::trace::Trace;
