@@ -5,7 +5,7 @@ pub mod Transitions
 pub mod NextFrame
 pub mod ShownFails
 pub mod FrameResponses
-pub mod Reaching
+pub mod FanInMarks
 pub mod TransitionPlaces
 pub mod BlockReads
 pub mod SlowPlaces

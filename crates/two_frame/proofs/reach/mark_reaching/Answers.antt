@@ -13,7 +13,7 @@ use Rattle.packed_sim.specs.Belongs.{observed_at}
 use Rattle.back_trace.proofs.Ranges.{any_at}
 use Rattle.two_frame.proofs.BlockReads.{net_read}
 use Rattle.two_frame.proofs.FrameResponses.{fits_frames}
-use Rattle.two_frame.proofs.Reaching.{class_is}
+use Rattle.two_frame.proofs.FanInMarks.{class_is}
 use Rattle.two_frame.proofs.reach.mark_reaching.Goals as goal
 
 pub mark_failing-requires-clause-expected : goal.mark_failing-requires-clause-expected

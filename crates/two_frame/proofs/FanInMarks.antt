@@ -41,7 +41,7 @@ use Rattle.match_counts.proofs.CandidateRows.{all_candidates}
 use Rattle.match_counts.proofs.Sums.{sum_agree_in, sum_zero, sum_of_map, sum_of_flat_map}
 use Rattle.two_frame.specs.TwoFrame.{second_source, frame_response, frame_rows, frame_class, frame_fails, transitions, frame_candidates}
 use Rattle.two_frame.specs.FrameRows.{transition_at}
-use Rattle.two_frame.specs.Reaching.{IsSeen, AreReaching, reaches}
+use Rattle.two_frame.specs.FanInMarks.{IsSeen, AreReaching, reaches}
 use Rattle.two_frame.proofs.ShownFails.{stem_fails-is, gate_fails-is, pin_fails-is}
 
 -- ---- marks
