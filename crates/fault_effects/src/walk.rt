@@ -9,7 +9,7 @@ ghost use Rattle.fault_effects.specs.Notes.{AreNotes};
 ghost use Rattle.fault_effects.specs.ChainWork.{IsChainWork};
 
 use crate::block_work::BlockWork;
-use crate::loaded::Loaded;
+use crate::loaded_chain::LoadedChain;
 use crate::notes::Notes;
 use crate::observer::ChainObserver;
 use packed_sim::Scratch;
@@ -59,7 +59,7 @@ fn begin<O: ChainObserver, L: Ledger>(
     work.good
         .load(work.parts, scratch, work.block, behind, kind, steps);
     clear_marks(scratch, work.parts.circuit().nets().len());
-    let loaded = Loaded {
+    let loaded = LoadedChain {
         work,
         scratch,
         chain: behind.0,
@@ -87,7 +87,7 @@ fn note_step<O: ChainObserver>(
     ensures notes { AreNotes (O.sums work.now.observer.now) (O.model work.now.observer.now).places notes.new }
     ensures step { IsStepNoted work.now.parts.now (O.model work.now.observer.now) work.now.block behind.0 behind.1 kind scratch.now notes.old.rows.items notes.new.rows.items }
 {
-    let loaded = Loaded {
+    let loaded = LoadedChain {
         work,
         scratch,
         chain: behind.0,

@@ -5,7 +5,7 @@ use Rattle.scan_model.specs.ScanTest.{point_at}
 use Rattle.scan_model.specs.Suspect.{observed_net}
 use Rattle.fault_effects.specs.Notes.{AreNotes}
 use Rattle.fault_effects.specs.Walks.{AreFreshAt, IsRenoted}
-use Rattle.fault_effects.proofs.loaded.Loaded.note_below.Given as goal
+use Rattle.fault_effects.proofs.loaded_chain.LoadedChain.note_below.Given as goal
 
 abbrev pub invariant-loop-point : goal.invariant-loop-point
 invariant-loop-point g l = record {

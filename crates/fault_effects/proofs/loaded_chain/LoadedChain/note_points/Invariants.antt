@@ -2,7 +2,7 @@ use Rattle.std.proofs.Common.{ℕ, ◌<◌, get_or}
 use Rattle.scan_model.specs.declared.fault.Fault.TheVariants as fault
 use Rattle.fault_effects.specs.Notes.{AreNotes}
 use Rattle.fault_effects.specs.Walks.{ArePlacesFresh, IsRenoted}
-use Rattle.fault_effects.proofs.loaded.Loaded.note_points.Given as goal
+use Rattle.fault_effects.proofs.loaded_chain.LoadedChain.note_points.Given as goal
 
 abbrev pub invariant-loop-point : goal.invariant-loop-point
 invariant-loop-point g l = record {

@@ -1,5 +1,5 @@
 use Rattle.fault_effects.proofs.WalkStart.{begun_fresh}
-use Rattle.fault_effects.proofs.loaded.Loaded.note_all.Goals as goal
+use Rattle.fault_effects.proofs.loaded_chain.LoadedChain.note_all.Goals as goal
 
 pub returns-clause-fresh : goal.returns-clause-fresh
 returns-clause-fresh g c =

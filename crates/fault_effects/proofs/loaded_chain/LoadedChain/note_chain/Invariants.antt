@@ -4,7 +4,7 @@ use Rattle.scan_model.specs.declared.parts.Point.TheVariants.{Cell}
 use Rattle.scan_model.specs.Suspect.{observed_net}
 use Rattle.fault_effects.specs.Notes.{AreNotes}
 use Rattle.fault_effects.specs.Walks.{AreFreshAt, IsRenoted}
-use Rattle.fault_effects.proofs.loaded.Loaded.note_chain.Given as goal
+use Rattle.fault_effects.proofs.loaded_chain.LoadedChain.note_chain.Given as goal
 
 abbrev pub invariant-loop-cell : goal.invariant-loop-cell
 invariant-loop-cell g l = record {

@@ -9,8 +9,8 @@ use Rattle.scan_model.proofs.counting.Shown.{point_at-IsPoint}
 use Rattle.scan_model.specs.Suspect.{observed_net}
 use Rattle.fault_effects.specs.Walks.{AreFreshAt}
 use Rattle.fault_effects.proofs.WalkNotes.{net_kept, renoted_join}
-use Rattle.fault_effects.proofs.loaded.Loaded.note_below.Goals as goal
-use Rattle.fault_effects.proofs.loaded.Loaded.note_below.Goals.{in-Some, in_default}
+use Rattle.fault_effects.proofs.loaded_chain.LoadedChain.note_below.Goals as goal
+use Rattle.fault_effects.proofs.loaded_chain.LoadedChain.note_below.Goals.{in-Some, in_default}
 
 pub note_position-requires-clause-pos : goal.note_position-requires-clause-pos
 note_position-requires-clause-pos g c =

@@ -20,7 +20,7 @@ use scan_model::{CellKind, NoMemory, Parts, Point};
 
 /// A chain that is loaded as under a fault of its shift path, in the work of a block.
 #[derive(Drop)]
-pub(crate) struct Loaded<'a, O> {
+pub(crate) struct LoadedChain<'a, O> {
     pub work: &'a BlockWork<'a, O>,
     pub scratch: &'a Scratch,
     pub chain: u32,
@@ -55,7 +55,7 @@ fn position_below(shown_at: Point, chain: u32) -> Option<u32>
     }
 }
 
-impl<O: ChainObserver> Loaded<'_, O> {
+impl<O: ChainObserver> LoadedChain<'_, O> {
     /// Notes a place again.
     fn note_place(&self, notes: &mut Notes<O::Sum>, place: u32)
         requires work { IsChainWork O.test O.good O.block O.model O.ready self.now.work.now }

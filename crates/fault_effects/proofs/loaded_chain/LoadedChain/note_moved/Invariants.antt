@@ -3,7 +3,7 @@ use Rattle.scan_model.specs.declared.fault.Fault.TheVariants as fault
 use Rattle.place_sets.specs.Places.{has_place}
 use Rattle.fault_effects.specs.Notes.{AreNotes}
 use Rattle.fault_effects.specs.Walks.{IsNetDone, IsRenoted}
-use Rattle.fault_effects.proofs.loaded.Loaded.note_moved.Given as goal
+use Rattle.fault_effects.proofs.loaded_chain.LoadedChain.note_moved.Given as goal
 
 abbrev pub invariant-loop-net : goal.invariant-loop-net
 invariant-loop-net g l = record {

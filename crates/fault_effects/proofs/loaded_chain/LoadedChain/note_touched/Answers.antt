@@ -3,7 +3,7 @@ use Rattle.std.proofs.lemmas.List.{get_or_default}
 use Rattle.scan_model.specs.declared.fault.Fault.TheVariants as fault
 use Rattle.fault_effects.specs.Walks.{AreFreshAt}
 use Rattle.fault_effects.proofs.NetPoints.{own_all_below}
-use Rattle.fault_effects.proofs.loaded.Loaded.note_touched.Goals as goal
+use Rattle.fault_effects.proofs.loaded_chain.LoadedChain.note_touched.Goals as goal
 
 pub note_net-requires-clause-net : goal.note_net-requires-clause-net
 note_net-requires-clause-net g c =

@@ -2,7 +2,7 @@ use Rattle.std.proofs.Common.{ℕ, ◌<◌, get_or}
 use Rattle.scan_model.specs.declared.fault.Fault.TheVariants as fault
 use Rattle.fault_effects.specs.Notes.{AreNotes}
 use Rattle.fault_effects.specs.Walks.{AreFreshAt, IsRenoted}
-use Rattle.fault_effects.proofs.loaded.Loaded.note_touched.Given as goal
+use Rattle.fault_effects.proofs.loaded_chain.LoadedChain.note_touched.Given as goal
 
 abbrev pub invariant-loop-net : goal.invariant-loop-net
 invariant-loop-net g l = record {

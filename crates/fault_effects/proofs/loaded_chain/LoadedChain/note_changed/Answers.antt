@@ -8,7 +8,7 @@ use Rattle.packed_sim.specs.Belongs.{observed_at}
 use Rattle.fault_effects.specs.Walks.{ArePlacesFresh, AreFreshAt}
 use Rattle.fault_effects.proofs.NetPoints.{filtered, of_net_points}
 use Rattle.fault_effects.proofs.WalkNotes.{net_kept}
-use Rattle.fault_effects.proofs.loaded.Loaded.note_changed.Goals as goal
+use Rattle.fault_effects.proofs.loaded_chain.LoadedChain.note_changed.Goals as goal
 
 pub note_points-requires-clause-points : goal.note_points-requires-clause-points
 note_points-requires-clause-points g c =

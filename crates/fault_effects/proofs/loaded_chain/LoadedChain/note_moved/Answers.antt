@@ -4,7 +4,7 @@ use Rattle.scan_model.specs.declared.fault.Fault.TheVariants as fault
 use Rattle.place_sets.specs.Places.{has_place}
 use Rattle.fault_effects.specs.Walks.{IsNetDone}
 use Rattle.fault_effects.proofs.WalkNotes.{done_kept, renoted_join}
-use Rattle.fault_effects.proofs.loaded.Loaded.note_moved.Goals as goal
+use Rattle.fault_effects.proofs.loaded_chain.LoadedChain.note_moved.Goals as goal
 
 pub loop-net-preserved : goal.loop-net-preserved
 loop-net-preserved g c =

@@ -2,7 +2,7 @@ use Rattle.std.proofs.Common.{ℕ, ◌-◌, ◌<◌, ◌≤◌, length, get_or}
 use Rattle.scan_model.specs.declared.fault.Fault.TheVariants as fault
 use Rattle.fault_effects.specs.Notes.{AreNotes}
 use Rattle.fault_effects.specs.Walks.{IsFresh, IsRenoted}
-use Rattle.fault_effects.proofs.loaded.Loaded.note_point.Given as goal
+use Rattle.fault_effects.proofs.loaded_chain.LoadedChain.note_point.Given as goal
 
 abbrev pub invariant-loop-place : goal.invariant-loop-place
 invariant-loop-place g l = record {

@@ -8,7 +8,7 @@ use Rattle.scan_model.specs.Suspect.{observed_net}
 use Rattle.scan_model.proofs.Cells.{cell_is_flop_of}
 use Rattle.fault_effects.specs.Walks.{AreFreshAt}
 use Rattle.fault_effects.proofs.WalkNotes.{net_kept, renoted_join}
-use Rattle.fault_effects.proofs.loaded.Loaded.note_chain.Goals as goal
+use Rattle.fault_effects.proofs.loaded_chain.LoadedChain.note_chain.Goals as goal
 
 pub data_net-net-requires-clause-cell : goal.data_net-net-requires-clause-cell
 data_net-net-requires-clause-cell g c =

@@ -5,7 +5,7 @@ use Rattle.scan_model.specs.ScanTest.{points_of}
 use Rattle.packed_sim.specs.Belongs.{observed_at}
 use Rattle.fault_effects.specs.Walks.{ArePlacesFresh}
 use Rattle.fault_effects.proofs.NetPoints.{filtered, of_net_points}
-use Rattle.fault_effects.proofs.loaded.Loaded.note_net.Goals as goal
+use Rattle.fault_effects.proofs.loaded_chain.LoadedChain.note_net.Goals as goal
 
 pub note_points-requires-clause-points : goal.note_points-requires-clause-points
 note_points-requires-clause-points g c =
