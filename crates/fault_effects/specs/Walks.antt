@@ -10,7 +10,7 @@ use Rattle.place_sets.specs.Places.{has_place}
 use Rattle.packed_sim.specs.declared.good.PackedGood.{PackedGood}
 use Rattle.packed_sim.specs.declared.scratch.Scratch.{Scratch}
 use Rattle.packed_sim.specs.Belongs.{observed_at, IsScratchIn}
-use Rattle.packed_sim.specs.Loaded.{IsLoaded}
+use Rattle.packed_sim.specs.ChainLoads.{IsLoaded}
 use Rattle.fault_effects.specs.declared.notes.Notes.{Notes}
 use Rattle.fault_effects.specs.FaultModel.{FaultModel, Table, fails_in}
 use Rattle.fault_effects.specs.Tables.{row_at, table_of}

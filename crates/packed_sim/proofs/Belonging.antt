@@ -24,7 +24,7 @@ use Rattle.lane_rows.proofs.Once.{counted_once, order_short}
 use Rattle.packed_sim.specs.declared.good.PackedGood.{PackedGood}
 use Rattle.packed_sim.specs.declared.scratch.Scratch.{Scratch}
 use Rattle.packed_sim.specs.Rows.{no_row}
-use Rattle.packed_sim.specs.Spread.{FitsScratch, IsForced, AreGood, is_behind}
+use Rattle.packed_sim.specs.Propagation.{FitsScratch, IsForced, AreGood, is_behind}
 use Rattle.packed_sim.specs.Belongs.{IsBuiltFor, BelongsTo, IsScratchIn, block_at, good_at, now_at, observed_at, captures, has_own_row, gates_behind}
 
 module _ (t : ScanTest) (sound : IsScanTest t) (g : PackedGood) (built : IsBuiltFor t g) where

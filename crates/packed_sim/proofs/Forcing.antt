@@ -14,7 +14,7 @@ use Rattle.place_sets.specs.Places.{has_place, room}
 use Rattle.lane_rows.specs.Wired.{sinks_of, IsWired, Covers}
 use Rattle.packed_sim.specs.declared.scratch.Scratch.{Scratch}
 use Rattle.packed_sim.specs.Rows.{IsClean}
-use Rattle.packed_sim.specs.Spread.{lane_now, FitsScratch, IsWithin, IsOpen, IsSettled, IsSet, AreGood, AreApart, IsFree, IsClosed, IsForced, is_behind}
+use Rattle.packed_sim.specs.Propagation.{lane_now, FitsScratch, IsWithin, IsOpen, IsSettled, IsSet, AreGood, AreApart, IsFree, IsClosed, IsForced, is_behind}
 use Rattle.packed_sim.proofs.Spreading.{live_values, behind_closed, behind_free, set_fits, set_within, set_keeps_open, clean_open, same_node}
 
 -- ---- one net or two

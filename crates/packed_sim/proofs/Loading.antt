@@ -41,9 +41,9 @@ use Rattle.lane_rows.proofs.RowsOfTest.{captures_there, captures_kind}
 use Rattle.packed_sim.specs.declared.good.PackedGood.{PackedGood}
 use Rattle.packed_sim.specs.declared.scratch.Scratch.{Scratch}
 use Rattle.packed_sim.specs.Rows.{row_now, no_row}
-use Rattle.packed_sim.specs.Spread.{lane_now, FitsScratch, IsClosed, IsFree, IsWithin, IsOpen, IsSettled, IsSet, AreApart, is_behind}
+use Rattle.packed_sim.specs.Propagation.{lane_now, FitsScratch, IsClosed, IsFree, IsWithin, IsOpen, IsSettled, IsSet, AreApart, is_behind}
 use Rattle.packed_sim.specs.Belongs.{BelongsTo, IsScratchIn, IsScratchOf, block_at, good_at, now_at, captures}
-use Rattle.packed_sim.specs.Loaded.{IsOpenLoad, IsLoaded, passed_value}
+use Rattle.packed_sim.specs.ChainLoads.{IsOpenLoad, IsLoaded, passed_value}
 use Rattle.packed_sim.proofs.Spreading.{live_values, behind_closed, behind_free, set_fits, set_here, set_elsewhere, set_keeps_open, clean_open}
 use Rattle.packed_sim.proofs.Belonging.{fits_of, inside_of, are_good, own_rows, observed_live}
 use Rattle.packed_sim.proofs.FaultBits.{kinds, and_false}

@@ -21,7 +21,7 @@ use Rattle.place_sets.specs.Places.{has_place}
 use Rattle.lane_rows.specs.Wired.{sinks_of, IsWired, Covers, LeadsUp}
 use Rattle.packed_sim.specs.declared.scratch.Scratch.{Scratch}
 use Rattle.packed_sim.specs.Rows.{IsClean, no_row, row_now}
-use Rattle.packed_sim.specs.Spread.{lane_now, waits, FitsScratch, IsClosed, IsFree, IsWithin, IsOpen, IsSet, HasMoved, AreGood, AreApart, is_behind}
+use Rattle.packed_sim.specs.Propagation.{lane_now, waits, FitsScratch, IsClosed, IsFree, IsWithin, IsOpen, IsSet, HasMoved, AreGood, AreApart, is_behind}
 use Rattle.packed_sim.proofs.Turns.{waits_from, waits_at}
 
 -- forced nets elsewhere do not tell

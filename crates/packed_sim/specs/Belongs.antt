@@ -21,7 +21,7 @@ use Rattle.lane_rows.specs.Wired.{IsWiredFor}
 use Rattle.packed_sim.specs.declared.good.PackedGood.{PackedGood}
 use Rattle.packed_sim.specs.declared.scratch.Scratch.{Scratch}
 use Rattle.packed_sim.specs.Rows.{IsClean}
-use Rattle.packed_sim.specs.Spread.{lane_now}
+use Rattle.packed_sim.specs.Propagation.{lane_now}
 
 -- the net that point k observes
 abbrev pub observed_at : ScanTest → ℕ → ℕ

@@ -13,9 +13,9 @@ ghost use Rattle.lane_rows.specs.Lanes.{lane};
 ghost use Rattle.lane_rows.specs.Planes.{held};
 ghost use Rattle.lane_rows.specs.GoodRows.{pattern_of};
 ghost use Rattle.place_sets.specs.Places.{room};
-ghost use Rattle.packed_sim.specs.Spread.{HasMoved, IsWithin, is_behind};
+ghost use Rattle.packed_sim.specs.Propagation.{HasMoved, IsWithin, is_behind};
 ghost use Rattle.packed_sim.specs.Belongs.{IsBuiltFor, BelongsTo, IsScratchIn, IsScratchOf, block_at, good_at, now_at, gates_behind};
-ghost use Rattle.packed_sim.specs.Loaded.{IsOpenLoad, IsLoaded, passed_value};
+ghost use Rattle.packed_sim.specs.ChainLoads.{IsOpenLoad, IsLoaded, passed_value};
 
 use crate::good::PackedGood;
 use crate::scratch::Scratch;

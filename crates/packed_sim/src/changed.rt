@@ -14,7 +14,7 @@ pub(crate) struct Changed<'a> {
 
 impl NetRows for Changed<'_> {
     ghost use Rattle.std.specs.Prelude.{length};
-    ghost use Rattle.packed_sim.specs.Spread.{lane_now};
+    ghost use Rattle.packed_sim.specs.Propagation.{lane_now};
 
     ghost nets = { λ rows. length rows.good.now };
 

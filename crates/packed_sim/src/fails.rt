@@ -11,7 +11,7 @@ ghost use Rattle.scan_model.specs.ScanTest.{IsPoint, points_of, point_at};
 ghost use Rattle.scan_model.specs.Universe.{universe};
 ghost use Rattle.scan_model.specs.Masks.{place_is_point};
 ghost use Rattle.scan_model.specs.Suspect.{is_cell, is_output};
-ghost use Rattle.packed_sim.specs.Ways.{IsGateOfPin};
+ghost use Rattle.packed_sim.specs.OperandValues.{IsGateOfPin};
 ghost use Rattle.packed_sim.specs.Belongs.{BelongsTo, IsScratchIn, IsScratchOf, good_at, now_at, observed_at, captures, cone_gates, AreFails};
 
 use crate::good::PackedGood;

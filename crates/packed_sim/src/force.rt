@@ -7,7 +7,7 @@ ghost use Rattle.lane_rows.specs.Planes.{held};
 ghost use Rattle.place_sets.specs.Places.{has_place, room};
 ghost use Rattle.lane_rows.specs.Wired.{IsWired};
 ghost use Rattle.packed_sim.specs.Rows.{IsClean};
-ghost use Rattle.packed_sim.specs.Spread.{FitsScratch, AreApart, IsForced, is_behind};
+ghost use Rattle.packed_sim.specs.Propagation.{FitsScratch, AreApart, IsForced, is_behind};
 ghost use Rattle.scan_model.proofs.counting.OneSite.{force_two};
 
 use crate::scratch::Scratch;

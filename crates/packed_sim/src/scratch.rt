@@ -9,7 +9,7 @@ ghost use Rattle.lane_rows.specs.Planes.{held};
 ghost use Rattle.place_sets.specs.Places.{has_place, room};
 ghost use Rattle.lane_rows.specs.Wired.{IsWired, Covers};
 ghost use Rattle.packed_sim.specs.Rows.{IsClean, row_now};
-ghost use Rattle.packed_sim.specs.Spread.{lane_now, FitsScratch, IsClosed, IsFree, IsWithin, IsOpen, IsSettled, IsSet, IsTurn, HasMoved};
+ghost use Rattle.packed_sim.specs.Propagation.{lane_now, FitsScratch, IsClosed, IsFree, IsWithin, IsOpen, IsSettled, IsSet, IsTurn, HasMoved};
 
 use crate::changed::Changed;
 use crate::overlay::Overlay;

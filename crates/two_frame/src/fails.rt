@@ -7,7 +7,7 @@ ghost use Rattle.scan_model.specs.Netlist.{pin_at, is_gate};
 ghost use Rattle.scan_model.specs.ScanTest.{points_of, point_at};
 ghost use Rattle.scan_model.specs.Masks.{flip_shows_from, place_is_point};
 ghost use Rattle.lane_rows.specs.Lanes.{lane};
-ghost use Rattle.packed_sim.specs.Ways.{IsGateOfPin};
+ghost use Rattle.packed_sim.specs.OperandValues.{IsGateOfPin};
 ghost use Rattle.packed_sim.specs.Belongs.{observed_at, gates_behind, cone_gates, IsScratchIn, good_at, now_at};
 ghost use Rattle.two_frame.specs.TwoFrame.{transitions, makes_transition, net_changes, second_source};
 ghost use Rattle.two_frame.specs.FrameRows.{IsFrameGood, IsFrameScratch, AllCapture, AreFrameFails, transition_at};

@@ -1,7 +1,7 @@
 use Rattle.std.proofs.Common.{List, ◌≤◌, ◌+◌, [], ◌∷◌, subst, arith}
 use Rattle.std.specs.Prelude.{count_by}
 use Rattle.scan_model.specs.Netlist.{Netlist}
-use Rattle.packed_sim.specs.Spread.{IsForced, is_behind}
+use Rattle.packed_sim.specs.Propagation.{IsForced, is_behind}
 use Rattle.scan_model.specs.Force.{force}
 use Rattle.lane_rows.specs.Planes.{Planes, held}
 use Rattle.packed_sim.proofs.Belonging.{fits_of, inside_of, forced_at, few_steps}

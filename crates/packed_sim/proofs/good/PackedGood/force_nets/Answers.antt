@@ -2,7 +2,7 @@ use Rattle.std.proofs.Common.{List, ◌≤◌, ◌+◌, [], ◌∷◌, subst, sy
 use Rattle.std.specs.Prelude.{count_by}
 use Rattle.scan_model.specs.Netlist.{Netlist}
 use Rattle.lane_rows.specs.Stimuli.{stimuli_of}
-use Rattle.packed_sim.specs.Spread.{AreApart, IsForced, is_behind}
+use Rattle.packed_sim.specs.Propagation.{AreApart, IsForced, is_behind}
 use Rattle.scan_model.proofs.counting.OneSite.{force_two}
 use Rattle.lane_rows.specs.Planes.{Planes, held}
 use Rattle.packed_sim.proofs.Belonging.{fits_of, inside_of, own_rows, forced_at, few_steps}

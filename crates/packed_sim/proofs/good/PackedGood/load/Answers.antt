@@ -2,7 +2,7 @@ use Rattle.std.proofs.Common.{◌≤◌, ◌+◌, drop, subst, ◌∙◌, sym, a
 use Rattle.std.specs.Prelude.{count_by}
 use Rattle.scan_model.specs.Netlist.{Netlist}
 use Rattle.scan_model.specs.ScanTest.{chain_at}
-use Rattle.packed_sim.specs.Spread.{IsClosed, is_behind}
+use Rattle.packed_sim.specs.Propagation.{IsClosed, is_behind}
 use Rattle.packed_sim.proofs.Belonging.{few_steps}
 use Rattle.packed_sim.proofs.Spreading.{behind_closed}
 use Rattle.packed_sim.proofs.Loading.{loading_begins, loading_ends, above_lt, above_apart}

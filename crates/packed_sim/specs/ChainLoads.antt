@@ -14,7 +14,7 @@ use Rattle.lane_rows.specs.GoodRows.{pattern_of}
 use Rattle.lane_rows.specs.Wired.{Covers, LeadsUp}
 use Rattle.packed_sim.specs.declared.good.PackedGood.{PackedGood}
 use Rattle.packed_sim.specs.declared.scratch.Scratch.{Scratch}
-use Rattle.packed_sim.specs.Spread.{FitsScratch, IsOpen}
+use Rattle.packed_sim.specs.Propagation.{FitsScratch, IsOpen}
 use Rattle.packed_sim.specs.Belongs.{IsScratchIn, block_at, now_at, captures}
 
 -- each cell holds what the fault behind position c loads, in both kinds of pattern
