@@ -11,7 +11,7 @@ use Rattle.scan_model.specs.Force.{force}
 use Rattle.scan_model.proofs.counting.OneSite.{force_two}
 use Rattle.lane_rows.specs.Planes.{Planes, held}
 use Rattle.place_sets.specs.Places.{has_place, room}
-use Rattle.lane_rows.specs.Wired.{sinks_of, IsWired, Covers}
+use Rattle.lane_rows.specs.Wiring.{sinks_of, IsWired, Covers}
 use Rattle.packed_sim.specs.declared.scratch.Scratch.{Scratch}
 use Rattle.packed_sim.specs.Rows.{IsClean}
 use Rattle.packed_sim.specs.Propagation.{lane_now, FitsScratch, IsWithin, IsOpen, IsSettled, IsSet, AreGood, AreApart, IsFree, IsClosed, IsForced, is_behind}

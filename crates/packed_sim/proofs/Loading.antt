@@ -35,7 +35,7 @@ use Rattle.scan_model.proofs.counting.ChainSteps.{own_shows, captured_net, shift
 use Rattle.lane_rows.specs.Planes.{Planes, held}
 use Rattle.lane_rows.specs.GoodRows.{pattern_of, same_kind}
 use Rattle.place_sets.specs.Places.{has_place, room}
-use Rattle.lane_rows.specs.Wired.{Covers}
+use Rattle.lane_rows.specs.Wiring.{Covers}
 use Rattle.lane_rows.specs.Stimuli.{stimuli_of}
 use Rattle.lane_rows.proofs.RowsOfTest.{captures_there, captures_kind}
 use Rattle.packed_sim.specs.declared.good.PackedGood.{PackedGood}

@@ -9,7 +9,7 @@ use Rattle.scan_model.specs.Netlist.{Netlist, IsNetlist, is_gate}
 use Rattle.scan_model.specs.NetValue.{Forced}
 use Rattle.lane_rows.specs.Planes.{Planes}
 use Rattle.place_sets.specs.Places.{has_place, room, IsNextFrom}
-use Rattle.lane_rows.specs.Wired.{IsWired, Covers}
+use Rattle.lane_rows.specs.Wiring.{IsWired, Covers}
 use Rattle.packed_sim.specs.declared.scratch.Scratch.{Scratch}
 use Rattle.packed_sim.specs.Rows.{row_now}
 use Rattle.packed_sim.specs.Propagation.{FitsScratch, IsClosed, IsFree, IsWithin, IsOpen, IsSettled, IsTurn, HasMoved}

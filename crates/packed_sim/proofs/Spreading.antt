@@ -18,7 +18,7 @@ use Rattle.scan_model.proofs.counting.Branches.{no_loop}
 use Rattle.lane_rows.specs.Planes.{Planes}
 use Rattle.lane_rows.specs.Planes.{held}
 use Rattle.place_sets.specs.Places.{has_place}
-use Rattle.lane_rows.specs.Wired.{sinks_of, IsWired, Covers, LeadsUp}
+use Rattle.lane_rows.specs.Wiring.{sinks_of, IsWired, Covers, LeadsUp}
 use Rattle.packed_sim.specs.declared.scratch.Scratch.{Scratch}
 use Rattle.packed_sim.specs.Rows.{IsClean, no_row, row_now}
 use Rattle.packed_sim.specs.Propagation.{lane_now, waits, FitsScratch, IsClosed, IsFree, IsWithin, IsOpen, IsSet, HasMoved, AreGood, AreApart, is_behind}

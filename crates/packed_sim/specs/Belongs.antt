@@ -17,7 +17,7 @@ use Rattle.lane_rows.specs.GoodRows.{AreGoodRows, no_block}
 use Rattle.lane_rows.specs.Stimuli.{HaveRows}
 pub use Rattle.lane_rows.specs.Stimuli.{captures}
 use Rattle.place_sets.specs.Places.{has_place, room}
-use Rattle.lane_rows.specs.Wired.{IsWiredFor}
+use Rattle.lane_rows.specs.Wiring.{IsWiredFor}
 use Rattle.packed_sim.specs.declared.good.PackedGood.{PackedGood}
 use Rattle.packed_sim.specs.declared.scratch.Scratch.{Scratch}
 use Rattle.packed_sim.specs.Rows.{IsClean}

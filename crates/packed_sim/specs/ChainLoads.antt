@@ -11,7 +11,7 @@ use Rattle.scan_model.specs.ChainShift.{loaded_at}
 use Rattle.scan_model.specs.Loads.{load, cell}
 use Rattle.scan_model.specs.NetValue.{net_value, source_of, nothing_forced}
 use Rattle.lane_rows.specs.GoodRows.{pattern_of}
-use Rattle.lane_rows.specs.Wired.{Covers, LeadsUp}
+use Rattle.lane_rows.specs.Wiring.{Covers, LeadsUp}
 use Rattle.packed_sim.specs.declared.good.PackedGood.{PackedGood}
 use Rattle.packed_sim.specs.declared.scratch.Scratch.{Scratch}
 use Rattle.packed_sim.specs.Propagation.{FitsScratch, IsOpen}

@@ -8,7 +8,7 @@ use Rattle.scan_model.specs.NetValue.{Forced, net_node, values_of, nothing_force
 use Rattle.scan_model.specs.Cone.{in_fan_in}
 use Rattle.lane_rows.specs.Planes.{Planes, held}
 use Rattle.place_sets.specs.Places.{has_place, room}
-use Rattle.lane_rows.specs.Wired.{sinks_of, Covers, LeadsUp}
+use Rattle.lane_rows.specs.Wiring.{sinks_of, Covers, LeadsUp}
 use Rattle.packed_sim.specs.declared.scratch.Scratch.{Scratch}
 use Rattle.packed_sim.specs.Rows.{row_now, no_row}
 

@@ -5,7 +5,7 @@ ghost use Rattle.scan_model.specs.NetValue.{Forced, values_of};
 ghost use Rattle.scan_model.specs.Force.{force};
 ghost use Rattle.lane_rows.specs.Planes.{held};
 ghost use Rattle.place_sets.specs.Places.{has_place, room};
-ghost use Rattle.lane_rows.specs.Wired.{IsWired};
+ghost use Rattle.lane_rows.specs.Wiring.{IsWired};
 ghost use Rattle.packed_sim.specs.Rows.{IsClean};
 ghost use Rattle.packed_sim.specs.Propagation.{FitsScratch, AreApart, IsForced, is_behind};
 ghost use Rattle.scan_model.proofs.counting.OneSite.{force_two};

@@ -7,7 +7,7 @@ ghost use Rattle.scan_model.specs.Netlist.{is_gate};
 ghost use Rattle.scan_model.specs.NetValue.{Forced, net_node, values_of, nothing_forced};
 ghost use Rattle.lane_rows.specs.Planes.{held};
 ghost use Rattle.place_sets.specs.Places.{has_place, room};
-ghost use Rattle.lane_rows.specs.Wired.{IsWired, Covers};
+ghost use Rattle.lane_rows.specs.Wiring.{IsWired, Covers};
 ghost use Rattle.packed_sim.specs.Rows.{IsClean, row_now};
 ghost use Rattle.packed_sim.specs.Propagation.{lane_now, FitsScratch, IsClosed, IsFree, IsWithin, IsOpen, IsSettled, IsSet, IsTurn, HasMoved};
 
