@@ -1,4 +1,4 @@
--- Which faults of the list are marked after a block.
+-- The marks on faults that can explain a failing bit, after a block.
 use Rattle.std.specs.Prelude.{◌≡◌, ℕ, ◌+◌, ◌<◌, List, length, Bool, false, slice_get}
 use Rattle.scan_model.specs.declared.circuit.PinPlace.{PinPlace}
 use Rattle.scan_model.specs.declared.circuit.PinPlace.TheVariants as place

@@ -1,4 +1,4 @@
--- What a compactor's points are.
+-- The points of a compactor.
 use Rattle.std.specs.Prelude.{length}
 use Rattle.scan_model.specs.declared.parts.Point.{Point}
 use Rattle.scan_model.specs.ScanTest.{ScanTest}

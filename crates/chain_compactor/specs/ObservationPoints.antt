@@ -1,4 +1,4 @@
--- Behind which compact points a point of the test stands.
+-- The compact points at which a point of the test is observed.
 use Rattle.std.specs.Prelude.{◌≡◌, ℕ, ◌-◌, ◌==◌, List, [], ◌∷◌, length, map, filter, replicate, Bool}
 use Rattle.std.specs.List.{list_any, range_with_len}
 use Rattle.scan_model.specs.declared.parts.Point.{Point}
@@ -32,11 +32,11 @@ seeing t c (Cell h i) = map (λ x. place_in (cycle_places t c) x (chain_length t
 abbrev pub nets_of : ScanTest → ℕ → List ℕ
 nets_of t h = map (λ i. observed_net t (Cell h i)) (range_with_len 0 (chain_length t h))
 
--- those of each chain
+-- the nets that the cells observe, chain by chain
 abbrev pub chain_nets : ScanTest → List (List ℕ)
 chain_nets t = map (nets_of t) (range_with_len 0 (length t.chains))
 
--- the tables that were made of channels
+-- the tables have the channels of each chain, the compact points of each channel, and the nets of each chain
 pub record AreTables (t : ScanTest) (c : Compactor) (tables : Tables) : Type 0 where
   pub channels : rows_view tables.channels.items ≡ map (channels_of c) (range_with_len 0 (length t.chains))
   pub places : rows_view tables.places.items ≡ cycle_places t c

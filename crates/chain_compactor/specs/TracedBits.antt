@@ -1,4 +1,4 @@
--- The bits of a test behind Failing bits of a compactor.
+-- The bits of a test that are seen in Failing bits of a compactor.
 use Rattle.std.specs.Prelude.{◌≡◌, ℕ, ◌-◌, ◌<◌, true, false, List, [], ◌∷◌, All, Contains, length, slice_index_or}
 use Rattle.scan_model.specs.declared.logs.Bit.{Bit}
 use Rattle.scan_model.specs.declared.logs.LogFacts.{LogFacts}
@@ -30,7 +30,7 @@ pub record AddsLanes (lanes : List ℕ) (b k n : ℕ) (old new : List Bit) : Typ
 abbrev pub HasLanes : ScanTest → Compactor → List PointRow → ℕ → List ℕ → ℕ → List Bit → Type 0
 HasLanes t c rows b there n bits = (k : ℕ) → k < n → (q j : ℕ) → j < 512 → Contains (seeing t c (point_at t k)) q → lane (slice_index_or rows q no_point_row).failing j ≡ true → lane there j ≡ true → Contains bits (bit_of (pattern_of b j) k)
 
--- those bits of block b are added to others
+-- the bits of block b that a Failing compact point sees are added to others
 pub record AddsBehind (t : ScanTest) (c : Compactor) (rows : List PointRow) (b : ℕ) (there : List ℕ) (n : ℕ) (old new : List Bit) : Type 0 where
   pub kept : (x : Bit) → Contains old x → Contains new x
   pub lanes : HasLanes t c rows b there n new

@@ -1,4 +1,4 @@
--- What places show, 512 patterns in a row and 64 patterns in a word.
+-- Responses of places: 512 patterns in a row, 64 patterns in a word.
 use Rattle.std.specs.Prelude.{◌≡◌, ℕ, ◌+◌, ◌*◌, ◌/◌, ◌<◌, List, [], length, slice_index_or}
 use Rattle.scan_model.specs.declared.values.Tri.{Tri}
 use Rattle.scan_model.specs.BitTable.{table_value}

@@ -17,7 +17,7 @@ const BLOCK_PATTERNS: usize = 512;
 /// The words of a block.
 const BLOCK_WORDS: usize = 8;
 
-/// What all places show: a word for each place in the first 64 patterns, then in the next 64, and so on.
+/// The responses of all places: a word for each place in the first 64 patterns, then in the next 64, and so on.
 #[derive(Debug, Drop)]
 struct ResponseWords {
     known: Rows<u64>,

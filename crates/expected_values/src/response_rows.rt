@@ -1,4 +1,4 @@
-//! What the expected values are made of.
+//! The rows that expected values are made of.
 ghost use Rattle.std.specs.Prelude.{◌≡◌, ℕ, ◌*◌, ◌<◌, List, [], length, slice_index_or};
 ghost use Rattle.scan_model.specs.declared.values.Tri.{Tri};
 ghost use Rattle.scan_model.specs.ChainShift.{value_at};
@@ -7,7 +7,7 @@ ghost use Rattle.lane_rows.specs.GoodRows.{pattern_of};
 
 use lane_rows::Packed;
 
-/// What places show in the patterns of a test, 512 patterns at a time.
+/// The responses of places in the patterns of a test, 512 patterns at a time.
 pub trait ResponseRows {
     ghost use Rattle.std.specs.Prelude.{ℕ, List};
     ghost use Rattle.scan_model.specs.declared.values.Tri.{Tri};

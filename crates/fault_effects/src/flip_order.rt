@@ -1,4 +1,5 @@
-//! The order in which nets are shown: region by region, each net behind the gate that alone reads it, and what stands behind it before all others.
+//! The order in which nets are shown: region by region, each net after the gate that alone reads it, and what is upstream of it in
+//! its region before all others.
 ghost use Rattle.std.specs.Prelude.{◌≡◌, ℕ, ◌+◌, ◌<◌, List, [], All, Contains, true, false, length, slice_index_or, IfOk, OnOk};
 ghost use Rattle.fault_effects.specs.Readers.{AreReads};
 ghost use Rattle.fault_effects.specs.FlipOrder.{IsListing};
@@ -79,7 +80,7 @@ impl Listing {
         push_behind(&mut self.due, parts, reads, net)
     }
 
-    /// Lists a net, and all that stands behind it.
+    /// Lists a net, and what is upstream of it in its region.
     fn put_region(
         &mut self,
         parts: &Parts,

@@ -1,4 +1,4 @@
--- What outputs and cells show, from the values of all nets and what is forced.
+-- The values at outputs and cells, from those of all nets and what is forced.
 use Rattle.std.specs.Prelude.{ℕ, ◌<◌, List, [], length, map, Option, slice_index_or}
 use Rattle.std.specs.List.{range_with_len}
 use Rattle.scan_model.specs.declared.values.Tri.{Tri}

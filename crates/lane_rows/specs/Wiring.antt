@@ -1,4 +1,4 @@
--- Which gates lead to an observed net, and which of them read a net.
+-- The wiring: the gates that lead to an observed net, in order, and those of them that read each net.
 use Rattle.std.specs.Prelude.{◌≡◌, ℕ, ◌<◌, ◌≤◌, List, [], length, cond, Bool, true, ◌&&◌, Contains, slice_index, slice_index_or}
 use Rattle.scan_model.specs.declared.circuit.PinPlace.{PinPlace}
 use Rattle.scan_model.specs.declared.circuit.PinPlace.TheVariants.{Operand, Output}

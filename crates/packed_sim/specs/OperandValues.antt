@@ -1,4 +1,4 @@
--- What the operands of a gate hold in a lane.
+-- The values of the operands of a gate in a lane.
 use Rattle.std.specs.Prelude.{◌≡◌, ℕ, ◌<◌, List, length, map, Bool, count_by, ◌==◌, ◌&&◌, ◌||◌}
 use Rattle.scan_model.specs.declared.values.Tri.{Tri}
 use Rattle.scan_model.specs.declared.circuit.GateKind.{GateKind}

@@ -102,7 +102,7 @@ impl PackedGood {
         }
     }
 
-    /// What a position behind the fault is loaded with.
+    /// What a position downstream of the fault is loaded with.
     fn passed_row(
         &self,
         parts: &Parts,

@@ -1,4 +1,4 @@
--- Which nets lead to a failing bit of the second frame, as marks on nets.
+-- Marks on the fan-in of the failing bits of the second frame.
 use Rattle.std.specs.Prelude.{◌≡◌, ℕ, ◌<◌, List, length, Bool, true, slice_index_or}
 use Rattle.scan_model.specs.declared.values.Tri.{Tri}
 use Rattle.scan_model.specs.declared.fault.Fault.{Fault}
