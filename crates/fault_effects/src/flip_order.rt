@@ -18,7 +18,7 @@ struct Listing {
 }
 
 /// Adds the nets that a gate alone reads.
-fn push_behind(
+fn push_upstream(
     due: &mut Vec<u32>,
     parts: &Parts,
     reads: &[Reads],
@@ -77,7 +77,7 @@ impl Listing {
             return Ok(());
         }
         self.nets.push(net)?;
-        push_behind(&mut self.due, parts, reads, net)
+        push_upstream(&mut self.due, parts, reads, net)
     }
 
     /// Lists a net, and what is upstream of it in its region.

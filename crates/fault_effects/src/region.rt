@@ -90,7 +90,7 @@ fn climb<O: Observer>(
 }
 
 /// The lanes in which a net shows where the root does, if the last member alone reads it.
-fn lanes_behind<O: Observer>(
+fn upstream_lanes<O: Observer>(
     work: &BlockWork<'_, O>,
     region: &Region<O::Flip>,
     net: u32,
@@ -145,7 +145,7 @@ fn enter<O: Observer, L: Ledger>(
     ensures scratch { O.clean work.now.observer.now scratch.new }
     ensures region { IfOk result (IsEntered (O.holds work.now.observer.now) (O.model work.now.observer.now) (O.block work.now.observer.now) (length work.now.parts.now.netlist.nets) region.new net) }
 {
-    let lanes = match lanes_behind(work, region, net) {
+    let lanes = match upstream_lanes(work, region, net) {
         Some(lanes) => lanes,
         None => begin(work, scratch, region, net, steps)?,
     };

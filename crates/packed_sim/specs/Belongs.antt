@@ -77,11 +77,11 @@ pub record IsScratchOf (g : PackedGood) (s : Scratch) : Type 0 where
   pub clean : IsClean s.overlay
 
 -- the gates to which one of the nets leads
-abbrev pub gates_behind : ScanTest → List ℕ → List ℕ
-gates_behind t nets = filter (λ g. is_gate t.netlist g && list_any (λ n. in_fan_in t.netlist n g) nets) (net_numbers t.netlist)
+abbrev pub gates_downstream : ScanTest → List ℕ → List ℕ
+gates_downstream t nets = filter (λ g. is_gate t.netlist g && list_any (λ n. in_fan_in t.netlist n g) nets) (net_numbers t.netlist)
 
 abbrev pub cone_gates : ScanTest → Fault → List ℕ
-cone_gates t f = gates_behind t (touched_nets t f)
+cone_gates t f = gates_downstream t (touched_nets t f)
 
 -- Bit i of the word of point k is set where pattern 64 * word + i is there and the fault predicts a fail in it at the point.
 abbrev pub AreFails : ScanTest → Fault → ℕ → List ℕ → Type 0

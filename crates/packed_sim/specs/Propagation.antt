@@ -29,21 +29,21 @@ pub record FitsScratch (c : Netlist) (order : List ℕ) (good : List Planes) (s 
 
 -- what reads a net of the set is in the set
 abbrev pub IsClosed : Netlist → (ℕ → Bool) → Type 0
-IsClosed c behind = (g n : ℕ) → g < length c.nets → is_gate c g ≡ true → Contains (reads c g) n → behind n ≡ true → behind g ≡ true
+IsClosed c downstream = (g n : ℕ) → g < length c.nets → is_gate c g ≡ true → Contains (reads c g) n → downstream n ≡ true → downstream g ≡ true
 
 -- nothing is forced there, and no pin anywhere
-pub record IsFree (behind : ℕ → Bool) (forced : Forced) : Type 0 where
-  pub nets : (n : ℕ) → behind n ≡ true → forced.net n ≡ None
+pub record IsFree (downstream : ℕ → Bool) (forced : Forced) : Type 0 where
+  pub nets : (n : ℕ) → downstream n ≡ true → forced.net n ≡ None
   pub pins : (p : ℕ) → forced.pin p ≡ None
 
 abbrev pub IsWithin : List ℕ → (ℕ → Bool) → Scratch → Type 0
-IsWithin order behind s = (k : ℕ) → has_place s.waiting k ≡ true → behind (slice_index order k) ≡ true
+IsWithin order downstream s = (k : ℕ) → has_place s.waiting k ≡ true → downstream (slice_index order k) ≡ true
 
--- the net lies behind one of these nets, and is none of them
-abbrev pub is_behind : Netlist → List ℕ → ℕ → Bool
-is_behind c nets g = not (list_any (λ n. g == n) nets) && list_any (λ n. in_fan_in c n g) nets
+-- the net is downstream of one of these nets, and is none of them
+abbrev pub is_downstream : Netlist → List ℕ → ℕ → Bool
+is_downstream c nets g = not (list_any (λ n. g == n) nets) && list_any (λ n. in_fan_in c n g) nets
 
--- no gate of these nets lies behind another one
+-- no gate of these nets is downstream of another one
 abbrev pub AreApart : Netlist → List ℕ → Type 0
 AreApart c nets = (m n : ℕ) → Contains nets m → Contains nets n → is_gate c n ≡ true → in_fan_in c m n ≡ true → m ≡ n
 

@@ -13,8 +13,8 @@ ghost use Rattle.lane_rows.specs.Lanes.{lane};
 ghost use Rattle.lane_rows.specs.Planes.{held};
 ghost use Rattle.lane_rows.specs.GoodRows.{pattern_of};
 ghost use Rattle.place_sets.specs.Places.{room};
-ghost use Rattle.packed_sim.specs.Propagation.{HasMoved, IsWithin, is_behind};
-ghost use Rattle.packed_sim.specs.Belongs.{IsBuiltFor, BelongsTo, IsScratchIn, IsScratchOf, block_at, good_at, now_at, gates_behind};
+ghost use Rattle.packed_sim.specs.Propagation.{HasMoved, IsWithin, is_downstream};
+ghost use Rattle.packed_sim.specs.Belongs.{IsBuiltFor, BelongsTo, IsScratchIn, IsScratchOf, block_at, good_at, now_at, gates_downstream};
 ghost use Rattle.packed_sim.specs.ChainLoads.{IsOpenLoad, IsLoaded, passed_value};
 
 use crate::good::PackedGood;
@@ -143,8 +143,8 @@ impl PackedGood {
         requires within { at < length (chain_at parts.now chain).cells }
         requires opened { IsOpenLoad parts.now self.now block chain at kind scratch.old }
         ensures opened { IsOpenLoad parts.now self.now block chain (at - 1) kind scratch.new }
-        ensures within { (pos : ℕ) → pos < at → IsWithin self.now.wiring.order.items (is_behind parts.now.netlist (drop (pos + 1) (chain_at parts.now chain).cells)) scratch.old
-            → IsWithin self.now.wiring.order.items (is_behind parts.now.netlist (drop (pos + 1) (chain_at parts.now chain).cells)) scratch.new }
+        ensures within { (pos : ℕ) → pos < at → IsWithin self.now.wiring.order.items (is_downstream parts.now.netlist (drop (pos + 1) (chain_at parts.now chain).cells)) scratch.old
+            → IsWithin self.now.wiring.order.items (is_downstream parts.now.netlist (drop (pos + 1) (chain_at parts.now chain).cells)) scratch.new }
         ensures room { room scratch.new.waiting ≡ room scratch.old.waiting }
         ensures moved { HasMoved (block_at self.now block).values scratch.old scratch.new }
     {
@@ -170,7 +170,7 @@ impl PackedGood {
         requires chain { behind.0 < length parts.now.chains }
         requires pos { behind.1 < length (chain_at parts.now behind.0).cells }
         ensures loaded { IsLoaded parts.now self.now block behind.0 behind.1 kind scratch.new }
-        ensures steps { steps.new ≤ steps.old + length (gates_behind parts.now (drop (behind.1 + 1) (chain_at parts.now behind.0).cells)) }
+        ensures steps { steps.new ≤ steps.old + length (gates_downstream parts.now (drop (behind.1 + 1) (chain_at parts.now behind.0).cells)) }
     {
         let _ = parts.chains();
         let mut at = chain_len(parts, behind.0) - 1;

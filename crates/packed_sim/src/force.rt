@@ -7,7 +7,7 @@ ghost use Rattle.lane_rows.specs.Planes.{held};
 ghost use Rattle.place_sets.specs.Places.{has_place, room};
 ghost use Rattle.lane_rows.specs.Wiring.{IsWired};
 ghost use Rattle.packed_sim.specs.Rows.{IsClean};
-ghost use Rattle.packed_sim.specs.Propagation.{FitsScratch, AreApart, IsForced, is_behind};
+ghost use Rattle.packed_sim.specs.Propagation.{FitsScratch, AreApart, IsForced, is_downstream};
 ghost use Rattle.scan_model.proofs.counting.OneSite.{force_two};
 
 use crate::scratch::Scratch;
@@ -35,7 +35,7 @@ impl Scratch {
         ensures room { room self.new.waiting ≡ room self.old.waiting }
         ensures empty { (k : ℕ) → has_place self.new.waiting k ≡ false }
         ensures values { IsForced circuit.now wiring.now.order.items wiring.now.sinks good.now (λ j. force net (held row j)) self.new }
-        ensures steps { steps.new ≤ steps.old + count_by (is_behind circuit.now (net ∷ [])) wiring.now.order.items }
+        ensures steps { steps.new ≤ steps.old + count_by (is_downstream circuit.now (net ∷ [])) wiring.now.order.items }
     {
         let _ = circuit.nets();
         self.set(wiring, net, row);
@@ -63,7 +63,7 @@ impl Scratch {
         ensures room { room self.new.waiting ≡ room self.old.waiting }
         ensures empty { (k : ℕ) → has_place self.new.waiting k ≡ false }
         ensures values { IsForced circuit.now wiring.now.order.items wiring.now.sinks good.now (λ j. force_two nets.0 nets.1 (held row j)) self.new }
-        ensures steps { steps.new ≤ steps.old + count_by (is_behind circuit.now (nets.0 ∷ nets.1 ∷ [])) wiring.now.order.items }
+        ensures steps { steps.new ≤ steps.old + count_by (is_downstream circuit.now (nets.0 ∷ nets.1 ∷ [])) wiring.now.order.items }
     {
         let _ = circuit.nets();
         self.set(wiring, nets.0, row);

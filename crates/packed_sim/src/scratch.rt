@@ -97,10 +97,10 @@ impl Scratch {
         ensures room { room self.new.waiting ≡ room self.old.waiting }
         ensures leaves { (n : ℕ) → is_gate circuit.now n ≡ false → row_now self.new.overlay good.now n ≡ row_now self.old.overlay good.now n }
         ensures moved { HasMoved good.now self.old self.new }
-        ensures settled { (live behind : ℕ → Bool) (source : ℕ → Tri) (forced : Forced) (j : ℕ) → j < 512
-            → Covers circuit.now wiring.now.order.items wiring.now.sinks live → IsClosed circuit.now behind → IsFree behind forced → IsWithin wiring.now.order.items behind self.old
+        ensures settled { (live downstream : ℕ → Bool) (source : ℕ → Tri) (forced : Forced) (j : ℕ) → j < 512
+            → Covers circuit.now wiring.now.order.items wiring.now.sinks live → IsClosed circuit.now downstream → IsFree downstream forced → IsWithin wiring.now.order.items downstream self.old
             → IsOpen circuit.now wiring.now.order.items good.now source forced live j self.old → IsSettled circuit.now good.now source forced live j self.new }
-        ensures steps { (behind : ℕ → Bool) → IsClosed circuit.now behind → IsWithin wiring.now.order.items behind self.old → steps.new ≤ steps.old + count_by behind wiring.now.order.items }
+        ensures steps { (downstream : ℕ → Bool) → IsClosed circuit.now downstream → IsWithin wiring.now.order.items downstream self.old → steps.new ≤ steps.old + count_by downstream wiring.now.order.items }
     {
         let _ = circuit.nets();
         let mut from = 0;

@@ -6,7 +6,7 @@ use Rattle.fault_effects.specs.declared.region.Member.{Member}
 use Rattle.fault_effects.specs.Readers.{IsPinOf}
 use Rattle.fault_effects.specs.Regions.{ShowsAs}
 use Rattle.fault_effects.proofs.Effects.{behind_reader}
-use Rattle.fault_effects.proofs.region.lanes_behind.Goals as goal
+use Rattle.fault_effects.proofs.region.upstream_lanes.Goals as goal
 
 pub behind-lanes-requires-clause-pin : goal.behind-lanes-requires-clause-pin
 behind-lanes-requires-clause-pin g c = rw c.requires.work.test c.in_ok-reader.ensures.only.there
