@@ -107,7 +107,7 @@ fn bridge_row(parts: &Parts, block: &Block, trace: &Trace, a: u32, b: u32, kind:
     by_first.or(by_second)
 }
 
-/// Whether a fault behind a cell explains a failing bit.
+/// Whether a fault after a cell explains a failing bit.
 fn is_cell_explained(parts: &Parts, trace: &Trace, chain: u32, pos: u32) -> bool
     requires chain { chain < length parts.now.chains }
     requires trace { (length trace.now.firsts ≡ length parts.now.chains) × (length trace.now.lasts ≡ length parts.now.chains) }

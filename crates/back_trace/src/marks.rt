@@ -177,7 +177,7 @@ fn mark_bridges(marks: &mut [bool], first: usize, parts: &Parts, block: &Block, 
     }
 }
 
-/// Marks the faults behind a cell.
+/// Marks the faults after a cell.
 fn mark_cell(
     marks: &mut [bool],
     first: usize,
@@ -217,7 +217,7 @@ fn mark_cell(
     mark_each(marks, first, &faults, parts, block, trace);
 }
 
-/// Marks the faults behind the cells of a chain.
+/// Marks the faults after the cells of a chain.
 fn mark_chain(
     marks: &mut [bool],
     first: usize,

@@ -124,7 +124,7 @@ module _ (t : ScanTest) (sound : IsScanTest t) (order : List ℕ) (ordered : IsE
 -- ---- faults of shift paths
 
 module _ (t : ScanTest) (sound : IsScanTest t) (c : Compactor) (made : IsCompactorOf t c) where
-  -- what holds of each point that place q sees holds of each that stands behind it
+  -- what holds of each point that place q sees holds of each point upstream of it
   of_seen : (q : ℕ) → q < length c.points → (Q : Point → Type 0) → ((k : ℕ) → k < length (points_of t) → (compact_model t c).sees q k ≡ true → Q (point_at t k)) → (p : Point) → Contains (members_at t c q) p → Q p
   of_seen q within Q all p has =
       let is_point : IsPoint t p = subst (IsPoint t) has.2 (members_are_points t c made q within has.0 p has.1) in

@@ -1,4 +1,4 @@
--- A fault that explains no bit behind Failing bits explains none of these.
+-- A fault that explains no bit upstream of Failing bits explains none of these.
 use Rattle.std.proofs.Common.{◌≡◌, ℕ, zero, suc, ◌+◌, ◌-◌, ◌≤◌, ◌<◌, Bool, true, false, cond, ◌&&◌, List, [], ◌∷◌, ◌++◌, length, map, get_or, Some, refl, ap, subst, ◌∙◌, inl, inr, arith}
 use Rattle.std.specs.Prelude.{All, Contains, count_by, flat_map}
 use Rattle.std.specs.List.{range_with_len, AllByRecursion}

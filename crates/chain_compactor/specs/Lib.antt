@@ -1,4 +1,4 @@
--- The specs of tests behind a compactor.
+-- The specs of tests with a compactor.
 pub mod Channels
 pub mod ChannelText
 pub mod AfterChannels

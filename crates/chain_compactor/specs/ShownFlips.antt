@@ -22,7 +22,7 @@ pub record IsStuckIn (t : ScanTest) (g : PackedGood) (b p : ℕ) : Type 0 where
   pub block : b < length g.rows
   pub pin : p < length t.netlist.pins
 
--- in block b the scratch has chain h loaded as under a fault behind position c
+-- in block b the scratch has chain h loaded as under a fault after position c
 pub record ShowsCell (t : ScanTest) (g : PackedGood) (b h c : ℕ) (K : CellKind) (s : Scratch) : Type 0 where
   pub belongs : BelongsTo t g
   pub block : b < length g.rows

@@ -36,7 +36,7 @@ pub record AddsBehind (t : ScanTest) (c : Compactor) (rows : List PointRow) (b :
   pub lanes : HasLanes t c rows b there n new
   pub within : (patterns : ℕ) → ((j : ℕ) → j < 512 → lane there j ≡ true → pattern_of b j < patterns) → AreBits patterns (length (points_of t)) old → AreBits patterns (length (points_of t)) new
 
--- the bits of the first patterns that stand behind a Failing bit are listed
+-- the bits of the first patterns upstream of a Failing bit are listed
 abbrev pub ListsUpTo : ScanTest → Compactor → List LogFacts → ℕ → List Bit → Type 0
 ListsUpTo t c logs patterns bits = (w k q : ℕ) → w < patterns → w < length t.patterns → k < length (points_of t) → q < length c.points → Contains (seeing t c (point_at t k)) q
     → is_failing (compact_class t c logs (bit_of w q)) ≡ true → Contains bits (bit_of w k)

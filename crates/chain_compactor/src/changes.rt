@@ -1,4 +1,4 @@
-//! What compact points show where what the points behind them show changes.
+//! What compact points show where what the points upstream of them show changes.
 
 ghost use Rattle.std.specs.Prelude.{◌≡◌, ℕ, ◌<◌, ◌++◌, ◌∷◌, [], false, List, All, length, map, slice_index_or, MatchOption};
 ghost use Rattle.std.specs.List.{list_any};
@@ -121,7 +121,7 @@ fn chains_changed<C: Changes>(
     row
 }
 
-/// What a compact point shows, where fault-free no point behind it is X.
+/// What a compact point shows, where fault-free no point upstream of it is X.
 fn shown_changed<C: Changes>(
     changes: &C,
     parts: &Parts,
@@ -157,7 +157,7 @@ fn shown_changed<C: Changes>(
     }
 }
 
-/// The lanes in which a compact point shows the opposite of what it shows without a fault. Where a point behind it is X without
+/// The lanes in which a compact point shows the opposite of what it shows without a fault. Where a point upstream of it is X without
 /// a fault, it shows no definite value, and nothing is its opposite.
 pub(crate) fn differing<C: Changes>(
     changes: &C,

@@ -45,7 +45,7 @@ impl CompactCounts<'_> {
         }
     }
 
-    /// The places behind which a point stands that observes one of some nets. The only error is want of memory.
+    /// The places downstream of a point that observes one of some nets. The only error is want of memory.
     pub(crate) fn due_places(&self, nets: &[u32]) -> Result<PlaceSet, NoMemory>
         requires built { IsBuiltFor self.now.parts.now self.now.good.now }
         requires nets { All (λ n. n < length self.now.parts.now.netlist.nets) nets.now }

@@ -40,7 +40,7 @@ fn clear_marks(scratch: &mut Scratch, nets: usize)
     }
 }
 
-/// Begins a walk behind a position: the chain is loaded, and all places are noted.
+/// Begins a walk at the fault after a position: the chain is loaded, and all places are noted.
 fn begin<O: ChainObserver, L: Ledger>(
     work: &BlockWork<'_, O>,
     scratch: &mut Scratch,

@@ -185,7 +185,7 @@ module _ (t : ScanTest) (sound : IsScanTest t) (g : PackedGood) (belongs : Belon
         (subst (λ (k : ℕ). (j : ℕ) → j < 512 → pattern_of b j < length t.patterns → held row j ≡ passed K (load t (pattern_of b j) h) k) e row_is)
         (subst (λ (k : ℕ). IsOpenLoad t g b h k K old) e open')
 
-    -- the row that a position behind the fault is loaded with
+    -- the row that a position downstream of the fault is loaded with
     pub row_is : (i j : ℕ) (x : Tri) → (i < L → x ≡ good_at g b j (cell t h i)) → (L ≤ i → x ≡ Unknown) → j < 512 → pattern_of b j < length t.patterns → x ≡ value_at (load t (pattern_of b j) h) i
     row_is i j x within past lane_lt w_lt = elim (cases_lt i L) [
       | inl lt ↦ within lt ∙ good_load i j lt lane_lt w_lt
@@ -299,7 +299,7 @@ module _ (t : ScanTest) (sound : IsScanTest t) (g : PackedGood) (belongs : Belon
                 ])
           ]
 
--- Between two cells: those above `at` are loaded, and what waits lies behind those above c.
+-- Between two cells: those above `at` are loaded, and what waits is downstream of those above c.
 pub record IsLoading (t : ScanTest) (g : PackedGood) (b h c at : ℕ) (K : CellKind) (start s : Scratch) : Type 0 where
   pub opens : IsOpenLoad t g b h at K s
   pub above_le : c ≤ at

@@ -63,10 +63,10 @@ module _ (c : Netlist) (order : List ℕ) (sound : IsNetlist c) (ordered : IsEva
           | inr outside ↦ outside
         ])
 
-  -- ---- the gates behind some nets
+  -- ---- the gates downstream of some nets
 
   module _ (nets : List ℕ) (in_range : (n : ℕ) → Contains nets n → n < length c.nets) (apart : AreApart c nets) where
-    -- a gate that reads one of the nets, or what lies behind them, is none of them
+    -- a gate that reads one of the nets, or what is downstream of them, is none of them
     not_among : (g r m : ℕ) → g < length c.nets → is_gate c g ≡ true → Contains (reads c g) r → Contains nets m → in_fan_in c m r ≡ true → list_any (eqb g) nets ≡ false
     not_among g r m lt gate read m_in inside = elim (cases_Bool (list_any (eqb g) nets)) [
       | inl among ↦

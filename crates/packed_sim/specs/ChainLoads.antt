@@ -17,7 +17,7 @@ use Rattle.packed_sim.specs.declared.scratch.Scratch.{Scratch}
 use Rattle.packed_sim.specs.Propagation.{FitsScratch, IsOpen}
 use Rattle.packed_sim.specs.Belongs.{IsScratchIn, block_at, now_at, captures}
 
--- each cell holds what the fault behind position c loads, in both kinds of pattern
+-- each cell holds what the fault after position c loads, in both kinds of pattern
 abbrev pub HoldLoads : ScanTest → PackedGood → ℕ → ℕ → ℕ → CellKind → Scratch → Type 0
 HoldLoads t g b h c K s = (i j : ℕ) → i < length (chain_at t h).cells → j < 512 → pattern_of b j < length t.patterns → now_at g s b j (cell t h i) ≡ loaded_at K c (load t (pattern_of b j) h) i
 

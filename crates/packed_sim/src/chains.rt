@@ -154,7 +154,7 @@ impl PackedGood {
         scratch.set(&self.wiring, net, row);
     }
 
-    /// Loads a chain as under a fault behind a position, in a clean scratch.
+    /// Loads a chain as under a fault after a position, in a clean scratch.
     pub fn load<L: Ledger>(
         &self,
         parts: &Parts,
@@ -183,7 +183,7 @@ impl PackedGood {
         scratch.settle(circuit, &self.wiring, good, steps);
     }
 
-    /// From the fault behind position `behind.1` + 1 to that behind `behind.1`: one cell is loaded otherwise.
+    /// From the fault after position `behind.1` + 1 to that after `behind.1`: one cell is loaded otherwise.
     pub fn load_more<L: Ledger>(
         &self,
         parts: &Parts,
