@@ -158,7 +158,7 @@ module _ (t : ScanTest) (b : ℕ) (block : Block) (good : AreBlockRows t b block
     | inr no' ↦ is ∙ rw (one, two, no') refl
   ]
 
-  -- a fault behind a cell
+  -- a fault after a cell
   module _ (h c : ℕ) (K : CellKind) (reach : List (List ℕ)) (nets : All (λ n. n < length t.netlist.nets) (chain_at t h).cells)
       (reaches : (n : ℕ) → n < length t.netlist.nets → lane_at reach j n ≡ (C && any_fail t fails j (net_reaches t n))) where
     abbrev behind : List ℕ

@@ -4,7 +4,7 @@ pub mod NetRows
 pub mod Points
 pub mod ChainTraces
 pub mod Explained
-pub mod Marking
+pub mod SuspectMarks
 pub mod Slots
 pub mod Unreached
 pub mod Standing

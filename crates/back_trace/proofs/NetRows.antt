@@ -104,7 +104,7 @@ module _ (t : ScanTest) (fails : List (List ℕ)) (keys : List (Option ℕ)) (be
   gathered_is j n row is = is ∙ ap (λ (m : ℕ). lane capture j && list_any (λ k. lane_at fails j k && is_key (get_or keys k None) n) (range_with_len 0 m)) len
       ∙ ap (λ (b : Bool). lane capture j && b) (any_same (λ k. lane_at fails j k && is_key (get_or keys k None) n) (λ k. fails_at fails j k && belongs n (point_at t k)) (length (points_of t)) (λ k lt. ap (λ (b : Bool). fails_at fails j k && b) (are.key k n lt)))
 
--- a net reaches what a net behind it is observed at
+-- a net reaches what a net downstream of it is observed at
 pub reached_is : (t : ScanTest) (fails rows : List (List ℕ)) (capture : List ℕ) (j n : ℕ) (row : Bool) → ((k : ℕ) → k < length (points_of t) → observed_net t (point_at t k) < length t.netlist.nets)
     → ((m : ℕ) → m < length t.netlist.nets → lane_at rows j m ≡ (lane capture j && any_fail t fails j (observes t m)))
     → row ≡ list_any (λ m. lane_at rows j m && in_fan_in t.netlist n m) (net_numbers t.netlist) → row ≡ (lane capture j && any_fail t fails j (net_reaches t n))

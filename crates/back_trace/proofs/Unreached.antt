@@ -29,7 +29,7 @@ use Rattle.lane_rows.specs.GoodRows.{AreBlockRows, pattern_of}
 use Rattle.back_trace.specs.declared.trace.Trace.{Trace}
 use Rattle.back_trace.specs.Fails.{any_fail, explains_in, IsWithin}
 use Rattle.back_trace.specs.Traces.{lane_at, IsPlaceIn, AreMarked, no_fault}
-use Rattle.back_trace.specs.Marking.{IsUnreached, IsTraced, StandAt, MarksOn}
+use Rattle.back_trace.specs.SuspectMarks.{IsUnreached, IsTraced, StandAt, MarksOn}
 use Rattle.back_trace.proofs.Explained.{logic_is, one_site_is, two_sites_are, operand_is, input_reaches_none}
 use Rattle.back_trace.proofs.Standing.{fault_there}
 use Rattle.fault_universe.proofs.BridgePlaces.{faults_counted}

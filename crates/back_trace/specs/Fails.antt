@@ -17,7 +17,7 @@ use Rattle.lane_rows.specs.GoodRows.{pattern_of}
 abbrev pub fails_among : ℕ → List LogFacts → List (List Tri) → ℕ → ℕ → Bool
 fails_among patterns logs expected w k = nat_lt w patterns && is_failing (class_of logs (value_at (slice_index_or expected w []) k) (bit_of w k))
 
--- the same of a test
+-- in a pattern of a test the bit at point k fails
 abbrev pub fails_in : ScanTest → List LogFacts → ℕ → ℕ → Bool
 fails_in t logs w k = nat_lt w (length t.patterns) && is_failing (class t logs (bit_of w k))
 
@@ -35,15 +35,15 @@ pub record IsWithin (t : ScanTest) (b : ℕ) (rows : List (List ℕ)) : Type 0 w
   pub len : length rows ≡ length (points_of t)
   pub pattern : (j k : ℕ) → j < 512 → k < length (points_of t) → fails_at rows j k ≡ true → pattern_of b j < length t.patterns
 
--- in lane j a bit fails at a point that passes a test
+-- in lane j a bit fails at one of some points
 abbrev pub any_fail : ScanTest → List (List ℕ) → ℕ → (Point → Bool) → Bool
-any_fail t rows j passes = list_any (λ k. fails_at rows j k && passes (point_at t k)) (range_with_len 0 (length (points_of t)))
+any_fail t rows j is_point = list_any (λ k. fails_at rows j k && is_point (point_at t k)) (range_with_len 0 (length (points_of t)))
 
 -- in lane j of block b the fault can explain a failing bit
 abbrev pub explains_in : ScanTest → Fault → ℕ → List (List ℕ) → ℕ → Bool
 explains_in t f b rows j = any_fail t rows j (can_explain t f (pattern_at t (pattern_of b j)).kind (pattern_of b j))
 
--- the answer tells whether a lane passes
-pub record Tells (answer : Bool) (passes : ℕ → Bool) : Type 0 where
-  pub found : answer ≡ true → (j : ℕ) × (j < 512) × (passes j ≡ true)
-  pub all : (j : ℕ) → j < 512 → passes j ≡ true → answer ≡ true
+-- the answer tells whether one of the 512 lanes is of a kind
+pub record Tells (answer : Bool) (is_lane : ℕ → Bool) : Type 0 where
+  pub found : answer ≡ true → (j : ℕ) × (j < 512) × (is_lane j ≡ true)
+  pub all : (j : ℕ) → j < 512 → is_lane j ≡ true → answer ≡ true

@@ -1,5 +1,6 @@
+-- The specs of tracing failing bits back.
 pub mod Fails
 pub mod Keys
 pub mod Traces
 pub mod Slots
-pub mod Marking
+pub mod SuspectMarks

@@ -22,16 +22,16 @@ observes t n point = observed_net t point == n
 abbrev pub lane_at : List (List ℕ) → ℕ → ℕ → Bool
 lane_at rows j n = lane (slice_index_or rows n []) j
 
--- a point of chain h up to position c, or in a lane of the row one behind it
+-- a point of chain h up to position c, or in a lane of the row one past it
 abbrev pub is_shifted_through : List ℕ → ℕ → ℕ → ℕ → Point → Bool
 is_shifted_through shift j h c point = is_cell_up_to h c point || (lane shift j && is_cell_behind h c point)
 
--- the position is at or behind the first one, if there is one
+-- the position is at or past the first one, if there is one
 abbrev pub is_from : Option ℕ → ℕ → Bool
 is_from None c = false
 is_from (Some first) c = nat_le first c
 
--- the first position of chain h from which on each fault behind a cell can explain a failing bit on its way out
+-- the first position of chain h from which on each fault after a cell can explain a failing bit on its way out
 abbrev pub IsFirst : ScanTest → List (List ℕ) → List ℕ → ℕ → Option ℕ → Type 0
 IsFirst t rows shift h first = (c : ℕ) → Tells (is_from first c) (λ j. any_fail t rows j (is_shifted_through shift j h c))
 

@@ -1,3 +1,4 @@
+//! By chain, the positions between which a fault of the shift path explains a failing bit.
 ghost use Rattle.std.specs.Prelude.{◌≡◌, ℕ, ◌<◌, length, Bool, ◌&&◌, ◌||◌, nat_lt, nat_le, None, slice_index_or, All, IfOk};
 ghost use Rattle.scan_model.specs.ScanTest.{points_of, chain_at, IsPoint};
 ghost use Rattle.lane_rows.specs.Lanes.{lane};

@@ -1,3 +1,4 @@
+//! Whether a fault explains a failing bit of a block.
 ghost use Rattle.std.specs.Prelude.{◌≡◌, ℕ, ◌<◌, ◌&&◌, ◌||◌, None, nat_lt, length, slice_index, slice_index_or};
 ghost use Rattle.scan_model.specs.declared.fault.Fault.TheVariants as fault;
 ghost use Rattle.scan_model.specs.Values.{are_opposite};
@@ -106,7 +107,7 @@ fn bridge_row(parts: &Parts, block: &Block, trace: &Trace, a: u32, b: u32, kind:
     by_first.or(by_second)
 }
 
-/// Whether a fault behind a cell explains a failing bit.
+/// Whether a fault after a cell explains a failing bit.
 fn is_cell_explained(parts: &Parts, trace: &Trace, chain: u32, pos: u32) -> bool
     requires chain { chain < length parts.now.chains }
     requires trace { (length trace.now.firsts ≡ length parts.now.chains) × (length trace.now.lasts ≡ length parts.now.chains) }

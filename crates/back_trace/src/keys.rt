@@ -1,3 +1,4 @@
+//! The net that each point observes, and the net of each point that is a cell.
 ghost use Rattle.std.specs.Prelude.{◌≡◌, ℕ, ◌<◌, length, IfOk};
 ghost use Rattle.scan_model.specs.ScanTest.{IsPoint, points_of};
 ghost use Rattle.scan_model.specs.Loads.{cell};

@@ -1,6 +1,7 @@
+//! Marks on the faults that explain a failing bit of a block, kind by kind.
 ghost use Rattle.std.specs.Prelude.{◌≡◌, ℕ, ◌+◌, ◌*◌, ◌<◌, ◌^◌, true, length};
 ghost use Rattle.scan_model.specs.Universe as listed;
-ghost use Rattle.back_trace.specs.Marking.{IsPlaceBelow, IsUnreached, IsTraced, StandAt, MarksOn};
+ghost use Rattle.back_trace.specs.SuspectMarks.{IsPlaceBelow, IsUnreached, IsTraced, StandAt, MarksOn};
 
 use crate::explain::{is_explained, pin_of};
 use crate::trace::Trace;
@@ -176,7 +177,7 @@ fn mark_bridges(marks: &mut [bool], first: usize, parts: &Parts, block: &Block, 
     }
 }
 
-/// Marks the faults behind a cell.
+/// Marks the faults after a cell.
 fn mark_cell(
     marks: &mut [bool],
     first: usize,
@@ -216,7 +217,7 @@ fn mark_cell(
     mark_each(marks, first, &faults, parts, block, trace);
 }
 
-/// Marks the faults behind the cells of a chain.
+/// Marks the faults after the cells of a chain.
 fn mark_chain(
     marks: &mut [bool],
     first: usize,

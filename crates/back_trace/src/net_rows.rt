@@ -1,3 +1,4 @@
+//! Rows by net, where most nets have no lanes.
 ghost use Rattle.std.specs.Prelude.{◌≡◌, ℕ, ◌<◌, [], length, true, false, slice_index_or, slice_set, IfOk, OnOk};
 ghost use Rattle.back_trace.specs.Traces.{lane_at};
 

@@ -1,3 +1,4 @@
+//! The lanes in which a net reaches failing bits, by one sweep back through the gates.
 ghost use Rattle.std.specs.Prelude.{◌≡◌, ℕ, ◌<◌, length, ◌&&◌, ◌||◌, ◌==◌, None, slice_index_or, IfOk, OnOk};
 ghost use Rattle.std.specs.List.{list_any, range_with_len};
 ghost use Rattle.scan_model.specs.Netlist.{reads, net_numbers};

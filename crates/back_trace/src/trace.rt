@@ -1,3 +1,5 @@
+//! What tracing the failing bits of a block back leaves.
+
 use crate::net_rows::NetRows;
 use lane_rows::Row;
 use scan_model::Rows;

@@ -1,3 +1,4 @@
+//! The suspects of a log: the faults that can explain one of its failing bits.
 ghost use Rattle.std.specs.Prelude.{◌≡◌, ℕ, ◌<◌, List, length, filter, Some, slice_get, Contains, IfOk, OnOk};
 ghost use Rattle.std.specs.List.{range_with_len};
 ghost use Rattle.scan_model.specs.declared.fault.Fault.{Fault};

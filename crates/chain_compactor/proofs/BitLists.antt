@@ -1,4 +1,4 @@
--- Lists of bits behind Failing bits, as they grow.
+-- Lists of bits upstream of Failing bits, as they grow.
 use Rattle.std.proofs.Common.{◌≡◌, ℕ, ◌+◌, ◌<◌, Bool, true, false, cond, List, [], ◌∷◌, ◌++◌, sym, subst, ◌∙◌, append-nil, below_more}
 use Rattle.std.specs.Prelude.{Contains}
 use Rattle.std.proofs.lemmas.Bool.{both_ways}
@@ -7,7 +7,7 @@ use Rattle.scan_model.specs.declared.logs.Bit.{Bit}
 use Rattle.scan_model.specs.Coverage.{bit_of}
 use Rattle.lane_rows.specs.Lanes.{lane}
 use Rattle.lane_rows.specs.GoodRows.{pattern_of}
-use Rattle.chain_compactor.specs.Tracing.{IsBitIn, AreBits, AddsLanes}
+use Rattle.chain_compactor.specs.TracedBits.{IsBitIn, AreBits, AddsLanes}
 
 module _ (lanes : List ℕ) (b k : ℕ) where
   abbrev bit : ℕ → Bit

@@ -9,7 +9,7 @@ use Rattle.scan_model.proofs.PointCount.{longest_few}
 use Rattle.fail_logs.specs.Frames.{rows_view}
 use Rattle.fail_logs.proofs.TestOrder.{longest-above}
 use Rattle.chain_compactor.specs.Channels.{chain_length}
-use Rattle.chain_compactor.specs.Seeing.{nets_of, chain_nets}
+use Rattle.chain_compactor.specs.ObservationPoints.{nets_of, chain_nets}
 
 module _ (t : ScanTest) (rows : List (Vec ℕ Global)) (are : rows_view rows ≡ chain_nets t) (h : ℕ) (lt : h < length t.chains) where
   pub row_there : h < length rows

@@ -40,7 +40,7 @@ use Rattle.fault_effects.proofs.SoleReader.{pin_flips-is}
 use Rattle.chain_compactor.specs.Channels.{Compactor, IsCompactorOf}
 use Rattle.chain_compactor.specs.Compaction.{predicts_compact_fail}
 use Rattle.chain_compactor.specs.Flips.{differs, flip_differs, straight_value, members_at, flip_shows_through, straight_through}
-use Rattle.chain_compactor.specs.Seeing.{seeing}
+use Rattle.chain_compactor.specs.ObservationPoints.{seeing}
 use Rattle.chain_compactor.specs.CompactModel.{compact_model}
 use Rattle.chain_compactor.proofs.OneFlip.{captured_fails, shifted_fails, unknown_hides}
 use Rattle.chain_compactor.proofs.Behind.{flips_behind}
@@ -124,7 +124,7 @@ module _ (t : ScanTest) (sound : IsScanTest t) (order : List ℕ) (ordered : IsE
 -- ---- faults of shift paths
 
 module _ (t : ScanTest) (sound : IsScanTest t) (c : Compactor) (made : IsCompactorOf t c) where
-  -- what holds of each point that place q sees holds of each that stands behind it
+  -- what holds of each point that place q sees holds of each point upstream of it
   of_seen : (q : ℕ) → q < length c.points → (Q : Point → Type 0) → ((k : ℕ) → k < length (points_of t) → (compact_model t c).sees q k ≡ true → Q (point_at t k)) → (p : Point) → Contains (members_at t c q) p → Q p
   of_seen q within Q all p has =
       let is_point : IsPoint t p = subst (IsPoint t) has.2 (members_are_points t c made q within has.0 p has.1) in

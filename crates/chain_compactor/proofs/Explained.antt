@@ -1,4 +1,4 @@
--- A fault that explains no bit behind Failing bits explains none of these.
+-- A fault that explains no bit upstream of Failing bits explains none of these.
 use Rattle.std.proofs.Common.{◌≡◌, ℕ, zero, suc, ◌+◌, ◌-◌, ◌≤◌, ◌<◌, Bool, true, false, cond, ◌&&◌, List, [], ◌∷◌, ◌++◌, length, map, get_or, Some, refl, ap, subst, ◌∙◌, inl, inr, arith}
 use Rattle.std.specs.Prelude.{All, Contains, count_by, flat_map}
 use Rattle.std.specs.List.{range_with_len, AllByRecursion}
@@ -21,7 +21,7 @@ use Rattle.scan_model.specs.Classes.{class, class_by, is_failing}
 use Rattle.scan_model.specs.MatchCounts.{counts_of}
 use Rattle.chain_compactor.specs.Channels.{Compactor, IsCompactorOf}
 use Rattle.chain_compactor.specs.Compaction.{compact_bits, compact_class, compact_counts_of, predicts_compact_fail}
-use Rattle.chain_compactor.specs.Tracing.{IsBitIn, AreBits, ListsBehind, complete_log}
+use Rattle.chain_compactor.specs.TracedBits.{IsBitIn, AreBits, ListsBehind, complete_log}
 use Rattle.chain_compactor.proofs.Members.{fail_has_one_behind}
 use Rattle.chain_compactor.proofs.SeenBehind.{seen}
 

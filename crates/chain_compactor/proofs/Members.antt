@@ -1,4 +1,4 @@
--- What stands behind a compact point.
+-- The points upstream of a compact point.
 use Rattle.std.proofs.Common.{◌≡◌, ℕ, ◌+◌, ◌-◌, ◌<◌, true, false, ltb, List, [], ◌∷◌, ◌++◌, length, take, map, get_or, Option, Some, None, refl, sym, ap, subst, ◌∙◌, inl, inr, arith, append-nil}
 use Rattle.std.specs.Prelude.{All, Contains}
 use Rattle.std.specs.List.{AllByRecursion}
@@ -22,7 +22,7 @@ use Rattle.fail_logs.proofs.TestOrder.{contains_here, contains_later, output_sta
 use Rattle.chain_compactor.specs.Channels.{Compactor, IsCompactorOf, no_channel, channel_at, chain_length, cycles_of}
 use Rattle.chain_compactor.specs.Compaction.{cell_shown, cells_shown, members, compact_value, predicts_compact_fail}
 use Rattle.chain_compactor.specs.Flips.{members_at}
-use Rattle.chain_compactor.specs.Shown.{IsThere}
+use Rattle.chain_compactor.specs.CompactPoints.{IsThere}
 use Rattle.chain_compactor.proofs.CompactOrder.{points_are}
 use Rattle.chain_compactor.proofs.Xors.{xor_one, some_fails}
 
@@ -65,7 +65,7 @@ module _ (t : ScanTest) (c : Compactor) (made : IsCompactorOf t c) where
       cells_are_points t u (channel_at c.channels x).chains (recursion_from_All (λ h. h < length t.chains) (channel_at c.channels x).chains
       (All-get_or (λ y. All (λ h. h < length t.chains) y.chains) c.channels x no_channel lt made.channels.chains))
 
-  -- points of the test stand behind each compact point
+  -- points of the test are upstream of each compact point
   pub members_are_points : (q : ℕ) → q < length c.points → All (IsPoint t) (members_at t c q)
   members_are_points q lt = behind_within (point_among c.points q) (point_within q lt)
 
@@ -95,7 +95,7 @@ module _ (t : ScanTest) (c : Compactor) (made : IsCompactorOf t c) where
       let same : point_at t here.0 ≡ at.1 = get_or_default (points_of t) here.0 (Output 0) at.1 here.1 ∙ here.2 in
       (here.0, (here.1, rw same (at.0, at.2, at.3), predicts_fail-is t sound f w here.0 here.1 ∙ ap (λ p. are_opposite (observed t None w p) (observed t (Some f) w p)) same ∙ at.4))
 
-  -- ---- what a compact point shows depends on the points behind it alone
+  -- ---- what a compact point shows depends on the points upstream of it alone
 
   pub same_behind : (f g : Fault) (w q : ℕ) → q < length c.points → ((p : Point) → Contains (members_at t c q) p → observed t (Some f) w p ≡ observed t (Some g) w p)
       → predicts_compact_fail t c f (bit_of w q) ≡ predicts_compact_fail t c g (bit_of w q)

@@ -1,4 +1,4 @@
--- A point is seen by each compact point behind which it stands, and by compact points alone.
+-- A point is seen by each compact point downstream of it, and by compact points alone.
 use Rattle.std.proofs.Common.{◌≡◌, ℕ, zero, suc, ◌+◌, ◌-◌, ◌<◌, true, eqb, ltb, List, [], ◌∷◌, length, map, get_or, refl, sym, ap, subst, ◌∙◌, inl, inr, arith}
 use Rattle.std.specs.Prelude.{All, Contains}
 use Rattle.std.proofs.lemmas.Bool.{cases_Bool, eq-eqb, eqb-true, ltb-true}
@@ -16,8 +16,8 @@ use Rattle.fault_effects.proofs.NetPoints.{filtered}
 use Rattle.chain_compactor.specs.Channels.{Compactor, IsCompactorOf, no_channel, channel_at, chain_length, cycles_of, greatest}
 use Rattle.chain_compactor.specs.Compaction.{cell_shown, cells_shown, members}
 use Rattle.chain_compactor.specs.Flips.{members_at}
-use Rattle.chain_compactor.specs.Shown.{IsThere}
-use Rattle.chain_compactor.specs.Seeing.{has_chain, channels_of, cycle_places, seeing}
+use Rattle.chain_compactor.specs.CompactPoints.{IsThere}
+use Rattle.chain_compactor.specs.ObservationPoints.{has_chain, channels_of, cycle_places, seeing}
 use Rattle.chain_compactor.proofs.CompactOrder.{greatest-above, points_are}
 use Rattle.chain_compactor.proofs.Members.{point_is_there}
 

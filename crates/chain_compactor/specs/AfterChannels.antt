@@ -51,7 +51,7 @@ pub record Adds (chains : List Chain) (names : List (List ℕ)) (old new : Chann
   pub points : new.points ≡ old.points + cycles_in chains names x
   pub few : new.points ≤ 131072
 
--- the same of a line that may have none
+-- what is kept after a line: one more channel, if it names one
 abbrev pub AddsSome : List Chain → List (List ℕ) → Channels → Channels → Option ChannelNames → Type 0
 AddsSome chains names old new None = new ≡ old
 AddsSome chains names old new (Some x) = Adds chains names old new x

@@ -1,4 +1,4 @@
--- A compactor behind the chains of a test: channels, each of which shows the XOR of several chains, and the compact points at
+-- A compactor downstream of the chains of a test: channels, each of which shows the XOR of several chains, and the compact points at
 -- which a tester sees through it.
 use Rattle.std.specs.Prelude.{◌≡◌, ℕ, ◌+◌, ◌<◌, ◌≤◌, max, nat_lt, cond, List, [], ◌∷◌, ◌++◌, length, map, flat_map, bytes_eq, All, slice_index_or}
 use Rattle.std.specs.List.{range_with_len, IsDistinct}

@@ -24,7 +24,7 @@ pub record AreExpected (t : ScanTest) (c : Compactor) (b : ℕ) (rows : List Pla
   pub len : length rows ≡ length c.points
   pub value : (q j : ℕ) → q < length c.points → j < 512 → pattern_of b j < length t.patterns → held (expected_at rows q) j ≡ compact_value t c None (pattern_of b j) (point_among c.points q)
 
--- at place q in lane j, if it is one of these lanes, the XOR of what the points behind it show is the opposite of the good one
+-- at place q in lane j, if it is one of these lanes, the XOR of what the points upstream of it show is the opposite of the good one
 abbrev pub differs_in : ScanTest → Compactor → List ℕ → (ℕ → Point → Tri) → (ℕ → Point → Tri) → Table
 differs_in t c lanes good shown q j = lane lanes j && are_opposite (xor_of (map (good j) (members_at t c q))) (xor_of (map (shown j) (members_at t c q)))
 
@@ -32,7 +32,7 @@ differs_in t c lanes good shown q j = lane lanes j && are_opposite (xor_of (map 
 abbrev pub within_set : List ℕ → Table → Table
 within_set set table q j = has_place set q && table q j
 
--- the set has each place behind which a point stands that observes one of these nets, and no others than places
+-- the set has each place downstream of a point that observes one of these nets, and no others than places
 pub record AreDue (t : ScanTest) (c : Compactor) (nets : List ℕ) (set : List ℕ) : Type 0 where
   pub places : (q : ℕ) → has_place set q ≡ true → q < length c.points
   pub all : (q : ℕ) (p : Point) → q < length c.points → Contains (members_at t c q) p → Contains nets (observed_net t p) → has_place set q ≡ true

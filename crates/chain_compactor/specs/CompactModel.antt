@@ -9,7 +9,7 @@ use Rattle.fault_effects.specs.FaultModel.{FaultModel, pin_flips}
 use Rattle.chain_compactor.specs.Channels.{Compactor}
 use Rattle.chain_compactor.specs.Compaction.{predicts_compact_fail}
 use Rattle.chain_compactor.specs.Flips.{flip_shows_through, straight_through}
-use Rattle.chain_compactor.specs.Seeing.{seeing}
+use Rattle.chain_compactor.specs.ObservationPoints.{seeing}
 
 abbrev pub compact_model : ScanTest → Compactor → FaultModel
 compact_model t c = record {

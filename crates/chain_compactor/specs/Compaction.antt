@@ -28,7 +28,7 @@ cell_shown t u h = cond (nat_lt u (chain_length t h)) (Cell h (chain_length t h 
 abbrev pub cells_shown : ScanTest → ℕ → List ℕ → List Point
 cells_shown t u chains = flat_map (cell_shown t u) chains
 
--- the points of the test behind a compact point
+-- the points of the test upstream of a compact point
 abbrev pub members : ScanTest → Compactor → Point → List Point
 members t c (Output k) = Output k ∷ []
 members t c (Cell x u) = cells_shown t u (channel_at c.channels x).chains

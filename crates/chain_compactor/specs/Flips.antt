@@ -30,7 +30,7 @@ straight_value t (fault.Branch q v) w p = if place_is_point t (pin_at t.netlist 
 straight_value t (fault.Bridge a b kind) w p = good_value t w (observed_net t p)
 straight_value t (fault.Cell h i kind) w p = good_value t w (observed_net t p)
 
--- the points behind compact point q
+-- the points upstream of compact point q
 abbrev pub members_at : ScanTest → Compactor → ℕ → List Point
 members_at t c q = members t c (point_among c.points q)
 
@@ -38,6 +38,6 @@ members_at t c q = members t c (point_among c.points q)
 abbrev pub flip_shows_through : ScanTest → Compactor → ℕ → ℕ → ℕ → Bool
 flip_shows_through t c w n q = flip_differs t w n (members_at t c q)
 
--- the fault's pin goes straight to a point behind compact point q, and that shows there
+-- the fault's pin goes straight to a point upstream of compact point q, and that shows there
 abbrev pub straight_through : ScanTest → Compactor → Fault → ℕ → ℕ → Bool
 straight_through t c f w q = differs t w (members_at t c q) (straight_value t f w)

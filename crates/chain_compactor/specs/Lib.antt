@@ -1,13 +1,14 @@
+-- The specs of tests with a compactor.
 pub mod Channels
 pub mod ChannelText
 pub mod AfterChannels
 pub mod CompactLog
 pub mod Compaction
 pub mod Flips
-pub mod Shown
+pub mod CompactPoints
 pub mod CompactReport
-pub mod Seeing
+pub mod ObservationPoints
 pub mod CompactModel
 pub mod ShownFlips
 pub mod CompactCounts
-pub mod Tracing
+pub mod TracedBits

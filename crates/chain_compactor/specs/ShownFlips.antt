@@ -7,7 +7,7 @@ use Rattle.lane_rows.specs.GoodRows.{pattern_of}
 use Rattle.packed_sim.specs.declared.good.PackedGood.{PackedGood}
 use Rattle.packed_sim.specs.declared.scratch.Scratch.{Scratch}
 use Rattle.packed_sim.specs.Belongs.{BelongsTo, IsScratchIn, captures, now_at, observed_at}
-use Rattle.packed_sim.specs.Loaded.{IsLoaded}
+use Rattle.packed_sim.specs.ChainLoads.{IsLoaded}
 
 -- in block b the scratch shows a flip of net n
 pub record ShowsFlip (t : ScanTest) (g : PackedGood) (b n : ℕ) (s : Scratch) : Type 0 where
@@ -22,7 +22,7 @@ pub record IsStuckIn (t : ScanTest) (g : PackedGood) (b p : ℕ) : Type 0 where
   pub block : b < length g.rows
   pub pin : p < length t.netlist.pins
 
--- in block b the scratch has chain h loaded as under a fault behind position c
+-- in block b the scratch has chain h loaded as under a fault after position c
 pub record ShowsCell (t : ScanTest) (g : PackedGood) (b h c : ℕ) (K : CellKind) (s : Scratch) : Type 0 where
   pub belongs : BelongsTo t g
   pub block : b < length g.rows

@@ -10,7 +10,7 @@ use fault_effects::{BlockWork, ChainObserver, Share, cell_piece, logic_parts};
 use scan_model::{NoMemory, Rows};
 use std::alloc::Global;
 
-/// Puts shares behind others.
+/// Adds shares at the end of others.
 fn append<P: Copy + Drop>(shares: &mut Rows<Share<P>>, piece: &[Share<P>]) -> Result<(), NoMemory>
     ensures { OnOk result (shares.new ≡ shares.old ++ piece.now) }
 {

@@ -1,4 +1,4 @@
-//! What compact points show where what the points behind them show changes.
+//! What compact points show where what the points upstream of them show changes.
 
 ghost use Rattle.std.specs.Prelude.{◌≡◌, ℕ, ◌<◌, ◌++◌, ◌∷◌, [], false, List, All, length, map, slice_index_or, MatchOption};
 ghost use Rattle.std.specs.List.{list_any};
@@ -12,8 +12,8 @@ ghost use Rattle.packed_sim.specs.Changes.{IsChange};
 ghost use Rattle.fail_logs.specs.Frames.{rows_view};
 ghost use Rattle.chain_compactor.specs.Channels.{IsCompactorOf};
 ghost use Rattle.chain_compactor.specs.Compaction.{cell_shown, cells_shown, members};
-ghost use Rattle.chain_compactor.specs.Seeing.{chain_nets};
-ghost use Rattle.chain_compactor.specs.Shown.{IsThere};
+ghost use Rattle.chain_compactor.specs.ObservationPoints.{chain_nets};
+ghost use Rattle.chain_compactor.specs.CompactPoints.{IsThere};
 
 use crate::compactor::Compact;
 use lane_rows::{Packed, Row};
@@ -48,7 +48,7 @@ pub(crate) trait Changes {
             (λ row. (j : ℕ) → j < 512 → tells self.now j → IsChange (good self.now j point) (held row j) (shown self.now j point)) };
 }
 
-/// A row that is an XOR over fault-free values, with what one point shows.
+/// A row that is an XOR over fault-free values, with what one point shows instead of its own.
 fn changed<C: Changes>(changes: &C, row: Packed, point: Point, net: u32) -> Packed
     requires ready { C.ready changes.now }
     requires point { IsPoint (C.test changes.now) point }
@@ -70,8 +70,8 @@ fn nets_in(nets: &[Vec<u32>], chain: u32) -> &[u32]
     &nets[chain as usize]
 }
 
-/// The same with what a chain shows in an unload cycle, if it shows something. The nets are those that the cells of each chain
-/// observe.
+/// A row that is an XOR over fault-free values, with what the cell of a chain that is unloaded in a cycle shows instead; the
+/// row itself where the chain is shorter. The nets are those that the cells of each chain observe.
 fn chain_changed<C: Changes>(
     changes: &C,
     parts: &Parts,
@@ -98,7 +98,7 @@ fn chain_changed<C: Changes>(
     changed(changes, row, Point::Cell { chain, pos }, own[at])
 }
 
-/// The same with what chains show in an unload cycle.
+/// A row that is an XOR over the fault-free values of an unload cycle of some chains, with what their cells show instead.
 fn chains_changed<C: Changes>(
     changes: &C,
     parts: &Parts,
@@ -121,7 +121,7 @@ fn chains_changed<C: Changes>(
     row
 }
 
-/// What a compact point shows, where fault-free no point behind it is X.
+/// What a compact point shows, where fault-free no point upstream of it is X.
 fn shown_changed<C: Changes>(
     changes: &C,
     parts: &Parts,
@@ -157,7 +157,7 @@ fn shown_changed<C: Changes>(
     }
 }
 
-/// The lanes in which a compact point shows the opposite of what it shows without a fault. Where a point behind it is X without
+/// The lanes in which a compact point shows the opposite of what it shows without a fault. Where a point upstream of it is X without
 /// a fault, it shows no definite value, and nothing is its opposite.
 pub(crate) fn differing<C: Changes>(
     changes: &C,

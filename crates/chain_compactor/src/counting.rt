@@ -153,7 +153,7 @@ fn counts_at(
     list_candidates(alloc, suspects.as_slice(), &totals)
 }
 
-/// The same of all faults.
+/// The counts of all faults that explain a failing bit, in the order of their places.
 fn counts_of_all(
     alloc: Global,
     parts: &Parts,
@@ -173,7 +173,7 @@ fn counts_of_all(
 }
 
 /// The faults that explain at least one failing bit of what a tester saw through a compactor, with their counts, in the order
-/// of their places. Where the bits of the test behind the failing ones are few, they are traced back, and faults that can explain
+/// of their places. Where the bits of the test upstream of the failing ones are few, they are traced back, and faults that can explain
 /// none of them aren't counted. Faults are counted 512 patterns at a time, by flips of nets, and none is simulated by itself: no
 /// step is taken.
 pub fn compact_counts<L: Ledger>(

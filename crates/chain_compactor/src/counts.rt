@@ -4,7 +4,7 @@ ghost use Rattle.std.specs.Prelude.{◌≡◌, ℕ, ◌<◌, All, length};
 ghost use Rattle.std.proofs.Props.{props};
 ghost use Rattle.scan_model.specs.ScanTest.{points_of, point_at};
 ghost use Rattle.chain_compactor.specs.Channels.{IsCompactorOf};
-ghost use Rattle.chain_compactor.specs.Seeing.{seeing, AreTables};
+ghost use Rattle.chain_compactor.specs.ObservationPoints.{seeing, AreTables};
 ghost use Rattle.chain_compactor.specs.CompactCounts.{AreExpected};
 
 use crate::compactor::Compact;

@@ -4,7 +4,7 @@ ghost use Rattle.std.specs.Prelude.{◌≡◌, ℕ, ◌<◌, ◌≤◌, true, Al
 ghost use Rattle.scan_model.specs.ScanTest.{points_of, point_at};
 ghost use Rattle.place_sets.specs.Places.{has_place, room};
 ghost use Rattle.packed_sim.specs.Belongs.{IsBuiltFor, observed_at};
-ghost use Rattle.chain_compactor.specs.Seeing.{seeing};
+ghost use Rattle.chain_compactor.specs.ObservationPoints.{seeing};
 ghost use Rattle.chain_compactor.specs.CompactCounts.{AreDue};
 
 use crate::counts::CompactCounts;
@@ -45,7 +45,7 @@ impl CompactCounts<'_> {
         }
     }
 
-    /// The places behind which a point stands that observes one of some nets. The only error is want of memory.
+    /// The places downstream of a point that observes one of some nets. The only error is want of memory.
     pub(crate) fn due_places(&self, nets: &[u32]) -> Result<PlaceSet, NoMemory>
         requires built { IsBuiltFor self.now.parts.now self.now.good.now }
         requires nets { All (λ n. n < length self.now.parts.now.netlist.nets) nets.now }

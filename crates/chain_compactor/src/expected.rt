@@ -9,10 +9,10 @@ ghost use Rattle.lane_rows.specs.Planes.{held};
 ghost use Rattle.lane_rows.specs.GoodRows.{pattern_of, AreBlockRows, AreGoodRows};
 ghost use Rattle.chain_compactor.specs.Channels.{IsCompactorOf, chain_length as model_length};
 ghost use Rattle.chain_compactor.specs.Compaction.{cell_shown, cells_shown, compact_value, compact_rows};
-ghost use Rattle.chain_compactor.specs.Shown.{IsThere};
+ghost use Rattle.chain_compactor.specs.CompactPoints.{IsThere};
 
 use crate::compactor::Compact;
-use expected_values::{ShownRows, expected_of, point_in_block};
+use expected_values::{ResponseRows, expected_of, point_in_block};
 use lane_rows::{Block, GoodRows, Packed};
 use scan_model::{Expected, NoMemory, Parts, Point, Tri};
 use std::alloc::Global;
@@ -85,7 +85,7 @@ struct CompactRows<'a> {
     rows: &'a GoodRows,
 }
 
-impl ShownRows for CompactRows<'_> {
+impl ResponseRows for CompactRows<'_> {
     ghost use Rattle.std.specs.Prelude.{length};
     ghost use Rattle.lane_rows.specs.GoodRows.{AreGoodRows};
     ghost use Rattle.chain_compactor.specs.Channels.{IsCompactorOf};
@@ -118,7 +118,7 @@ pub fn compact_expected(
     compact_expected_over(alloc, parts, compact, &rows)
 }
 
-/// The same, from fault-free rows that are kept.
+/// The expected values at the compact points, from fault-free rows that are kept.
 pub fn compact_expected_over(
     alloc: Global,
     parts: &Parts,

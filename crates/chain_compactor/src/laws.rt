@@ -23,7 +23,7 @@ use crate::compactor::Compact;
 use scan_model::Parts;
 
 /// Where the pattern captures, a logic fault predicts a fail at a compact point exactly where a net that it flips, flipped
-/// alone over fault-free values, shows there, or its pin goes straight to a point behind it and that shows; where it only
+/// alone over fault-free values, shows there, or its pin goes straight to a point upstream of it and that shows; where it only
 /// shifts, nowhere. A net that one gate alone reads, through one operand, shows at a compact point exactly where no other operand
 /// of the gate stands in the way and the gate shows there.
 pub fn compact_flips(parts: &Parts, compact: &Compact)
@@ -39,7 +39,7 @@ pub fn compact_flips(parts: &Parts, compact: &Compact)
     let _ = compact;
 }
 
-/// A fault that predicts a fail at a compact point predicts one at a point behind it. What the points behind it show is all that
+/// A fault that predicts a fail at a compact point predicts one at a point upstream of it. What the points upstream of it show is all that
 /// a compact point tells of faults.
 pub fn fails_behind(parts: &Parts, compact: &Compact)
     requires { IsCompactorOf parts.now compact.now }

@@ -1,4 +1,4 @@
-//! An XOR compactor behind the chains of a test: the channels of a text, their logs, and what a tester sees through them.
+//! An XOR compactor downstream of the chains of a test: the channels of a text, their logs, and what a tester sees through them.
 #![tactic(auto)]
 
 mod block_parts;

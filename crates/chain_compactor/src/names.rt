@@ -5,7 +5,7 @@ ghost use Rattle.std.proofs.Props.{props};
 ghost use Rattle.scan_model.specs.Universe.{universe};
 ghost use Rattle.fault_universe.specs.LineWords.{after_spaces};
 ghost use Rattle.chain_compactor.specs.Channels.{IsCompactorOf};
-ghost use Rattle.chain_compactor.specs.Shown.{IsThere};
+ghost use Rattle.chain_compactor.specs.CompactPoints.{IsThere};
 ghost use Rattle.chain_compactor.specs.CompactReport.{shown_words, compact_form};
 
 use crate::compactor::Compact;

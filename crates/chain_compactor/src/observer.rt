@@ -148,7 +148,7 @@ impl ChainObserver for CompactCounts<'_> {
     ghost use Rattle.scan_model.specs.ScanTest.{point_at};
     ghost use Rattle.match_counts.specs.PlaceCounts.{ArePlaceCounts};
     ghost use Rattle.match_counts.specs.SameTables.{counts_same};
-    ghost use Rattle.chain_compactor.specs.Seeing.{seeing};
+    ghost use Rattle.chain_compactor.specs.ObservationPoints.{seeing};
 
     type Sum = PlaceCounts;
 

@@ -6,7 +6,7 @@ ghost use Rattle.scan_model.specs.ScanTest.{points_of, point_at};
 ghost use Rattle.fail_logs.specs.BitNumbers.{place_in};
 ghost use Rattle.fail_logs.specs.Frames.{rows_view};
 ghost use Rattle.chain_compactor.specs.Channels.{IsCompactorOf, channel_at};
-ghost use Rattle.chain_compactor.specs.Seeing.{has_chain, channels_of, nets_of, chain_nets, seeing, AreTables};
+ghost use Rattle.chain_compactor.specs.ObservationPoints.{has_chain, channels_of, nets_of, chain_nets, seeing, AreTables};
 
 use crate::compactor::{Channel, Compact};
 use crate::expected::chain_length;

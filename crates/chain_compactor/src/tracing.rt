@@ -1,4 +1,4 @@
-//! Which faults can explain a Failing bit through a compactor: those that can explain a fail at a point behind it.
+//! Which faults can explain a Failing bit through a compactor: those that can explain a fail at a point upstream of it.
 
 ghost use Rattle.std.specs.Prelude.{◌≡◌, ℕ, ◌<◌, ◌^◌, ◌++◌, [], ◌∷◌, cond, true, List, Contains, Some, length, slice_get, slice_index_or, IfOk, IfSome, OnOk};
 ghost use Rattle.scan_model.specs.declared.fault.Fault.{Fault};
@@ -12,8 +12,8 @@ ghost use Rattle.packed_sim.specs.Belongs.{BelongsTo};
 ghost use Rattle.fault_effects.specs.PointRows.{no_point_row};
 ghost use Rattle.chain_compactor.specs.Channels.{IsCompactorOf};
 ghost use Rattle.chain_compactor.specs.Compaction.{compact_rows, compact_counts_of};
-ghost use Rattle.chain_compactor.specs.Seeing.{seeing, AreTables};
-ghost use Rattle.chain_compactor.specs.Tracing.{AddsLanes, AddsBehind, ListsBehind, AreBits, complete_log};
+ghost use Rattle.chain_compactor.specs.ObservationPoints.{seeing, AreTables};
+ghost use Rattle.chain_compactor.specs.TracedBits.{AddsLanes, AddsBehind, ListsBehind, AreBits, complete_log};
 
 use crate::compactor::Compact;
 use crate::tables::Tables;
@@ -27,7 +27,7 @@ use packed_sim::PackedGood;
 use scan_model::{Bit, Expected, LogFacts, NoMemory, Parts, Range, Rows};
 use std::alloc::Global;
 
-/// The most bits that are traced back. Where more stand behind Failing bits, nearly every fault can explain one of them.
+/// The most bits that are traced back. Where more are upstream of Failing bits, nearly every fault can explain one of them.
 const TRACED_LIMIT: usize = 262_144;
 
 /// The lanes of a block in which a compact point that sees a point of the test is Failing.
@@ -78,7 +78,7 @@ fn push_lanes(bits: &mut Rows<Bit>, block: u32, point: u32, lanes: Row) -> Resul
     Ok(())
 }
 
-/// Adds the bits of a block behind Failing bits.
+/// Adds the bits of a block upstream of Failing bits.
 fn push_block(
     parts: &Parts,
     compact: &Compact,
@@ -101,7 +101,7 @@ fn push_block(
     Ok(())
 }
 
-/// The bits of the test behind Failing bits, if they are few enough to be traced back.
+/// The bits of the test upstream of Failing bits, if they are few enough to be traced back.
 fn bits_behind(
     alloc: Global,
     parts: &Parts,
@@ -157,7 +157,7 @@ fn log_of(alloc: Global, patterns: u32, fails: Rows<Bit>) -> Result<LogFacts, No
     })
 }
 
-/// The places of faults among which are all that explain a Failing bit, traced back from the bits of the test behind Failing bits;
+/// The places of faults among which are all that explain a Failing bit, traced back from the bits of the test upstream of Failing bits;
 /// none where these are too many.
 pub(crate) fn traced_places(
     alloc: Global,

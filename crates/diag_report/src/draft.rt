@@ -1,3 +1,4 @@
+//! A text in the making, with the ends of its lines.
 ghost use Rattle.std.specs.Prelude.{◌≡◌, ◌++◌, ◌∷◌, [], length, IfOk, OnOk};
 
 use scan_model::{Name, NoMemory, Rows};

@@ -1,3 +1,4 @@
+//! The fail log that a fault predicts.
 ghost use Rattle.std.specs.Prelude.{◌≡◌, ◌+◌, ◌*◌, ◌/◌, ◌++◌, ◌∷◌, [], ◌<◌, ◌≤◌, ◌==◌, length, map, All, Contains, Ok, IfOk, OnOk, IsTrue};
 ghost use Rattle.std.specs.Int.{bit_at};
 ghost use Rattle.scan_model.specs.declared.fault.Fault.{Fault};
@@ -201,7 +202,7 @@ pub fn fails_text_over(
     Ok(text)
 }
 
-/// The same, over fault-free values that are made for it alone.
+/// The fail log that the fault at a place predicts, over fault-free values that are made for it alone.
 pub fn fails_text(
     alloc: Global,
     parts: &Parts,

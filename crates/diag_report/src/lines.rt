@@ -1,3 +1,4 @@
+//! The lines of reports, each from its words.
 ghost use Rattle.std.specs.Prelude.{◌≡◌, ◌++◌, ◌∷◌, [], ◌<◌, decimal, OnOk};
 ghost use Rattle.scan_model.specs.ReportText as text_of;
 ghost use Rattle.diag_report.specs.LineEnds.{AddsLines};

@@ -1,3 +1,4 @@
+//! A report, and its pages of a hundred lines.
 ghost use Rattle.std.specs.Prelude.{◌≡◌, ◌<◌, ◌≤◌, ◌+◌, ◌-◌, ◌*◌, ◌↔◌, List, ℕ, length, take, drop, map, slice_index, IsOk, IfOk, IfErr};
 ghost use Rattle.std.specs.List.{range_with_len};
 ghost use Rattle.scan_model.specs.ReportText as text_of;

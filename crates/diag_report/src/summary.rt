@@ -1,3 +1,4 @@
+//! The summary of a design.
 ghost use Rattle.std.specs.Prelude.{◌≡◌, ◌++◌, ◌∷◌, [], ◌<◌, length, map, All, IfOk, OnOk};
 ghost use Rattle.scan_model.specs.ScanTest.{cells_of};
 ghost use Rattle.scan_model.specs.ReportText as text_of;

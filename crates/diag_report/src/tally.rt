@@ -1,3 +1,4 @@
+//! The bits of a log by class: how many fail and pass, and which are Conflict and Masked.
 ghost use Rattle.std.specs.Prelude.{◌≡◌, ℕ, ◌+◌, ◌*◌, ◌^◌, ◌<◌, ◌≤◌, List, length, map, filter, All, IfOk, OnOk};
 ghost use Rattle.scan_model.specs.declared.logs.LogFacts.{LogFacts};
 ghost use Rattle.scan_model.specs.PatternText.{pattern_limit};

@@ -1,3 +1,4 @@
+//! The text of a report, head first.
 ghost use Rattle.std.specs.Prelude.{◌≡◌, ◌<◌, ◌≤◌, [], List, All, map, length, IfOk, OnOk};
 ghost use Rattle.std.specs.List.{enumerate_from};
 ghost use Rattle.scan_model.specs.declared.logs.LogFacts.{LogFacts};

@@ -1,2 +1,2 @@
 pub mod BlockShows
-mod ShownWords
+mod ResponseWords

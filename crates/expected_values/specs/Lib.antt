@@ -1,1 +1,2 @@
-pub mod ShownWords
+-- The specs of expected values.
+pub mod ResponseWords

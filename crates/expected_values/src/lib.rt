@@ -3,8 +3,8 @@
 
 mod expected;
 mod point_rows;
-mod shown_rows;
+mod response_rows;
 
 pub use expected::expected_of;
 pub use point_rows::{PointRows, expected_at_points, point_in_block};
-pub use shown_rows::ShownRows;
+pub use response_rows::ResponseRows;

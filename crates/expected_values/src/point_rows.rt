@@ -8,7 +8,7 @@ ghost use Rattle.lane_rows.specs.Planes.{held};
 ghost use Rattle.lane_rows.specs.GoodRows.{pattern_of, AreBlockRows, AreGoodRows};
 
 use crate::expected::expected_of;
-use crate::shown_rows::ShownRows;
+use crate::response_rows::ResponseRows;
 use lane_rows::{Block, GoodRows, Packed};
 use scan_model::{Expected, NoMemory, Parts, Point, Tri};
 use std::alloc::Global;
@@ -44,7 +44,7 @@ pub struct PointRows<'a> {
     pub rows: &'a GoodRows,
 }
 
-impl ShownRows for PointRows<'_> {
+impl ResponseRows for PointRows<'_> {
     ghost use Rattle.std.specs.Prelude.{length};
     ghost use Rattle.scan_model.specs.ScanTest.{points_of};
     ghost use Rattle.scan_model.specs.Response.{expected_rows};

@@ -68,7 +68,7 @@ in_all m b n all each q j within lt = with_all (shown_in m b n q j) (lane all j)
     with_all false l is = refl
 
 module _ (t : ScanTest) (faults : List Fault) (m : FaultModel) (law : IsFaultModel t faults m) (b : ℕ) where
-  -- behind the gate that alone reads a net, in the lanes in which the pin flips the gate
+  -- upstream of the gate that alone reads a net, in the lanes in which the pin flips the gate
   pub behind_reader : (root : Table) (n : ℕ) (r : SoleReader) (above lanes both : List ℕ) → IsSoleReader t n r
       → ((j : ℕ) → j < 512 → m.captures (pattern_of b j) ≡ true → lane lanes j ≡ m.pin_flips (pattern_of b j) r.pin r.gate)
       → ((j : ℕ) → j < 512 → lane both j ≡ (lane above j && lane lanes j)) → ShowsAs m b root r.gate above → ShowsAs m b root n both

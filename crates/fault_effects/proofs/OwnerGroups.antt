@@ -4,7 +4,7 @@ use Rattle.std.specs.Prelude.{All, Contains, slice_index}
 use Rattle.std.proofs.lemmas.Bool.{eq-eqb, eqb-true}
 use Rattle.scan_model.specs.ScanTest.{ScanTest}
 use Rattle.scan_model.proofs.Orders.{filter_range_all}
-use Rattle.lane_rows.specs.Grouped.{members}
+use Rattle.lane_rows.specs.Groups.{members}
 use Rattle.fault_effects.specs.declared.suspect.Suspect.{Suspect}
 use Rattle.fault_effects.specs.Owners.{owner, suspect_at, IsOwned, AreOwners}
 use Rattle.fault_effects.proofs.NetPoints.{filtered}

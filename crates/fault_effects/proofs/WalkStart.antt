@@ -16,7 +16,7 @@ use Rattle.lane_rows.specs.GoodRows.{pattern_of, same_kind}
 use Rattle.packed_sim.specs.declared.good.PackedGood.{PackedGood}
 use Rattle.packed_sim.specs.declared.scratch.Scratch.{Scratch}
 use Rattle.packed_sim.specs.Belongs.{BelongsTo, captures, has_own_row, observed_at}
-use Rattle.packed_sim.specs.Loaded.{IsLoaded}
+use Rattle.packed_sim.specs.ChainLoads.{IsLoaded}
 use Rattle.packed_sim.proofs.Belonging.{good_is, observed_in_range, observed_live, own_no_row}
 use Rattle.packed_sim.proofs.FaultBits.{kinds}
 use Rattle.fault_effects.specs.FaultModel.{FaultModel, IsChainModel, fails_in}

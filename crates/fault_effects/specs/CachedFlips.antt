@@ -8,7 +8,7 @@ use Rattle.fault_effects.specs.FaultModel.{FaultModel, Table, shown_in}
 abbrev pub IsCachedFlip : {F : Type 0} → (F → Table → Type 0) → FaultModel → ℕ → CachedFlip F → Type 0
 IsCachedFlip holds m b kept = IfSome kept.net (λ n. holds kept.flip (shown_in m b n))
 
--- the same of both
+-- what is kept of each of the two nets of a pair is its flip
 pub record ArePairFlips {F : Type 0} (holds : F → Table → Type 0) (m : FaultModel) (b : ℕ) (kept : PairFlips F) : Type 0 where
   pub low : IsCachedFlip holds m b kept.low
   pub high : IsCachedFlip holds m b kept.high

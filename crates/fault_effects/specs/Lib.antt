@@ -1,3 +1,4 @@
+-- The specs of what faults do in a block.
 pub mod FaultModel
 pub mod PointRows
 pub mod Shares

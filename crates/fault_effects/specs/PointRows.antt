@@ -22,13 +22,13 @@ is_on Passing class = is_passing class
 abbrev pub counts_on : ScanTest → List LogFacts → Side → Bit → Bool
 counts_on t logs side x = is_on side (class t logs x)
 
--- the same of a pattern that is there, from rows of expected values
+-- the pattern is there, and the class of its bit by rows of expected values is that of the side
 abbrev pub is_on_at : List LogFacts → List (List Tri) → ℕ → Side → ℕ → ℕ → Bool
 is_on_at logs rows patterns side w k = nat_lt w patterns && is_on side (class_of logs (value_at (slice_index_or rows w []) k) (bit_of w k))
 
--- the lanes of block b whose patterns are there and whose bits at point k pass
+-- the lanes of block b whose patterns are there and whose bits at point k are counted
 abbrev pub AreLanesAt : ScanTest → (Bit → Bool) → ℕ → ℕ → List ℕ → Type 0
-AreLanesAt t passes b k row = (j : ℕ) → j < 512 → lane row j ≡ (nat_lt (pattern_of b j) (length t.patterns) && passes (bit_of (pattern_of b j) k))
+AreLanesAt t is_counted b k row = (j : ℕ) → j < 512 → lane row j ≡ (nat_lt (pattern_of b j) (length t.patterns) && is_counted (bit_of (pattern_of b j) k))
 
 pub record IsPointRow (t : ScanTest) (logs : List LogFacts) (b k : ℕ) (row : PointRow) : Type 0 where
   pub failing : AreLanesAt t (counts_on t logs Failing) b k row.failing

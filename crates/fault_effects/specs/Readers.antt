@@ -21,7 +21,7 @@ pub record AreReadsUpTo (c : Netlist) (end : ℕ) (reads : List Reads) : Type 0 
   pub never : (n q : ℕ) → n < length reads → slice_index_or reads n Never ≡ Never → q < end → (pin_at c q).net ≡ n → ⊥
   pub once : (n p : ℕ) → slice_index_or reads n Never ≡ Once p → IsOnlyPin c end n p
 
--- the same of all pins
+-- for each net whether none of all pins reads it, or one alone
 abbrev pub AreReads : ScanTest → List Reads → Type 0
 AreReads t reads = AreReadsUpTo t.netlist (length t.netlist.pins) reads
 

@@ -15,7 +15,7 @@ pub record IsRegion {F : Type 0} (holds : F → Table → Type 0) (m : FaultMode
   pub members : All (λ x. ShowsAs m b root x.net x.lanes) region.members.items
   pub path : All (λ n. n < nets) region.path.items
 
--- the same, and net n shows as the root does
+-- the region stands, and net n shows as its root does in some lanes
 pub record IsEntered {F : Type 0} (holds : F → Table → Type 0) (m : FaultModel) (b nets : ℕ) (at : Region F) (n : ℕ) (lanes : List ℕ) : Type 0 where
   pub region : IsRegion holds m b nets at
   pub shows : ShowsAs m b region.root n lanes

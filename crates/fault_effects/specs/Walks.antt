@@ -10,7 +10,7 @@ use Rattle.place_sets.specs.Places.{has_place}
 use Rattle.packed_sim.specs.declared.good.PackedGood.{PackedGood}
 use Rattle.packed_sim.specs.declared.scratch.Scratch.{Scratch}
 use Rattle.packed_sim.specs.Belongs.{observed_at, IsScratchIn}
-use Rattle.packed_sim.specs.Loaded.{IsLoaded}
+use Rattle.packed_sim.specs.ChainLoads.{IsLoaded}
 use Rattle.fault_effects.specs.declared.notes.Notes.{Notes}
 use Rattle.fault_effects.specs.FaultModel.{FaultModel, Table, fails_in}
 use Rattle.fault_effects.specs.Tables.{row_at, table_of}
@@ -44,7 +44,7 @@ pub record IsStepNoted (t : ScanTest) (m : FaultModel) (b h c : ℕ) (K : CellKi
   pub here : AreFreshAt t m b (fault.Cell h c K) new (observed_net t (Cell h c))
   pub above : AreFreshAt t m b (fault.Cell h c K) new (observed_net t (Cell h (c + 1)))
 
--- In block b chain h is loaded as under the fault behind position c, and the notes are the fault's.
+-- In block b chain h is loaded as under the fault after position c, and the notes are the fault's.
 pub record IsWalkAt {S : Type 0} (t : ScanTest) (g : PackedGood) (m : FaultModel) (sums : S → Table → Type 0) (b h c : ℕ) (K : CellKind) (s : Scratch) (notes : Notes S) : Type 0 where
   pub chain : h < length t.chains
   pub pos : c < length (chain_at t h).cells

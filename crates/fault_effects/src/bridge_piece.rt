@@ -25,7 +25,7 @@ struct PairFlips<F> {
 
 /// A bridge's nets and its kind.
 #[derive(Clone, Copy, Debug)]
-struct Bridged {
+struct BridgeFault {
     a: u32,
     b: u32,
     kind: BridgeKind,
@@ -37,7 +37,7 @@ fn bridge_part<O: Observer, L: Ledger>(
     scratch: &mut Scratch,
     first: &mut CachedFlip<O::Flip>,
     second: &mut CachedFlip<O::Flip>,
-    bridged: Bridged,
+    bridged: BridgeFault,
     steps: &mut Steps<L>,
 ) -> Result<O::Part, NoMemory>
     requires work { IsSound O.test O.model O.block O.clean O.ready work.now }
@@ -51,7 +51,7 @@ fn bridge_part<O: Observer, L: Ledger>(
     ensures part { IfOk result (λ part. (i : ℕ) → i < length work.now.suspects.now → (suspect_at work.now.suspects.now i).fault ≡ fault.Bridge bridged.a bridged.b bridged.kind
         → O.means work.now.observer.now part (suspect_fails (O.model work.now.observer.now) (O.block work.now.observer.now) work.now.suspects.now i)) }
 {
-    let Bridged { a, b, kind } = bridged;
+    let BridgeFault { a, b, kind } = bridged;
     keep(work, scratch, first, a, steps)?;
     keep(work, scratch, second, b, steps)?;
     let fault = Fault::Bridge { a, b, kind };
@@ -64,12 +64,13 @@ fn bridge_part<O: Observer, L: Ledger>(
     Ok(work.observer.both(of_first, of_second))
 }
 
-/// The same over what is kept. The faults of a pair, and mostly pairs of one net, come one after another.
+/// The part of a bridge fault, from the flips of its two nets. Those that are kept from the fault before serve again: the faults
+/// of a pair, and mostly pairs of one net, come one after another.
 fn pair_part<O: Observer, L: Ledger>(
     work: &BlockWork<'_, O>,
     scratch: &mut Scratch,
     kept: &mut PairFlips<O::Flip>,
-    bridged: Bridged,
+    bridged: BridgeFault,
     steps: &mut Steps<L>,
 ) -> Result<O::Part, NoMemory>
     requires work { IsSound O.test O.model O.block O.clean O.ready work.now }
@@ -114,7 +115,7 @@ pub(crate) fn share_bridges<O: Observer, L: Ledger>(
         let Fault::Bridge { a, b, kind } = suspect.fault else {
             unreachable!()
         };
-        let part = pair_part(work, scratch, &mut kept, Bridged { a, b, kind }, steps)?;
+        let part = pair_part(work, scratch, &mut kept, BridgeFault { a, b, kind }, steps)?;
         shares.push(Share {
             suspect: *item,
             part,

@@ -1,4 +1,5 @@
-//! The order in which nets are shown: region by region, each net behind the gate that alone reads it, and what stands behind it before all others.
+//! The order in which nets are shown: region by region, each net after the gate that alone reads it, and what is upstream of it in
+//! its region before all others.
 ghost use Rattle.std.specs.Prelude.{◌≡◌, ℕ, ◌+◌, ◌<◌, List, [], All, Contains, true, false, length, slice_index_or, IfOk, OnOk};
 ghost use Rattle.fault_effects.specs.Readers.{AreReads};
 ghost use Rattle.fault_effects.specs.FlipOrder.{IsListing};
@@ -17,7 +18,7 @@ struct Listing {
 }
 
 /// Adds the nets that a gate alone reads.
-fn push_behind(
+fn push_upstream(
     due: &mut Vec<u32>,
     parts: &Parts,
     reads: &[Reads],
@@ -51,7 +52,8 @@ impl Listing {
         })
     }
 
-    /// Lists a net that wasn't seen and owns a suspect. What stands behind it is due: of a net without one nothing behind it shows either.
+    /// Lists a net that wasn't seen, if it owns a suspect, and its upstream nets that only its gate reads are due next. Those of
+    /// a net that isn't listed wait for their own turn.
     fn put(
         &mut self,
         parts: &Parts,
@@ -75,10 +77,10 @@ impl Listing {
             return Ok(());
         }
         self.nets.push(net)?;
-        push_behind(&mut self.due, parts, reads, net)
+        push_upstream(&mut self.due, parts, reads, net)
     }
 
-    /// Lists a net, and all that stands behind it.
+    /// Lists a net, and what is upstream of it in its region.
     fn put_region(
         &mut self,
         parts: &Parts,

@@ -7,7 +7,7 @@ mod bridge_piece;
 mod cached_flip;
 mod cell_shares;
 mod flip_order;
-mod loaded;
+mod loaded_chain;
 mod net_piece;
 mod notes;
 mod observer;

@@ -5,7 +5,7 @@ ghost use Rattle.scan_model.specs.ScanTest.{HasSite, points_of, chain_at};
 ghost use Rattle.scan_model.specs.Masks.{touched_nets, IsLogic};
 ghost use Rattle.lane_rows.specs.Lanes.{lane};
 ghost use Rattle.lane_rows.specs.GoodRows.{pattern_of};
-ghost use Rattle.packed_sim.specs.Loaded.{IsLoaded};
+ghost use Rattle.packed_sim.specs.ChainLoads.{IsLoaded};
 ghost use Rattle.fault_effects.specs.Tables.{put_row};
 ghost use Rattle.fault_effects.specs.FaultModel.{Table, no_places, shown_in, straight_in, fails_in};
 ghost use Rattle.fault_effects.specs.Readers.{IsPinOf};

@@ -87,7 +87,7 @@ pub fn rows_of_places(
     Ok(rows)
 }
 
-/// The same of the points of a test, by its expected values.
+/// The Failing and the Passing lanes of each point of a test in a block, by the test's expected values.
 pub fn rows_of_points(
     alloc: Global,
     parts: &Parts,

@@ -21,7 +21,7 @@ pub(crate) struct SoleReader {
     pub pin: u32,
 }
 
-/// The same with one pin more.
+/// By how many pins a net is read, where one pin more reads it.
 fn read_again(reads: Reads, pin: u32) -> Reads
     ensures some { result ≡ reading.Never → ⊥ }
     ensures first { (p : ℕ) → result ≡ reading.Once p → (reads ≡ reading.Never) × (p ≡ pin) }

@@ -21,7 +21,8 @@ pub(crate) struct Member {
     pub lanes: Row,
 }
 
-/// What is kept of a flip of a region's root, the members from it down to the net that was shown last, and the nets above one that is to be shown, the highest last.
+/// The region of the net that was shown last. `flip` is kept of its root, `members` go upstream from the root to that net, and
+/// `path` has the gates from the net that is shown next downstream to its root, the root last.
 #[derive(Drop)]
 pub(crate) struct Region<F> {
     pub flip: F,
@@ -51,7 +52,7 @@ fn is_last(members: &[Member], reader: Option<SoleReader>) -> bool {
     }
 }
 
-/// Drops the members behind a net's one reader, all of them if it isn't one.
+/// Drops the members upstream of the gate that alone reads a net, or all of them if that gate is none.
 fn leave(members: &mut Vec<Member>, reader: Option<SoleReader>)
     ensures { (m : FaultModel) (b : ℕ) (root : Table) → All (λ x. ShowsAs m b root x.net x.lanes) members.old.items → All (λ x. ShowsAs m b root x.net x.lanes) members.new.items }
 {
@@ -89,7 +90,7 @@ fn climb<O: Observer>(
 }
 
 /// The lanes in which a net shows where the root does, if the last member alone reads it.
-fn lanes_behind<O: Observer>(
+fn upstream_lanes<O: Observer>(
     work: &BlockWork<'_, O>,
     region: &Region<O::Flip>,
     net: u32,
@@ -128,7 +129,8 @@ fn begin<O: Observer, L: Ledger>(
     Ok(Row::all())
 }
 
-/// Takes a net as a member: behind the last one if that alone reads the net, else as the root of a region. The answer is its lanes.
+/// Takes a net as a member: upstream of the last one if that alone reads the net, else as the root of a region. The answer is its
+/// lanes.
 fn enter<O: Observer, L: Ledger>(
     work: &BlockWork<'_, O>,
     scratch: &mut Scratch,
@@ -143,7 +145,7 @@ fn enter<O: Observer, L: Ledger>(
     ensures scratch { O.clean work.now.observer.now scratch.new }
     ensures region { IfOk result (IsEntered (O.holds work.now.observer.now) (O.model work.now.observer.now) (O.block work.now.observer.now) (length work.now.parts.now.netlist.nets) region.new net) }
 {
-    let lanes = match lanes_behind(work, region, net) {
+    let lanes = match upstream_lanes(work, region, net) {
         Some(lanes) => lanes,
         None => begin(work, scratch, region, net, steps)?,
     };

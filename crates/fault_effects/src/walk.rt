@@ -3,13 +3,13 @@ ghost use Rattle.std.specs.Prelude.{◌≡◌, ◌+◌, ◌<◌, ◌≤◌, Some
 ghost use Rattle.scan_model.specs.ScanTest.{chain_at};
 ghost use Rattle.place_sets.specs.Places.{has_place, room};
 ghost use Rattle.packed_sim.specs.Belongs.{IsScratchOf, IsScratchIn};
-ghost use Rattle.packed_sim.specs.Loaded.{IsLoaded};
+ghost use Rattle.packed_sim.specs.ChainLoads.{IsLoaded};
 ghost use Rattle.fault_effects.specs.Walks.{IsWalk, IsWalkAt, IsStepNoted};
 ghost use Rattle.fault_effects.specs.Notes.{AreNotes};
 ghost use Rattle.fault_effects.specs.ChainWork.{IsChainWork};
 
 use crate::block_work::BlockWork;
-use crate::loaded::Loaded;
+use crate::loaded_chain::LoadedChain;
 use crate::notes::Notes;
 use crate::observer::ChainObserver;
 use packed_sim::Scratch;
@@ -40,7 +40,7 @@ fn clear_marks(scratch: &mut Scratch, nets: usize)
     }
 }
 
-/// Begins a walk behind a position: the chain is loaded, and all places are noted.
+/// Begins a walk at the fault after a position: the chain is loaded, and all places are noted.
 fn begin<O: ChainObserver, L: Ledger>(
     work: &BlockWork<'_, O>,
     scratch: &mut Scratch,
@@ -59,7 +59,7 @@ fn begin<O: ChainObserver, L: Ledger>(
     work.good
         .load(work.parts, scratch, work.block, behind, kind, steps);
     clear_marks(scratch, work.parts.circuit().nets().len());
-    let loaded = Loaded {
+    let loaded = LoadedChain {
         work,
         scratch,
         chain: behind.0,
@@ -87,7 +87,7 @@ fn note_step<O: ChainObserver>(
     ensures notes { AreNotes (O.sums work.now.observer.now) (O.model work.now.observer.now).places notes.new }
     ensures step { IsStepNoted work.now.parts.now (O.model work.now.observer.now) work.now.block behind.0 behind.1 kind scratch.now notes.old.rows.items notes.new.rows.items }
 {
-    let loaded = Loaded {
+    let loaded = LoadedChain {
         work,
         scratch,
         chain: behind.0,

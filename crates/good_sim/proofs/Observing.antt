@@ -29,7 +29,7 @@ use Rattle.scan_model.specs.Loads.{FitChains}
 use Rattle.scan_model.proofs.Cells.{data_pin-in_range, cells_are_flops}
 use Rattle.scan_model.proofs.Loads.{same_len, as_many}
 use Rattle.good_sim.specs.Shifts.{shifted_rows}
-use Rattle.good_sim.specs.Shown.{forced_over, outputs_over, captured_over, captured_rows_over, shown_at, HasPoint}
+use Rattle.good_sim.specs.PointValues.{forced_over, outputs_over, captured_over, captured_rows_over, shown_at, HasPoint}
 use Rattle.good_sim.proofs.Shifting.{shifted_rows-at, shifted_rows-fit, length-shifted_rows}
 use Rattle.good_sim.proofs.Unknowns.{unknowns}
 

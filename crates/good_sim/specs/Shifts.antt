@@ -10,7 +10,7 @@ use Rattle.scan_model.specs.Faults.{loaded, unloaded}
 use Rattle.good_sim.specs.declared.chains.Direction.{Direction}
 use Rattle.good_sim.specs.declared.chains.Direction.TheVariants.{In, Out}
 
--- what becomes of a row that moves past the fault behind the cell at position c
+-- what becomes of a row that moves past the fault after the cell at position c
 abbrev pub shifted_past : Direction → CellKind → ℕ → List Tri → List Tri
 shifted_past In kind c row = load_with kind c row
 shifted_past Out kind c row = unload_with kind c row
@@ -24,7 +24,7 @@ shifted Out f h row = unloaded f h row
 abbrev pub shifted_rows : Direction → Option Fault → List (List Tri) → List (List Tri)
 shifted_rows direction f rows = map (λ e. shifted direction f e.0 e.1) (enumerate_from 0 rows)
 
--- if the fault sits in chain h, it sits behind one of its n cells
+-- if the fault sits in chain h, it sits after one of its n cells
 abbrev pub SitsWithin : Option Fault → ℕ → ℕ → Type 0
 SitsWithin None h n = Unit {0}
 SitsWithin (Some (fault.Stem m v)) h n = Unit {0}

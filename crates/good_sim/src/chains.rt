@@ -1,3 +1,4 @@
+//! The rows of chains as they are loaded or unloaded past a fault of a shift path.
 ghost use Rattle.std.specs.Prelude.{◌≡◌, ◌<◌, length, IfOk};
 ghost use Rattle.good_sim.specs.Shifts.{shifted_past, shifted, shifted_rows, SitsWithin, SitsWithinRows};
 

@@ -1,3 +1,4 @@
+//! The fault-free responses of all patterns.
 ghost use Rattle.std.specs.Prelude.{◌≡◌, IfOk};
 ghost use Rattle.scan_model.specs.Response.{expected_rows};
 

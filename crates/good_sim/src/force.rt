@@ -1,9 +1,10 @@
+//! What a fault of the logic forces, from the fault-free values of its nets.
 ghost use Rattle.std.specs.Prelude.{◌≡◌, length, IfOk, IfSome};
 ghost use Rattle.scan_model.specs.Faults as model;
 ghost use Rattle.scan_model.specs.ChainShift.{value_at};
 ghost use Rattle.scan_model.specs.ScanTest.{HasSite};
 ghost use Rattle.good_sim.specs.Effect.{forces, FitsEffect};
-ghost use Rattle.good_sim.specs.Shown.{forced_over};
+ghost use Rattle.good_sim.specs.PointValues.{forced_over};
 
 use crate::effect::Effect;
 use crate::evaluate::net_values;

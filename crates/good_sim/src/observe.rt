@@ -1,3 +1,4 @@
+//! What outputs show, what cells capture, and the values of the points.
 ghost use Rattle.std.specs.Prelude.{◌≡◌, ◌<◌, length, map, All, IfOk};
 ghost use Rattle.scan_model.specs.ChainShift.{value_at};
 ghost use Rattle.scan_model.specs.ScanTest.{IsFlop};
@@ -5,7 +6,7 @@ ghost use Rattle.scan_model.specs.Netlist.{driver_of};
 ghost use Rattle.scan_model.specs.NetValue.{seen};
 ghost use Rattle.scan_model.specs.Response.{output_pin, data_pin, is_at_output as model_is_at_output};
 ghost use Rattle.good_sim.specs.Effect.{forces, FitsEffect};
-ghost use Rattle.good_sim.specs.Shown as shown;
+ghost use Rattle.good_sim.specs.PointValues as shown;
 
 use crate::effect::Effect;
 use crate::evaluate::pin_value;

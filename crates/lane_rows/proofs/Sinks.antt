@@ -14,8 +14,8 @@ use Rattle.scan_model.specs.Walks.{IsEvaluationOrder, along, any_read}
 use Rattle.scan_model.proofs.Along.{in_front}
 use Rattle.scan_model.proofs.Orders.{filter_range_at, filter_range_all, Contains-cons}
 use Rattle.scan_model.proofs.FanSweeps.{any_found, fan_node, is_read, reads_in_range}
-use Rattle.lane_rows.specs.Wired.{LeadsUp, sinks_of}
-use Rattle.lane_rows.specs.Wired.{AreMarked, IsMadeFor, sink_key, sink_gate, place_key, place_gate}
+use Rattle.lane_rows.specs.Wiring.{LeadsUp, sinks_of}
+use Rattle.lane_rows.specs.Wiring.{AreMarked, IsMadeFor, sink_key, sink_gate, place_key, place_gate}
 use Rattle.lane_rows.proofs.Once.{places_agree}
 
 read_found : (c : Netlist) (p : ℕ → Bool) (n : ℕ) (x : Driver) → any_read c x p n ≡ true → (is_gate_driver x ≡ true) × ((r : ℕ) × Contains (reads c n) r × (p r ≡ true))

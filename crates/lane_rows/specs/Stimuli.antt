@@ -20,7 +20,7 @@ pub record Stimuli : Type 0 where
 abbrev pub captures : ScanTest → ℕ → Bool
 captures t w = nat_lt w (length t.patterns) && same_kind Capture (pattern_at t w).kind
 
--- those of a test, fault-free
+-- the stimuli of a test, fault-free
 abbrev pub stimuli_of : ScanTest → Stimuli
 stimuli_of t = record { count = length t.patterns; captures = captures t; source = source_of t None }
 

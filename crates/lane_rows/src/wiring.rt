@@ -1,9 +1,10 @@
+//! An order of evaluation of the gates, and for each net the gates that read it.
 ghost use Rattle.std.specs.Prelude.{◌≡◌, ◌≢◌, ◌||◌, ◌==◌, ℕ, ◌+◌, ◌<◌, ◌≤◌, ◌^◌, true, false, Contains, length, All, IfOk, IsTrue, slice_index};
 ghost use Rattle.std.specs.List.{list_any};
 ghost use Rattle.scan_model.specs.Netlist.{is_gate, is_gate_net, reads, pin_at};
 ghost use Rattle.scan_model.specs.Walks.{IsEvaluationOrder};
 ghost use Rattle.scan_model.specs.Marks.{is_marked};
-ghost use Rattle.lane_rows.specs.Wired.{AreMarked, IsMadeFor, IsWiredFor, sink_key, sink_gate};
+ghost use Rattle.lane_rows.specs.Wiring.{AreMarked, IsMadeFor, IsWiredFor, sink_key, sink_gate};
 
 use crate::groups::Groups;
 use scan_model::{Circuit, Driver, Net, NoMemory, Pin, PinPlace};

@@ -39,7 +39,7 @@ count_on Passing count = count.tpsf
 abbrev pub differs : ScanTest → PackedGood → Scratch → ℕ → ℕ → ℕ → Bool
 differs t g s b k j = are_opposite (good_at g b j (observed_at t k)) (now_at g s b j (observed_at t k))
 
--- the same in a pattern that captures, at a bit of the side
+-- in lane j a pattern captures, the net of point k has the opposite of its fault-free value, and the bit is of the side
 abbrev pub caught_lane : ScanTest → PackedGood → Scratch → ℕ → List PointRow → Side → ℕ → ℕ → Bool
 caught_lane t g s b rows side k j = (differs t g s b k j && lane (block_at g b).capture j) && lane (row_on side (point_row_at rows k)) j
 

@@ -1,3 +1,4 @@
+-- The specs of counting how faults match a log.
 pub mod Tally
 pub mod Hits
 pub mod Flips

@@ -28,13 +28,13 @@ pub record IsOfBits (m : FaultModel) (patterns : ℕ) (predicts : Fault → Bit 
   pub exists : (w : ℕ) → m.exists w ≡ nat_lt w patterns
   pub fails : (f : Fault) (w q : ℕ) → m.fails f w q ≡ predicts f (bit_of w q)
 
--- how many bits of block b at place q pass
+-- how many bits of block b at place q are counted
 abbrev pub lanes_at : FaultModel → (ℕ → ℕ → Bool) → ℕ → ℕ → ℕ
-lanes_at m passes b q = count_lanes (λ j. m.exists (pattern_of b j) && passes (pattern_of b j) q)
+lanes_at m is_counted b q = count_lanes (λ j. m.exists (pattern_of b j) && is_counted (pattern_of b j) q)
 
--- how many bits of block b pass
+-- how many bits of block b are counted
 abbrev pub hits_in : FaultModel → (ℕ → ℕ → Bool) → ℕ → ℕ
-hits_in m passes b = sum_by (lanes_at m passes b) (range_with_len 0 m.places)
+hits_in m is_counted b = sum_by (lanes_at m is_counted b) (range_with_len 0 m.places)
 
 -- how many bits of the side in block b the fault predicts to fail
 abbrev pub predicted_in : FaultModel → Classes → Side → Fault → ℕ → ℕ

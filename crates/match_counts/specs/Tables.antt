@@ -19,7 +19,7 @@ use Rattle.match_counts.specs.Flips.{tallied, row_on, point_row_at, list_on, cou
 abbrev pub lanes_of : List PointRow → Side → Table → ℕ → ℕ
 lanes_of rows side c q = count_lanes (λ j. c q j && lane (row_on side (point_row_at rows q)) j)
 
--- the same of all places
+-- how many lanes it has of the rows of all places
 abbrev pub sum_of_table : List PointRow → Side → Table → ℕ
 sum_of_table rows side c = sum_by (lanes_of rows side c) (range_with_len 0 (length rows))
 

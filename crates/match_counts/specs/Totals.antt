@@ -111,7 +111,7 @@ pub record AreCounted (m : FaultModel) (on : Classes) (suspects : List Suspect) 
 abbrev pub total_of : List Bit → (Bit → BitClass) → (Fault → Bit → Bool) → Fault → Total
 total_of bits classes fails f = record { tfsf = (counts_by bits classes (fails f)).tfsf; tpsf = (counts_by bits classes (fails f)).tpsf }
 
--- the same of all suspects, and how many of the bits are Failing
+-- all suspects have the counts of their faults, and how many of the bits are Failing is counted
 pub record AreTotals (bits : List Bit) (classes : Bit → BitClass) (fails : Fault → Bit → Bool) (suspects : List Suspect) (counts : TotalsSoFar) : Type 0 where
   pub failing : counts.failing ≡ count_by (λ b. is_failing (classes b)) bits
   pub whole : (i : ℕ) → i < length suspects → total_at counts.totals i ≡ total_of bits classes fails (suspect_at suspects i).fault
@@ -127,6 +127,6 @@ fault_in faults place = slice_index_or faults place (fault.Stem 0 stuck.Zero)
 abbrev pub candidates_in : List Fault → List Bit → (Bit → BitClass) → (Fault → Bit → Bool) → List ℕ → List Scored
 candidates_in faults bits classes fails places = filter is_candidate (map (λ p. scored_by bits classes fails (p, fault_in faults p)) places)
 
--- the same of a test's faults, over its bits and the logs of a die
+-- the candidates among the faults of a test at some places, over its bits and the logs of a die
 abbrev pub candidates_at : ScanTest → List LogFacts → List ℕ → List Scored
 candidates_at t logs places = candidates_in (universe t) (bits_of t) (class t logs) (predicts_fail t) places

@@ -24,8 +24,8 @@ use Rattle.lane_rows.proofs.Once.{counted_once, order_short}
 use Rattle.packed_sim.specs.declared.good.PackedGood.{PackedGood}
 use Rattle.packed_sim.specs.declared.scratch.Scratch.{Scratch}
 use Rattle.packed_sim.specs.Rows.{no_row}
-use Rattle.packed_sim.specs.Spread.{FitsScratch, IsForced, AreGood, is_behind}
-use Rattle.packed_sim.specs.Belongs.{IsBuiltFor, BelongsTo, IsScratchIn, block_at, good_at, now_at, observed_at, captures, has_own_row, gates_behind}
+use Rattle.packed_sim.specs.Propagation.{FitsScratch, IsForced, AreGood, is_downstream}
+use Rattle.packed_sim.specs.Belongs.{IsBuiltFor, BelongsTo, IsScratchIn, block_at, good_at, now_at, observed_at, captures, has_own_row, gates_downstream}
 
 module _ (t : ScanTest) (sound : IsScanTest t) (g : PackedGood) (built : IsBuiltFor t g) where
   pub fits_of : (b : ℕ) (s : Scratch) → b < length g.rows → IsScratchIn g s → FitsScratch t.netlist g.wiring.order.items (block_at g b).values s
@@ -58,8 +58,8 @@ module _ (t : ScanTest) (sound : IsScanTest t) (g : PackedGood) (built : IsBuilt
   pub observed_live : (k : ℕ) → k < length (points_of t) → built.wired.live (observed_at t k) ≡ true
   observed_live k lt = ap built.wired.live (sym (observed_is k lt)) ∙ built.wired.own k (omega (arith, observed_len, lt))
 
-  pub few_steps : (nets : List ℕ) → count_by (is_behind t.netlist nets) g.wiring.order.items ≤ length (gates_behind t nets)
-  few_steps nets = counted_once t.netlist g.wiring.order.items built.wired.wired.ordered (is_behind t.netlist nets) (λ n. list_any (λ m. in_fan_in t.netlist m n) nets)
+  pub few_steps : (nets : List ℕ) → count_by (is_downstream t.netlist nets) g.wiring.order.items ≤ length (gates_downstream t nets)
+  few_steps nets = counted_once t.netlist g.wiring.order.items built.wired.wired.ordered (is_downstream t.netlist nets) (λ n. list_any (λ m. in_fan_in t.netlist m n) nets)
       (λ n gate behind. (and_parts _ (list_any (λ m. in_fan_in t.netlist m n) nets) behind).1)
 
   module _ (σ : Stimuli) (rows : AreRowsOf t.netlist σ g.rows) where

@@ -25,7 +25,7 @@ use Rattle.lane_rows.specs.GoodRows.{pattern_of, same_kind}
 use Rattle.packed_sim.specs.declared.good.PackedGood.{PackedGood}
 use Rattle.packed_sim.specs.declared.scratch.Scratch.{Scratch}
 use Rattle.packed_sim.specs.Belongs.{BelongsTo, good_at, now_at, captures}
-use Rattle.packed_sim.specs.Loaded.{IsLoaded}
+use Rattle.packed_sim.specs.ChainLoads.{IsLoaded}
 use Rattle.packed_sim.specs.Changes.{IsChange}
 use Rattle.packed_sim.proofs.Belonging.{good_is, observed_live}
 use Rattle.packed_sim.proofs.CellPlaces.{point_of_cell}

@@ -11,10 +11,10 @@ use Rattle.scan_model.specs.Force.{force}
 use Rattle.scan_model.proofs.counting.OneSite.{force_two}
 use Rattle.lane_rows.specs.Planes.{Planes, held}
 use Rattle.place_sets.specs.Places.{has_place, room}
-use Rattle.lane_rows.specs.Wired.{sinks_of, IsWired, Covers}
+use Rattle.lane_rows.specs.Wiring.{sinks_of, IsWired, Covers}
 use Rattle.packed_sim.specs.declared.scratch.Scratch.{Scratch}
 use Rattle.packed_sim.specs.Rows.{IsClean}
-use Rattle.packed_sim.specs.Spread.{lane_now, FitsScratch, IsWithin, IsOpen, IsSettled, IsSet, AreGood, AreApart, IsFree, IsClosed, IsForced, is_behind}
+use Rattle.packed_sim.specs.Propagation.{lane_now, FitsScratch, IsWithin, IsOpen, IsSettled, IsSet, AreGood, AreApart, IsFree, IsClosed, IsForced, is_downstream}
 use Rattle.packed_sim.proofs.Spreading.{live_values, behind_closed, behind_free, set_fits, set_within, set_keeps_open, clean_open, same_node}
 
 -- ---- one net or two
@@ -58,14 +58,14 @@ module _ (c : Netlist) (order : List ℕ) (sound : IsNetlist c) (ordered : IsEva
     pub force_fits : FitsScratch c order good new
     force_fits = set_fits c order sound ordered sinks good wired net net_lt row old new fits is_set
 
-    pub force_within : IsWithin order (is_behind c (net ∷ [])) new
+    pub force_within : IsWithin order (is_downstream c (net ∷ [])) new
     force_within = set_within c order sound ordered sinks good wired net net_lt row old new fits is_set (net ∷ []) (one_in_range c net net_lt) (one_apart c net) (0, omega arith, refl)
         (λ k has. absurd (both_ways (has_place old.waiting k) (empty k) has))
 
-    pub force_closed : IsClosed c (is_behind c (net ∷ []))
+    pub force_closed : IsClosed c (is_downstream c (net ∷ []))
     force_closed = behind_closed c order sound ordered (net ∷ []) (one_in_range c net net_lt) (one_apart c net)
 
-    pub force_free : (v : Tri) → IsFree (is_behind c (net ∷ [])) (force net v)
+    pub force_free : (v : Tri) → IsFree (is_downstream c (net ∷ [])) (force net v)
     force_free v = behind_free c order sound ordered (net ∷ []) (one_in_range c net net_lt) (one_apart c net) (force net v)
         (λ n away. ap (λ (t : Bool). cond t (Some v) None) (off (eqb n net) away))
         (λ p. refl)
@@ -88,7 +88,7 @@ module _ (c : Netlist) (order : List ℕ) (sound : IsNetlist c) (ordered : IsEva
         → IsForced c order sinks good (λ j. force net (held row j)) end
     force_values end settles live source j lane covers up right =
         live_values c order sound ordered source (force net (held row j)) live (lane_now end.overlay good j) up
-        (settles live (is_behind c (net ∷ [])) source (force net (held row j)) j lane covers force_closed (force_free (held row j)) force_within (force_open live source j covers right))
+        (settles live (is_downstream c (net ∷ [])) source (force net (held row j)) j lane covers force_closed (force_free (held row j)) force_within (force_open live source j covers right))
 
   -- ---- two nets
 
@@ -100,15 +100,15 @@ module _ (c : Netlist) (order : List ℕ) (sound : IsNetlist c) (ordered : IsEva
     pub pair_fits : FitsScratch c order good new
     pair_fits = set_fits c order sound ordered sinks good wired b b_lt row middle new middle_fits second
 
-    pub pair_within : IsWithin order (is_behind c (a ∷ b ∷ [])) new
+    pub pair_within : IsWithin order (is_downstream c (a ∷ b ∷ [])) new
     pair_within = set_within c order sound ordered sinks good wired b b_lt row middle new middle_fits second (a ∷ b ∷ []) (two_in_range c a b a_lt b_lt) apart (1, omega arith, refl)
         (set_within c order sound ordered sinks good wired a a_lt row old middle fits first (a ∷ b ∷ []) (two_in_range c a b a_lt b_lt) apart (0, omega arith, refl)
         (λ k has. absurd (both_ways (has_place old.waiting k) (empty k) has)))
 
-    pub pair_closed : IsClosed c (is_behind c (a ∷ b ∷ []))
+    pub pair_closed : IsClosed c (is_downstream c (a ∷ b ∷ []))
     pair_closed = behind_closed c order sound ordered (a ∷ b ∷ []) (two_in_range c a b a_lt b_lt) apart
 
-    pub pair_free : (v : Tri) → IsFree (is_behind c (a ∷ b ∷ [])) (force_two a b v)
+    pub pair_free : (v : Tri) → IsFree (is_downstream c (a ∷ b ∷ [])) (force_two a b v)
     pair_free v = behind_free c order sound ordered (a ∷ b ∷ []) (two_in_range c a b a_lt b_lt) apart (force_two a b v)
         (λ n away. ap (λ (t : Bool). cond t (Some v) None) (same (eqb n a) (eqb n b) away))
         (λ p. refl)
@@ -136,4 +136,4 @@ module _ (c : Netlist) (order : List ℕ) (sound : IsNetlist c) (ordered : IsEva
         → IsForced c order sinks good (λ j. force_two a b (held row j)) end
     pair_values end settles live source j lane covers up right =
         live_values c order sound ordered source (force_two a b (held row j)) live (lane_now end.overlay good j) up
-        (settles live (is_behind c (a ∷ b ∷ [])) source (force_two a b (held row j)) j lane covers pair_closed (pair_free (held row j)) pair_within (pair_open live source j covers right))
+        (settles live (is_downstream c (a ∷ b ∷ [])) source (force_two a b (held row j)) j lane covers pair_closed (pair_free (held row j)) pair_within (pair_open live source j covers right))

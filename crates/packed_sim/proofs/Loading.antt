@@ -35,15 +35,15 @@ use Rattle.scan_model.proofs.counting.ChainSteps.{own_shows, captured_net, shift
 use Rattle.lane_rows.specs.Planes.{Planes, held}
 use Rattle.lane_rows.specs.GoodRows.{pattern_of, same_kind}
 use Rattle.place_sets.specs.Places.{has_place, room}
-use Rattle.lane_rows.specs.Wired.{Covers}
+use Rattle.lane_rows.specs.Wiring.{Covers}
 use Rattle.lane_rows.specs.Stimuli.{stimuli_of}
 use Rattle.lane_rows.proofs.RowsOfTest.{captures_there, captures_kind}
 use Rattle.packed_sim.specs.declared.good.PackedGood.{PackedGood}
 use Rattle.packed_sim.specs.declared.scratch.Scratch.{Scratch}
 use Rattle.packed_sim.specs.Rows.{row_now, no_row}
-use Rattle.packed_sim.specs.Spread.{lane_now, FitsScratch, IsClosed, IsFree, IsWithin, IsOpen, IsSettled, IsSet, AreApart, is_behind}
+use Rattle.packed_sim.specs.Propagation.{lane_now, FitsScratch, IsClosed, IsFree, IsWithin, IsOpen, IsSettled, IsSet, AreApart, is_downstream}
 use Rattle.packed_sim.specs.Belongs.{BelongsTo, IsScratchIn, IsScratchOf, block_at, good_at, now_at, captures}
-use Rattle.packed_sim.specs.Loaded.{IsOpenLoad, IsLoaded, passed_value}
+use Rattle.packed_sim.specs.ChainLoads.{IsOpenLoad, IsLoaded, passed_value}
 use Rattle.packed_sim.proofs.Spreading.{live_values, behind_closed, behind_free, set_fits, set_here, set_elsewhere, set_keeps_open, clean_open}
 use Rattle.packed_sim.proofs.Belonging.{fits_of, inside_of, are_good, own_rows, observed_live}
 use Rattle.packed_sim.proofs.FaultBits.{kinds, and_false}
@@ -185,7 +185,7 @@ module _ (t : ScanTest) (sound : IsScanTest t) (g : PackedGood) (belongs : Belon
         (subst (λ (k : ℕ). (j : ℕ) → j < 512 → pattern_of b j < length t.patterns → held row j ≡ passed K (load t (pattern_of b j) h) k) e row_is)
         (subst (λ (k : ℕ). IsOpenLoad t g b h k K old) e open')
 
-    -- the row that a position behind the fault is loaded with
+    -- the row that a position downstream of the fault is loaded with
     pub row_is : (i j : ℕ) (x : Tri) → (i < L → x ≡ good_at g b j (cell t h i)) → (L ≤ i → x ≡ Unknown) → j < 512 → pattern_of b j < length t.patterns → x ≡ value_at (load t (pattern_of b j) h) i
     row_is i j x within past lane_lt w_lt = elim (cases_lt i L) [
       | inl lt ↦ within lt ∙ good_load i j lt lane_lt w_lt
@@ -197,9 +197,9 @@ module _ (t : ScanTest) (sound : IsScanTest t) (g : PackedGood) (belongs : Belon
 
     -- ---- the end
 
-    module _ (c : ℕ) (start s end : Scratch) (inside : IsScratchIn g start) (open' : IsOpenLoad t g b h c K s) (within : IsWithin order (is_behind t.netlist (drop (c + 1) (chain_at t h).cells)) s)
+    module _ (c : ℕ) (start s end : Scratch) (inside : IsScratchIn g start) (open' : IsOpenLoad t g b h c K s) (within : IsWithin order (is_downstream t.netlist (drop (c + 1) (chain_at t h).cells)) s)
         (rooms : room s.waiting ≡ room start.waiting) where
-      pub above_closed : IsClosed t.netlist (is_behind t.netlist (drop (c + 1) (chain_at t h).cells))
+      pub above_closed : IsClosed t.netlist (is_downstream t.netlist (drop (c + 1) (chain_at t h).cells))
       above_closed = behind_closed t.netlist order net_sound ordered (drop (c + 1) (chain_at t h).cells) (above_lt c) (above_apart c)
 
       pub load_settled : FitsScratch t.netlist order values end → ((k : ℕ) → has_place end.waiting k ≡ false) → room end.waiting ≡ room s.waiting
@@ -213,7 +213,7 @@ module _ (t : ScanTest) (sound : IsScanTest t) (g : PackedGood) (belongs : Belon
         nets = λ live covers up n j n_lt matters lane_lt captured.
             let w = pattern_of b j in
             live_values t.netlist order net_sound ordered (source c w) nothing_forced live (lane_now end.overlay values j) up
-            (settles live (is_behind t.netlist (drop (c + 1) (chain_at t h).cells)) (source c w) nothing_forced j lane_lt covers above_closed
+            (settles live (is_downstream t.netlist (drop (c + 1) (chain_at t h).cells)) (source c w) nothing_forced j lane_lt covers above_closed
             (behind_free t.netlist order net_sound ordered (drop (c + 1) (chain_at t h).cells) (above_lt c) (above_apart c) nothing_forced (λ m away. refl) (λ p. refl))
             within (open'.still_open live j lane_lt covers up captured))
             n n_lt matters;
@@ -299,12 +299,12 @@ module _ (t : ScanTest) (sound : IsScanTest t) (g : PackedGood) (belongs : Belon
                 ])
           ]
 
--- Between two cells: those above `at` are loaded, and what waits lies behind those above c.
+-- Between two cells: those above `at` are loaded, and what waits is downstream of those above c.
 pub record IsLoading (t : ScanTest) (g : PackedGood) (b h c at : ℕ) (K : CellKind) (start s : Scratch) : Type 0 where
   pub opens : IsOpenLoad t g b h at K s
   pub above_le : c ≤ at
   pub at_lt : at < length (chain_at t h).cells
-  pub within : IsWithin g.wiring.order.items (is_behind t.netlist (drop (c + 1) (chain_at t h).cells)) s
+  pub within : IsWithin g.wiring.order.items (is_downstream t.netlist (drop (c + 1) (chain_at t h).cells)) s
   pub rooms : room s.waiting ≡ room start.waiting
 
 module _ (t : ScanTest) (sound : IsScanTest t) (g : PackedGood) (belongs : BelongsTo t g) (b : ℕ) (block_lt : b < length g.rows) (h : ℕ) (h_lt : h < length t.chains) (c : ℕ) (K : CellKind) (c_lt : c < length (chain_at t h).cells) where

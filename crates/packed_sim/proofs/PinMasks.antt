@@ -24,7 +24,7 @@ use Rattle.lane_rows.specs.GoodRows.{pattern_of}
 use Rattle.lane_rows.specs.Stimuli.{Stimuli, AreRowsOf}
 use Rattle.packed_sim.specs.declared.good.PackedGood.{PackedGood}
 use Rattle.packed_sim.specs.Belongs.{IsBuiltFor, block_at, good_at}
-use Rattle.packed_sim.specs.Ways.{read_values, senses_of}
+use Rattle.packed_sim.specs.OperandValues.{read_values, senses_of}
 
 same_map : (f : ℕ → Tri) (h : ℕ → ℕ) (k : ℕ → Tri) (a n : ℕ) → ((p : ℕ) → a ≤ p → p < a + n → k p ≡ f (h p)) → map k (range_with_len a n) ≡ map f (map h (range_with_len a n))
 same_map f h k a zero agree = refl

@@ -9,10 +9,10 @@ use Rattle.scan_model.specs.Netlist.{Netlist, IsNetlist, is_gate}
 use Rattle.scan_model.specs.NetValue.{Forced}
 use Rattle.lane_rows.specs.Planes.{Planes}
 use Rattle.place_sets.specs.Places.{has_place, room, IsNextFrom}
-use Rattle.lane_rows.specs.Wired.{IsWired, Covers}
+use Rattle.lane_rows.specs.Wiring.{IsWired, Covers}
 use Rattle.packed_sim.specs.declared.scratch.Scratch.{Scratch}
 use Rattle.packed_sim.specs.Rows.{row_now}
-use Rattle.packed_sim.specs.Spread.{FitsScratch, IsClosed, IsFree, IsWithin, IsOpen, IsSettled, IsTurn, HasMoved}
+use Rattle.packed_sim.specs.Propagation.{FitsScratch, IsClosed, IsFree, IsWithin, IsOpen, IsSettled, IsTurn, HasMoved}
 use Rattle.packed_sim.proofs.Turns.{fits_next, leaf_next, above_next, within_next, open_next, waits_at}
 
 -- What holds between two turns: nothing before a place waits any more.

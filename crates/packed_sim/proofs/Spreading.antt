@@ -18,10 +18,10 @@ use Rattle.scan_model.proofs.counting.Branches.{no_loop}
 use Rattle.lane_rows.specs.Planes.{Planes}
 use Rattle.lane_rows.specs.Planes.{held}
 use Rattle.place_sets.specs.Places.{has_place}
-use Rattle.lane_rows.specs.Wired.{sinks_of, IsWired, Covers, LeadsUp}
+use Rattle.lane_rows.specs.Wiring.{sinks_of, IsWired, Covers, LeadsUp}
 use Rattle.packed_sim.specs.declared.scratch.Scratch.{Scratch}
 use Rattle.packed_sim.specs.Rows.{IsClean, no_row, row_now}
-use Rattle.packed_sim.specs.Spread.{lane_now, waits, FitsScratch, IsClosed, IsFree, IsWithin, IsOpen, IsSet, HasMoved, AreGood, AreApart, is_behind}
+use Rattle.packed_sim.specs.Propagation.{lane_now, waits, FitsScratch, IsClosed, IsFree, IsWithin, IsOpen, IsSet, HasMoved, AreGood, AreApart, is_downstream}
 use Rattle.packed_sim.proofs.Turns.{waits_from, waits_at}
 
 -- forced nets elsewhere do not tell
@@ -63,10 +63,10 @@ module _ (c : Netlist) (order : List ℕ) (sound : IsNetlist c) (ordered : IsEva
           | inr outside ↦ outside
         ])
 
-  -- ---- the gates behind some nets
+  -- ---- the gates downstream of some nets
 
   module _ (nets : List ℕ) (in_range : (n : ℕ) → Contains nets n → n < length c.nets) (apart : AreApart c nets) where
-    -- a gate that reads one of the nets, or what lies behind them, is none of them
+    -- a gate that reads one of the nets, or what is downstream of them, is none of them
     not_among : (g r m : ℕ) → g < length c.nets → is_gate c g ≡ true → Contains (reads c g) r → Contains nets m → in_fan_in c m r ≡ true → list_any (eqb g) nets ≡ false
     not_among g r m lt gate read m_in inside = elim (cases_Bool (list_any (eqb g) nets)) [
       | inl among ↦
@@ -77,17 +77,17 @@ module _ (c : Netlist) (order : List ℕ) (sound : IsNetlist c) (ordered : IsEva
       | inr none ↦ none
     ]
 
-    pub reader_behind : (g r m : ℕ) → g < length c.nets → is_gate c g ≡ true → Contains (reads c g) r → Contains nets m → in_fan_in c m r ≡ true → is_behind c nets g ≡ true
+    pub reader_behind : (g r m : ℕ) → g < length c.nets → is_gate c g ≡ true → Contains (reads c g) r → Contains nets m → in_fan_in c m r ≡ true → is_downstream c nets g ≡ true
     reader_behind g r m lt gate read m_in inside =
         and_from (not (list_any (eqb g) nets)) (list_any (λ n. in_fan_in c n g) nets) (ap not (not_among g r m lt gate read m_in inside))
         (any_among (λ n. in_fan_in c n g) nets m m_in (in_of_read c order sound ordered m g r lt gate read inside))
 
-    pub behind_closed : IsClosed c (is_behind c nets)
+    pub behind_closed : IsClosed c (is_downstream c nets)
     behind_closed g n lt gate read behind =
         let found = any_found (λ m. in_fan_in c m n) nets (and_parts (not (list_any (eqb n) nets)) (list_any (λ m. in_fan_in c m n) nets) behind).1 in
         reader_behind g n found.0 lt gate read found.1 found.2
 
-    pub behind_free : (F : Forced) → ((n : ℕ) → list_any (eqb n) nets ≡ false → F.net n ≡ None) → ((p : ℕ) → F.pin p ≡ None) → IsFree (is_behind c nets) F
+    pub behind_free : (F : Forced) → ((n : ℕ) → list_any (eqb n) nets ≡ false → F.net n ≡ None) → ((p : ℕ) → F.pin p ≡ None) → IsFree (is_downstream c nets) F
     behind_free F free pins = record {
       nets = λ n behind. free n (off (list_any (eqb n) nets) (and_parts (not (list_any (eqb n) nets)) (list_any (λ m. in_fan_in c m n) nets) behind).0);
       pins = pins;
@@ -124,7 +124,7 @@ module _ (c : Netlist) (order : List ℕ) (sound : IsNetlist c) (ordered : IsEva
       places = λ k is. elim (sink_of k is) [ inl sink ↦ (wired.places net k net_lt sink).0 | inr was ↦ fits.places k was ];
     }
 
-    pub set_within : (nets : List ℕ) → ((n : ℕ) → Contains nets n → n < length c.nets) → AreApart c nets → Contains nets net → IsWithin order (is_behind c nets) old → IsWithin order (is_behind c nets) new
+    pub set_within : (nets : List ℕ) → ((n : ℕ) → Contains nets n → n < length c.nets) → AreApart c nets → Contains nets net → IsWithin order (is_downstream c nets) old → IsWithin order (is_downstream c nets) new
     set_within nets in_range apart among within k is = elim (sink_of k is) [
       | inl sink ↦
           let at = wired.places net k net_lt sink in

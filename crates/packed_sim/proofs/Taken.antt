@@ -1,4 +1,4 @@
--- Which nets of a bridge are forced, and the gates behind them.
+-- Which nets of a bridge are forced, and the gates downstream of them.
 use Rattle.std.proofs.Common.{◌≡◌, ℕ, ◌+◌, ◌≤◌, Bool, true, false, cond, eqb, ◌&&◌, ◌||◌, List, [], ◌∷◌, length, refl, arith}
 use Rattle.std.specs.Prelude.{filter}
 use Rattle.std.specs.List.{list_any}
@@ -11,7 +11,7 @@ use Rattle.scan_model.specs.Cone.{in_fan_in}
 use Rattle.scan_model.specs.ScanTest.{ScanTest}
 use Rattle.scan_model.specs.Force.{force, force_taken}
 use Rattle.scan_model.proofs.counting.OneSite.{force_two}
-use Rattle.packed_sim.specs.Belongs.{gates_behind}
+use Rattle.packed_sim.specs.Belongs.{gates_downstream}
 
 pub both_forced : (kind : BridgeKind) (a b : ℕ) (v : Tri) → takes kind true false ≡ true → force_two a b v ≡ force_taken kind a b v
 both_forced Dominant a b v both = refl
@@ -37,8 +37,8 @@ filter_within p q (x ∷ xs) inside = go (p x) (q x) (inside x) (filter_within p
     go false true there later = omega (arith, later)
     go false false there later = later
 
--- the gates behind the second net are behind the two
-pub second_within : (t : ScanTest) (a b : ℕ) → length (gates_behind t (b ∷ [])) ≤ length (gates_behind t (a ∷ b ∷ []))
+-- the gates downstream of the second net are downstream of the two
+pub second_within : (t : ScanTest) (a b : ℕ) → length (gates_downstream t (b ∷ [])) ≤ length (gates_downstream t (a ∷ b ∷ []))
 second_within t a b = filter_within (λ g. is_gate t.netlist g && (in_fan_in t.netlist b g || false)) (λ g. is_gate t.netlist g && (in_fan_in t.netlist a g || (in_fan_in t.netlist b g || false))) (net_numbers t.netlist)
     (λ g. wider (is_gate t.netlist g) (in_fan_in t.netlist a g) (in_fan_in t.netlist b g || false))
   where

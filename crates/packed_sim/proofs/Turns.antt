@@ -19,10 +19,10 @@ use Rattle.scan_model.proofs.counting.Branches.{no_loop}
 use Rattle.lane_rows.specs.Planes.{Planes}
 use Rattle.lane_rows.specs.Planes.{held}
 use Rattle.place_sets.specs.Places.{has_place, room}
-use Rattle.lane_rows.specs.Wired.{sinks_of, IsWired, Covers}
+use Rattle.lane_rows.specs.Wiring.{sinks_of, IsWired, Covers}
 use Rattle.packed_sim.specs.declared.scratch.Scratch.{Scratch}
 use Rattle.packed_sim.specs.Rows.{row_now, no_row}
-use Rattle.packed_sim.specs.Spread.{lane_now, waits, FitsScratch, IsClosed, IsFree, IsWithin, IsOpen, IsTurn}
+use Rattle.packed_sim.specs.Propagation.{lane_now, waits, FitsScratch, IsClosed, IsFree, IsWithin, IsOpen, IsTurn}
 
 -- ---- what the code of a turn does
 

@@ -17,11 +17,11 @@ use Rattle.lane_rows.specs.GoodRows.{AreGoodRows, no_block}
 use Rattle.lane_rows.specs.Stimuli.{HaveRows}
 pub use Rattle.lane_rows.specs.Stimuli.{captures}
 use Rattle.place_sets.specs.Places.{has_place, room}
-use Rattle.lane_rows.specs.Wired.{IsWiredFor}
+use Rattle.lane_rows.specs.Wiring.{IsWiredFor}
 use Rattle.packed_sim.specs.declared.good.PackedGood.{PackedGood}
 use Rattle.packed_sim.specs.declared.scratch.Scratch.{Scratch}
 use Rattle.packed_sim.specs.Rows.{IsClean}
-use Rattle.packed_sim.specs.Spread.{lane_now}
+use Rattle.packed_sim.specs.Propagation.{lane_now}
 
 -- the net that point k observes
 abbrev pub observed_at : ScanTest → ℕ → ℕ
@@ -45,7 +45,7 @@ pub record IsBuiltFor (t : ScanTest) (g : PackedGood) : Type 0 where
   pub net_count : length g.points ≡ length t.netlist.nets
   pub points : (n : ℕ) → n < length t.netlist.nets → slice_index_or g.points n [] ≡ points_of_net t n
 
--- The same, and the rows are the fault-free ones of the test's patterns.
+-- Wiring, points and rows are those of a test, and the rows are the fault-free ones of its patterns.
 pub record BelongsTo (t : ScanTest) (g : PackedGood) : Type 0 where
   pub rows : AreGoodRows t g.rows
   pub built : IsBuiltFor t g
@@ -71,17 +71,17 @@ pub record IsScratchIn (g : PackedGood) (s : Scratch) : Type 0 where
   pub empty : (k : ℕ) → has_place s.waiting k ≡ false
   pub room : length g.points ≤ room s.waiting
 
--- The same, and no net has a row of its own.
+-- The scratch has room, nothing waits, and no net has a row of its own.
 pub record IsScratchOf (g : PackedGood) (s : Scratch) : Type 0 where
   pub inside : IsScratchIn g s
   pub clean : IsClean s.overlay
 
 -- the gates to which one of the nets leads
-abbrev pub gates_behind : ScanTest → List ℕ → List ℕ
-gates_behind t nets = filter (λ g. is_gate t.netlist g && list_any (λ n. in_fan_in t.netlist n g) nets) (net_numbers t.netlist)
+abbrev pub gates_downstream : ScanTest → List ℕ → List ℕ
+gates_downstream t nets = filter (λ g. is_gate t.netlist g && list_any (λ n. in_fan_in t.netlist n g) nets) (net_numbers t.netlist)
 
 abbrev pub cone_gates : ScanTest → Fault → List ℕ
-cone_gates t f = gates_behind t (touched_nets t f)
+cone_gates t f = gates_downstream t (touched_nets t f)
 
 -- Bit i of the word of point k is set where pattern 64 * word + i is there and the fault predicts a fail in it at the point.
 abbrev pub AreFails : ScanTest → Fault → ℕ → List ℕ → Type 0

@@ -1,6 +1,7 @@
+-- The specs of simulation by rows.
 pub mod Rows
-pub mod Spread
+pub mod Propagation
 pub mod Belongs
-pub mod Ways
-pub mod Loaded
+pub mod OperandValues
+pub mod ChainLoads
 pub mod Changes

@@ -1,3 +1,4 @@
+//! The fails that a fault of a shift path predicts, by point and pattern.
 ghost use Rattle.std.specs.Prelude.{◌≡◌, ℕ, ◌+◌, ◌*◌, ◌/◌, ◌<◌, ◌≤◌, ◌==◌, ◌&&◌, None, Some, nat_lt, length, Contains, MatchOption};
 ghost use Rattle.std.specs.Int.{bit_at};
 ghost use Rattle.scan_model.specs.declared.fault.Fault.TheVariants as fault;
@@ -12,7 +13,7 @@ ghost use Rattle.lane_rows.specs.Lanes.{lane};
 ghost use Rattle.lane_rows.specs.Planes.{held};
 ghost use Rattle.lane_rows.specs.GoodRows.{pattern_of};
 ghost use Rattle.packed_sim.specs.Belongs.{BelongsTo, IsScratchIn, IsScratchOf, block_at, cone_gates, AreFails};
-ghost use Rattle.packed_sim.specs.Loaded.{IsLoaded};
+ghost use Rattle.packed_sim.specs.ChainLoads.{IsLoaded};
 ghost use Rattle.packed_sim.specs.Changes.{IsSameShown, IsShownChange};
 
 use crate::chains::cell_at;

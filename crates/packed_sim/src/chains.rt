@@ -1,3 +1,4 @@
+//! Chains in the patterns of a block: what a cell is loaded with, captures and unloads under a fault of the shift path.
 ghost use Rattle.std.specs.Prelude.{◌≡◌, ℕ, ◌+◌, ◌-◌, ◌<◌, ◌≤◌, Some, drop, length, if◌then◌else◌};
 ghost use Rattle.scan_model.specs.declared.fault.Fault.TheVariants as fault;
 ghost use Rattle.scan_model.specs.declared.parts.Point.TheVariants as point;
@@ -12,9 +13,9 @@ ghost use Rattle.lane_rows.specs.Lanes.{lane};
 ghost use Rattle.lane_rows.specs.Planes.{held};
 ghost use Rattle.lane_rows.specs.GoodRows.{pattern_of};
 ghost use Rattle.place_sets.specs.Places.{room};
-ghost use Rattle.packed_sim.specs.Spread.{HasMoved, IsWithin, is_behind};
-ghost use Rattle.packed_sim.specs.Belongs.{IsBuiltFor, BelongsTo, IsScratchIn, IsScratchOf, block_at, good_at, now_at, gates_behind};
-ghost use Rattle.packed_sim.specs.Loaded.{IsOpenLoad, IsLoaded, passed_value};
+ghost use Rattle.packed_sim.specs.Propagation.{HasMoved, IsWithin, is_downstream};
+ghost use Rattle.packed_sim.specs.Belongs.{IsBuiltFor, BelongsTo, IsScratchIn, IsScratchOf, block_at, good_at, now_at, gates_downstream};
+ghost use Rattle.packed_sim.specs.ChainLoads.{IsOpenLoad, IsLoaded, passed_value};
 
 use crate::good::PackedGood;
 use crate::scratch::Scratch;
@@ -101,7 +102,7 @@ impl PackedGood {
         }
     }
 
-    /// What a position behind the fault is loaded with.
+    /// What a position downstream of the fault is loaded with.
     fn passed_row(
         &self,
         parts: &Parts,
@@ -142,8 +143,8 @@ impl PackedGood {
         requires within { at < length (chain_at parts.now chain).cells }
         requires opened { IsOpenLoad parts.now self.now block chain at kind scratch.old }
         ensures opened { IsOpenLoad parts.now self.now block chain (at - 1) kind scratch.new }
-        ensures within { (pos : ℕ) → pos < at → IsWithin self.now.wiring.order.items (is_behind parts.now.netlist (drop (pos + 1) (chain_at parts.now chain).cells)) scratch.old
-            → IsWithin self.now.wiring.order.items (is_behind parts.now.netlist (drop (pos + 1) (chain_at parts.now chain).cells)) scratch.new }
+        ensures within { (pos : ℕ) → pos < at → IsWithin self.now.wiring.order.items (is_downstream parts.now.netlist (drop (pos + 1) (chain_at parts.now chain).cells)) scratch.old
+            → IsWithin self.now.wiring.order.items (is_downstream parts.now.netlist (drop (pos + 1) (chain_at parts.now chain).cells)) scratch.new }
         ensures room { room scratch.new.waiting ≡ room scratch.old.waiting }
         ensures moved { HasMoved (block_at self.now block).values scratch.old scratch.new }
     {
@@ -153,7 +154,7 @@ impl PackedGood {
         scratch.set(&self.wiring, net, row);
     }
 
-    /// Loads a chain as under a fault behind a position, in a clean scratch.
+    /// Loads a chain as under a fault after a position, in a clean scratch.
     pub fn load<L: Ledger>(
         &self,
         parts: &Parts,
@@ -169,7 +170,7 @@ impl PackedGood {
         requires chain { behind.0 < length parts.now.chains }
         requires pos { behind.1 < length (chain_at parts.now behind.0).cells }
         ensures loaded { IsLoaded parts.now self.now block behind.0 behind.1 kind scratch.new }
-        ensures steps { steps.new ≤ steps.old + length (gates_behind parts.now (drop (behind.1 + 1) (chain_at parts.now behind.0).cells)) }
+        ensures steps { steps.new ≤ steps.old + length (gates_downstream parts.now (drop (behind.1 + 1) (chain_at parts.now behind.0).cells)) }
     {
         let _ = parts.chains();
         let mut at = chain_len(parts, behind.0) - 1;
@@ -182,7 +183,7 @@ impl PackedGood {
         scratch.settle(circuit, &self.wiring, good, steps);
     }
 
-    /// From the fault behind position `behind.1` + 1 to that behind `behind.1`: one cell is loaded otherwise.
+    /// From the fault after position `behind.1` + 1 to that after `behind.1`: one cell is loaded otherwise.
     pub fn load_more<L: Ledger>(
         &self,
         parts: &Parts,

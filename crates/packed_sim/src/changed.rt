@@ -1,3 +1,4 @@
+//! The rows of a block under a change: those that the change gave to nets, else the fault-free ones.
 ghost use Rattle.std.specs.Prelude.{◌≡◌, length};
 
 use crate::overlay::Overlay;
@@ -13,7 +14,7 @@ pub(crate) struct Changed<'a> {
 
 impl NetRows for Changed<'_> {
     ghost use Rattle.std.specs.Prelude.{length};
-    ghost use Rattle.packed_sim.specs.Spread.{lane_now};
+    ghost use Rattle.packed_sim.specs.Propagation.{lane_now};
 
     ghost nets = { λ rows. length rows.good.now };
 

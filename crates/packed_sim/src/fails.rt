@@ -1,3 +1,4 @@
+//! The fails that a fault predicts in the 64 patterns of a word.
 ghost use Rattle.std.specs.Prelude.{◌≡◌, ℕ, ◌+◌, ◌*◌, ◌/◌, ◌%◌, ◌<◌, ◌≤◌, ◌==◌, ◌&&◌, false, Contains, length, slice_index};
 ghost use Rattle.std.specs.Int.{bit_at};
 ghost use Rattle.scan_model.specs.declared.circuit.PinPlace.TheVariants as place;
@@ -10,7 +11,7 @@ ghost use Rattle.scan_model.specs.ScanTest.{IsPoint, points_of, point_at};
 ghost use Rattle.scan_model.specs.Universe.{universe};
 ghost use Rattle.scan_model.specs.Masks.{place_is_point};
 ghost use Rattle.scan_model.specs.Suspect.{is_cell, is_output};
-ghost use Rattle.packed_sim.specs.Ways.{IsGateOfPin};
+ghost use Rattle.packed_sim.specs.OperandValues.{IsGateOfPin};
 ghost use Rattle.packed_sim.specs.Belongs.{BelongsTo, IsScratchIn, IsScratchOf, good_at, now_at, observed_at, captures, cone_gates, AreFails};
 
 use crate::good::PackedGood;
@@ -265,7 +266,7 @@ impl PackedGood {
         }
     }
 
-    /// The same, with the changes left in the scratch.
+    /// The fails that a fault predicts in the 64 patterns of a word; the rows that it changes stay in the scratch.
     fn write_fails<L: Ledger>(
         &self,
         parts: &Parts,

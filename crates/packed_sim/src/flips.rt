@@ -1,3 +1,4 @@
+//! Nets forced or flipped in some lanes of a block, with what follows in their cones.
 ghost use Rattle.std.specs.Prelude.{◌≡◌, ℕ, ◌+◌, ◌<◌, ◌≤◌, [], ◌∷◌, ◌&&◌, ◌↔◌, true, Contains, IsTrue, MatchOption, nat_eq, length, slice_index_or};
 ghost use Rattle.std.specs.List.{IsDistinct};
 ghost use Rattle.scan_model.specs.Values.{are_opposite, tri_xor};
@@ -11,8 +12,8 @@ ghost use Rattle.lane_rows.specs.Planes.{held};
 ghost use Rattle.lane_rows.specs.GoodRows.{pattern_of};
 ghost use Rattle.lane_rows.specs.Stimuli.{Stimuli, AreRowsOf};
 ghost use Rattle.packed_sim.specs.Rows.{no_row};
-ghost use Rattle.packed_sim.specs.Spread.{AreApart, lane_now};
-ghost use Rattle.packed_sim.specs.Belongs.{IsBuiltFor, BelongsTo, IsScratchIn, IsScratchOf, block_at, good_at, now_at, observed_at, captures, has_own_row, gates_behind};
+ghost use Rattle.packed_sim.specs.Propagation.{AreApart, lane_now};
+ghost use Rattle.packed_sim.specs.Belongs.{IsBuiltFor, BelongsTo, IsScratchIn, IsScratchOf, block_at, good_at, now_at, observed_at, captures, has_own_row, gates_downstream};
 
 use crate::good::PackedGood;
 use crate::scratch::Scratch;
@@ -73,7 +74,7 @@ impl PackedGood {
         ensures scratch { IsScratchIn self.now scratch.new }
         ensures values { (σ : Stimuli) → AreRowsOf parts.now.netlist σ self.now.rows → (k j : ℕ) → k < length (points_of parts.now) → j < 512 → σ.captures (pattern_of block j) ≡ true
             → now_at self.now scratch.new block j (observed_at parts.now k) ≡ values_of parts.now.netlist (σ.source (pattern_of block j)) (force net (held row j)) (observed_at parts.now k) }
-        ensures steps { steps.new ≤ steps.old + length (gates_behind parts.now (net ∷ [])) }
+        ensures steps { steps.new ≤ steps.old + length (gates_downstream parts.now (net ∷ [])) }
     {
         let good = self.values(block);
         scratch.force(parts.circuit(), &self.wiring, good, net, row, steps);
@@ -98,7 +99,7 @@ impl PackedGood {
         ensures scratch { IsScratchIn self.now scratch.new }
         ensures values { (k j : ℕ) → k < length (points_of parts.now) → j < 512 → captures parts.now (pattern_of block j) ≡ true
             → now_at self.now scratch.new block j (observed_at parts.now k) ≡ values_of parts.now.netlist (source_of parts.now None (pattern_of block j)) (force_two nets.0 nets.1 (held row j)) (observed_at parts.now k) }
-        ensures steps { steps.new ≤ steps.old + length (gates_behind parts.now (nets.0 ∷ nets.1 ∷ [])) }
+        ensures steps { steps.new ≤ steps.old + length (gates_downstream parts.now (nets.0 ∷ nets.1 ∷ [])) }
     {
         let good = self.values(block);
         scratch.force_pair(parts.circuit(), &self.wiring, good, nets, row, steps);
@@ -124,7 +125,7 @@ impl PackedGood {
         ensures scratch { IsScratchIn self.now scratch.new }
         ensures values { (k j : ℕ) → k < length (points_of parts.now) → j < 512 → captures parts.now (pattern_of block j) ≡ true
             → now_at self.now scratch.new block j (observed_at parts.now k) ≡ values_of parts.now.netlist (source_of parts.now None (pattern_of block j)) (force_taken bridge.2 bridge.0 bridge.1 (held row j)) (observed_at parts.now k) }
-        ensures steps { steps.new ≤ steps.old + length (gates_behind parts.now (bridge.0 ∷ bridge.1 ∷ [])) }
+        ensures steps { steps.new ≤ steps.old + length (gates_downstream parts.now (bridge.0 ∷ bridge.1 ∷ [])) }
     {
         let (a, b, kind) = bridge;
         if kind.takes(true, false) {
@@ -156,7 +157,7 @@ impl PackedGood {
             → are_opposite (good_at self.now block j (observed_at parts.now k)) (now_at self.now scratch.new block j (observed_at parts.now k)) ≡ (lane lanes j && flip_shows parts.now (pattern_of block j) net k) }
         ensures values { BelongsTo parts.now self.now → (k j : ℕ) → k < length (points_of parts.now) → j < 512 → captures parts.now (pattern_of block j) ≡ true → lane lanes j ≡ true
             → now_at self.now scratch.new block j (observed_at parts.now k) ≡ flipped parts.now (pattern_of block j) net (observed_at parts.now k) }
-        ensures steps { steps.new ≤ steps.old + length (gates_behind parts.now (net ∷ [])) }
+        ensures steps { steps.new ≤ steps.old + length (gates_downstream parts.now (net ∷ [])) }
     {
         let _ = parts.circuit();
         let row = self.row_of(parts, block, net);

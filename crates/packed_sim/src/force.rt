@@ -1,12 +1,13 @@
+//! A change put on one net or on two, spread through the gates that it reaches.
 ghost use Rattle.std.specs.Prelude.{◌≡◌, ℕ, ◌+◌, ◌<◌, ◌≤◌, [], ◌∷◌, true, false, Bool, length, count_by};
 ghost use Rattle.scan_model.specs.declared.values.Tri.{Tri};
 ghost use Rattle.scan_model.specs.NetValue.{Forced, values_of};
 ghost use Rattle.scan_model.specs.Force.{force};
 ghost use Rattle.lane_rows.specs.Planes.{held};
 ghost use Rattle.place_sets.specs.Places.{has_place, room};
-ghost use Rattle.lane_rows.specs.Wired.{IsWired};
+ghost use Rattle.lane_rows.specs.Wiring.{IsWired};
 ghost use Rattle.packed_sim.specs.Rows.{IsClean};
-ghost use Rattle.packed_sim.specs.Spread.{FitsScratch, AreApart, IsForced, is_behind};
+ghost use Rattle.packed_sim.specs.Propagation.{FitsScratch, AreApart, IsForced, is_downstream};
 ghost use Rattle.scan_model.proofs.counting.OneSite.{force_two};
 
 use crate::scratch::Scratch;
@@ -34,7 +35,7 @@ impl Scratch {
         ensures room { room self.new.waiting ≡ room self.old.waiting }
         ensures empty { (k : ℕ) → has_place self.new.waiting k ≡ false }
         ensures values { IsForced circuit.now wiring.now.order.items wiring.now.sinks good.now (λ j. force net (held row j)) self.new }
-        ensures steps { steps.new ≤ steps.old + count_by (is_behind circuit.now (net ∷ [])) wiring.now.order.items }
+        ensures steps { steps.new ≤ steps.old + count_by (is_downstream circuit.now (net ∷ [])) wiring.now.order.items }
     {
         let _ = circuit.nets();
         self.set(wiring, net, row);
@@ -62,7 +63,7 @@ impl Scratch {
         ensures room { room self.new.waiting ≡ room self.old.waiting }
         ensures empty { (k : ℕ) → has_place self.new.waiting k ≡ false }
         ensures values { IsForced circuit.now wiring.now.order.items wiring.now.sinks good.now (λ j. force_two nets.0 nets.1 (held row j)) self.new }
-        ensures steps { steps.new ≤ steps.old + count_by (is_behind circuit.now (nets.0 ∷ nets.1 ∷ [])) wiring.now.order.items }
+        ensures steps { steps.new ≤ steps.old + count_by (is_downstream circuit.now (nets.0 ∷ nets.1 ∷ [])) wiring.now.order.items }
     {
         let _ = circuit.nets();
         self.set(wiring, nets.0, row);

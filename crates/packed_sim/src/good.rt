@@ -1,3 +1,5 @@
+//! Fault-free rows, with what is read off the circuit once.
+
 use lane_rows::{GoodRows, Groups, Wiring};
 
 /// The fault-free values of all patterns, under whatever drives inputs and flops, and what is read off the circuit once:

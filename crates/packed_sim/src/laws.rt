@@ -1,3 +1,4 @@
+//! Laws of the simulation by rows, with nothing to run.
 ghost use Rattle.std.specs.Prelude.{◌≡◌, ℕ, ◌<◌, Bool, true, false, Contains, Option, length, ◌&&◌, ◌||◌};
 ghost use Rattle.std.specs.List.{list_any};
 ghost use Rattle.scan_model.specs.declared.fault.Fault.{Fault};

@@ -1,3 +1,4 @@
+//! Fault-free rows are made, and the points that observe each net are grouped.
 ghost use Rattle.std.specs.Prelude.{◌≡◌, ◌<◌, length, map, All, IfOk};
 ghost use Rattle.scan_model.specs.ScanTest.{IsPoint, points_of, point_at};
 ghost use Rattle.scan_model.specs.declared.parts.Point.TheVariants as point;

@@ -1,3 +1,4 @@
+//! The lanes in which a fault flips its site: a stuck net, the gate of a stuck pin, a net of a bridge.
 ghost use Rattle.std.specs.Prelude.{◌≡◌, ℕ, ◌+◌, ◌<◌, ◌==◌, true, false, length, slice_index_or, count_by, MatchOption};
 ghost use Rattle.scan_model.specs.declared.circuit.PinPlace.TheVariants as place;
 ghost use Rattle.scan_model.specs.declared.circuit.Driver.TheVariants as driver;
@@ -15,7 +16,7 @@ ghost use Rattle.packed_sim.specs.Rows.{no_row};
 ghost use Rattle.lane_rows.specs.GoodRows.{pattern_of};
 ghost use Rattle.lane_rows.specs.Stimuli.{Stimuli, AreRowsOf};
 ghost use Rattle.packed_sim.specs.Belongs.{IsBuiltFor, BelongsTo, captures, good_at};
-ghost use Rattle.packed_sim.specs.Ways.{read_values, senses_of, IsGateOfPin};
+ghost use Rattle.packed_sim.specs.OperandValues.{read_values, senses_of, IsGateOfPin};
 
 use crate::good::PackedGood;
 use lane_rows::{Packed, Row, flipped_lanes};

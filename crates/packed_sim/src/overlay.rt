@@ -1,3 +1,4 @@
+//! Rows that stand over those of a block, for the few nets that a change reaches.
 ghost use Rattle.std.specs.Prelude.{◌≡◌, ◌≢◌, ◌↔◌, ℕ, ◌<◌, ◌^◌, Some, None, Contains, length, nat_eq, All, IfOk, slice_set, slice_index_or};
 ghost use Rattle.std.specs.List.{IsDistinct};
 ghost use Rattle.packed_sim.specs.Rows.{IsClean, row_now, forgotten};

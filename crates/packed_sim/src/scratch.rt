@@ -1,3 +1,4 @@
+//! The room in which a change spreads, each gate evaluated once at most.
 ghost use Rattle.std.specs.Prelude.{◌≡◌, ℕ, ◌+◌, ◌<◌, ◌≤◌, ◌^◌, [], Some, true, false, length, All, IfOk, IsTrue, slice_set, slice_index, slice_index_or, ◌==◌, ◌||◌, Bool, count_by};
 ghost use Rattle.std.specs.List.{list_any};
 ghost use Rattle.scan_model.specs.declared.values.Tri.{Tri};
@@ -6,9 +7,9 @@ ghost use Rattle.scan_model.specs.Netlist.{is_gate};
 ghost use Rattle.scan_model.specs.NetValue.{Forced, net_node, values_of, nothing_forced};
 ghost use Rattle.lane_rows.specs.Planes.{held};
 ghost use Rattle.place_sets.specs.Places.{has_place, room};
-ghost use Rattle.lane_rows.specs.Wired.{IsWired, Covers};
+ghost use Rattle.lane_rows.specs.Wiring.{IsWired, Covers};
 ghost use Rattle.packed_sim.specs.Rows.{IsClean, row_now};
-ghost use Rattle.packed_sim.specs.Spread.{lane_now, FitsScratch, IsClosed, IsFree, IsWithin, IsOpen, IsSettled, IsSet, IsTurn, HasMoved};
+ghost use Rattle.packed_sim.specs.Propagation.{lane_now, FitsScratch, IsClosed, IsFree, IsWithin, IsOpen, IsSettled, IsSet, IsTurn, HasMoved};
 
 use crate::changed::Changed;
 use crate::overlay::Overlay;
@@ -96,10 +97,10 @@ impl Scratch {
         ensures room { room self.new.waiting ≡ room self.old.waiting }
         ensures leaves { (n : ℕ) → is_gate circuit.now n ≡ false → row_now self.new.overlay good.now n ≡ row_now self.old.overlay good.now n }
         ensures moved { HasMoved good.now self.old self.new }
-        ensures settled { (live behind : ℕ → Bool) (source : ℕ → Tri) (forced : Forced) (j : ℕ) → j < 512
-            → Covers circuit.now wiring.now.order.items wiring.now.sinks live → IsClosed circuit.now behind → IsFree behind forced → IsWithin wiring.now.order.items behind self.old
+        ensures settled { (live downstream : ℕ → Bool) (source : ℕ → Tri) (forced : Forced) (j : ℕ) → j < 512
+            → Covers circuit.now wiring.now.order.items wiring.now.sinks live → IsClosed circuit.now downstream → IsFree downstream forced → IsWithin wiring.now.order.items downstream self.old
             → IsOpen circuit.now wiring.now.order.items good.now source forced live j self.old → IsSettled circuit.now good.now source forced live j self.new }
-        ensures steps { (behind : ℕ → Bool) → IsClosed circuit.now behind → IsWithin wiring.now.order.items behind self.old → steps.new ≤ steps.old + count_by behind wiring.now.order.items }
+        ensures steps { (downstream : ℕ → Bool) → IsClosed circuit.now downstream → IsWithin wiring.now.order.items downstream self.old → steps.new ≤ steps.old + count_by downstream wiring.now.order.items }
     {
         let _ = circuit.nets();
         let mut from = 0;

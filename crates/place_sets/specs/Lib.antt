@@ -1,1 +1,2 @@
+-- The specs of sets of places.
 pub mod Places

@@ -4,8 +4,8 @@ pub mod SlowPins
 pub mod Transitions
 pub mod NextFrame
 pub mod ShownFails
-pub mod ShownRows
-pub mod Reaching
+pub mod FrameResponses
+pub mod FanInMarks
 pub mod TransitionPlaces
 pub mod BlockReads
 pub mod SlowPlaces

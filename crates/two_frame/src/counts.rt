@@ -9,7 +9,7 @@ ghost use Rattle.fault_effects.specs.Owners.{IsSuspectOf, AreOwners, places_of};
 ghost use Rattle.match_counts.specs.Totals.{AreTotals};
 ghost use Rattle.two_frame.specs.TwoFrame.{transitions, frame_rows, frame_class, frame_fails, frame_candidates};
 ghost use Rattle.two_frame.specs.FrameRows.{IsFrameGood, AllCapture, transition_at};
-ghost use Rattle.two_frame.specs.Reaching.{reaches};
+ghost use Rattle.two_frame.specs.FanInMarks.{reaches};
 
 use crate::fails::slow_len;
 use crate::frame_good::FrameGood;

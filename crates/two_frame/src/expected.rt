@@ -6,7 +6,7 @@ ghost use Rattle.two_frame.specs.TwoFrame.{frame_rows};
 ghost use Rattle.two_frame.specs.FrameRows.{IsFrameGood, AllCapture};
 
 use crate::frame_good::FrameGood;
-use expected_values::{ShownRows, expected_of};
+use expected_values::{ResponseRows, expected_of};
 use lane_rows::Packed;
 use scan_model::{Expected, NoMemory, Parts};
 use std::alloc::Global;
@@ -18,7 +18,7 @@ struct FramePoints<'a> {
     good: &'a FrameGood,
 }
 
-impl ShownRows for FramePoints<'_> {
+impl ResponseRows for FramePoints<'_> {
     ghost use Rattle.std.specs.Prelude.{length};
     ghost use Rattle.scan_model.specs.ScanTest.{points_of};
     ghost use Rattle.two_frame.specs.TwoFrame.{frame_rows};

@@ -7,8 +7,8 @@ ghost use Rattle.scan_model.specs.Netlist.{pin_at, is_gate};
 ghost use Rattle.scan_model.specs.ScanTest.{points_of, point_at};
 ghost use Rattle.scan_model.specs.Masks.{flip_shows_from, place_is_point};
 ghost use Rattle.lane_rows.specs.Lanes.{lane};
-ghost use Rattle.packed_sim.specs.Ways.{IsGateOfPin};
-ghost use Rattle.packed_sim.specs.Belongs.{observed_at, gates_behind, cone_gates, IsScratchIn, good_at, now_at};
+ghost use Rattle.packed_sim.specs.OperandValues.{IsGateOfPin};
+ghost use Rattle.packed_sim.specs.Belongs.{observed_at, gates_downstream, cone_gates, IsScratchIn, good_at, now_at};
 ghost use Rattle.two_frame.specs.TwoFrame.{transitions, makes_transition, net_changes, second_source};
 ghost use Rattle.two_frame.specs.FrameRows.{IsFrameGood, IsFrameScratch, AllCapture, AreFrameFails, transition_at};
 
@@ -66,7 +66,7 @@ impl FrameGood {
         ensures shows { (k : ℕ) → k < length (points_of parts.now) → slice_index_or out.new k false
             ≡ (lane lanes (pattern % 512) && flip_shows_from parts.now.netlist (second_source parts.now pattern) net (observed_at parts.now k)) }
         ensures idle { ((j : ℕ) → j < 512 → lane lanes j ≡ false) → steps.new ≡ steps.old }
-        ensures steps { steps.new ≤ steps.old + length (gates_behind parts.now (net ∷ [])) }
+        ensures steps { steps.new ≤ steps.old + length (gates_downstream parts.now (net ∷ [])) }
         ensures scratch { IsFrameScratch self.now scratch.new }
     {
         if lanes.is_empty() {
@@ -109,7 +109,7 @@ impl FrameGood {
         requires out { length out.old ≡ length (points_of parts.now) }
         ensures fails { AreFrameFails parts.now (fault.Stem stem.0 stem.1) pattern out.new }
         ensures idle { net_changes parts.now stem.1 pattern stem.0 ≡ false → steps.new ≡ steps.old }
-        ensures steps { steps.new ≤ steps.old + length (gates_behind parts.now (stem.0 ∷ [])) }
+        ensures steps { steps.new ≤ steps.old + length (gates_downstream parts.now (stem.0 ∷ [])) }
         ensures scratch { IsFrameScratch self.now scratch.new }
     {
         let _ = parts.circuit().order();
@@ -138,7 +138,7 @@ impl FrameGood {
         requires out { length out.old ≡ length (points_of parts.now) }
         ensures fails { AreFrameFails parts.now (fault.Branch branch.0 branch.1) pattern out.new }
         ensures idle { net_changes parts.now branch.1 pattern (pin_at parts.now.netlist branch.0).net ≡ false → steps.new ≡ steps.old }
-        ensures steps { steps.new ≤ steps.old + length (gates_behind parts.now (gate.0 ∷ [])) }
+        ensures steps { steps.new ≤ steps.old + length (gates_downstream parts.now (gate.0 ∷ [])) }
         ensures scratch { IsFrameScratch self.now scratch.new }
     {
         let circuit = parts.circuit();

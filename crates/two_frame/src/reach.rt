@@ -11,7 +11,7 @@ ghost use Rattle.scan_model.specs.Classes.{is_failing, class_with};
 ghost use Rattle.log_join.specs.Joining.{StandsFor, IsJoinedOf, FitsExpected};
 ghost use Rattle.two_frame.specs.TwoFrame.{frame_rows};
 ghost use Rattle.two_frame.specs.FrameRows.{IsFrameGood};
-ghost use Rattle.two_frame.specs.Reaching.{IsSeen, AreReaching, reaches};
+ghost use Rattle.two_frame.specs.FanInMarks.{IsSeen, AreReaching, reaches};
 
 use crate::frame_good::FrameGood;
 use log_join::Joined;

@@ -7,7 +7,7 @@ use Rattle.scan_model.specs.ScanTest.{ScanTest, IsScanTest}
 use Rattle.scan_model.specs.Universe.{universe, stems, branches, bridges, bridge_faults, bridges_per_pair}
 use Rattle.fault_universe.specs.KeptPairs.{no_pair}
 use Rattle.fault_universe.proofs.BridgePlaces.{pair_more, pairs_within}
-use Rattle.back_trace.specs.Marking.{MarksOn, StandAt}
+use Rattle.back_trace.specs.SuspectMarks.{MarksOn, StandAt}
 use Rattle.back_trace.proofs.Standing.{bridge_stands, bridge_count, universe_count}
 use Rattle.back_trace.proofs.marks.mark_bridges.Goals as goal
 

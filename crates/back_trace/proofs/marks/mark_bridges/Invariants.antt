@@ -1,6 +1,6 @@
 use Rattle.std.proofs.Common.{◌+◌, ◌*◌}
 use Rattle.scan_model.specs.Universe.{bridges_per_pair}
-use Rattle.back_trace.specs.Marking.{MarksOn}
+use Rattle.back_trace.specs.SuspectMarks.{MarksOn}
 use Rattle.back_trace.proofs.marks.mark_bridges.Given as goal
 
 abbrev pub invariant-loop-i : goal.invariant-loop-i

@@ -3,7 +3,7 @@ use Rattle.std.proofs.Math.Seq.{take-length}
 use Rattle.scan_model.specs.declared.parts.Chain.{Chain}
 use Rattle.scan_model.specs.ScanTest.{cells_of}
 use Rattle.scan_model.specs.Universe.{universe}
-use Rattle.back_trace.specs.Marking.{MarksOn}
+use Rattle.back_trace.specs.SuspectMarks.{MarksOn}
 use Rattle.back_trace.proofs.Standing.{cell_stands_at, chain_more, chain_inside, universe_count, cell_count}
 use Rattle.back_trace.proofs.marks.mark_cells.Goals as goal
 

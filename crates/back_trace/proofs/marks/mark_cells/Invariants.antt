@@ -1,6 +1,6 @@
 use Rattle.std.proofs.Common.{◌≡◌, ◌+◌, ◌*◌, length, take}
 use Rattle.scan_model.specs.ScanTest.{cells_of}
-use Rattle.back_trace.specs.Marking.{MarksOn}
+use Rattle.back_trace.specs.SuspectMarks.{MarksOn}
 use Rattle.back_trace.proofs.marks.mark_cells.Given as goal
 
 abbrev pub invariant-loop-h : goal.invariant-loop-h

@@ -4,7 +4,7 @@ use Rattle.scan_model.specs.declared.fault.Profile.{Profile}
 use Rattle.scan_model.specs.declared.parts.Pair.{Pair}
 use Rattle.scan_model.specs.Universe.{bridge_faults, bridges_per_pair}
 use Rattle.fault_universe.proofs.BridgePlaces.{faults_counted}
-use Rattle.back_trace.specs.Marking.{MarksOn, StandAt}
+use Rattle.back_trace.specs.SuspectMarks.{MarksOn, StandAt}
 use Rattle.back_trace.proofs.Unreached.{bridge_stays}
 use Rattle.back_trace.proofs.marks.mark_pair.Goals as goal
 

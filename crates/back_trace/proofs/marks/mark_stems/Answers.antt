@@ -1,7 +1,7 @@
 use Rattle.std.proofs.Common.{◌≡◌, ◌∙◌, ℕ, ◌+◌, ◌*◌, length, ap, subst, arith}
 use Rattle.scan_model.specs.Netlist.{Netlist}
 use Rattle.scan_model.specs.Universe.{stems}
-use Rattle.back_trace.specs.Marking.{MarksOn}
+use Rattle.back_trace.specs.SuspectMarks.{MarksOn}
 use Rattle.back_trace.proofs.Standing.{stem_stands, stem_count}
 use Rattle.back_trace.proofs.marks.mark_stems.Goals as goal
 

@@ -1,5 +1,5 @@
 use Rattle.std.proofs.Common.{◌*◌}
-use Rattle.back_trace.specs.Marking.{MarksOn}
+use Rattle.back_trace.specs.SuspectMarks.{MarksOn}
 use Rattle.back_trace.proofs.marks.mark_stems.Given as goal
 
 abbrev pub invariant-loop-net : goal.invariant-loop-net

@@ -1,5 +1,5 @@
 use Rattle.std.proofs.Common.{◌∙◌, length, ap}
-use Rattle.back_trace.proofs.Marking.{marks_begin}
+use Rattle.back_trace.proofs.SuspectMarks.{marks_begin}
 use Rattle.scan_model.specs.Universe.{universe}
 use Rattle.back_trace.proofs.tracing.mark_block.Goals as goal
 

@@ -10,7 +10,7 @@ use Rattle.scan_model.specs.MatchCounts.{counts_of}
 use Rattle.scan_model.specs.Suspect.{suspects}
 use Rattle.log_join.proofs.Fitting.{fits_expected}
 use Rattle.lane_rows.specs.GoodRows.{AreBlockRows, no_block}
-use Rattle.back_trace.proofs.Marking.{block_more, marked_none, blank_marks, marks_are_suspects, outside_counts_none, if_ok}
+use Rattle.back_trace.proofs.SuspectMarks.{block_more, marked_none, blank_marks, marks_are_suspects, outside_counts_none, if_ok}
 use Rattle.back_trace.proofs.tracing.suspects_over.Goals as goal
 
 pub fail_rows-requires-clause-expected : goal.fail_rows-requires-clause-expected

@@ -5,7 +5,7 @@ use Rattle.std.proofs.lemmas.List.{get_or_read}
 use Rattle.scan_model.proofs.Orders.{filter_range_more}
 use Rattle.chain_compactor.specs.declared.compactor.Channel.{Channel}
 use Rattle.chain_compactor.specs.Channels.{no_channel, channel_at}
-use Rattle.chain_compactor.specs.Seeing.{has_chain}
+use Rattle.chain_compactor.specs.ObservationPoints.{has_chain}
 use Rattle.chain_compactor.proofs.tables.channels_of.Goals as goal
 
 pub loop-x-preserved : goal.loop-x-preserved

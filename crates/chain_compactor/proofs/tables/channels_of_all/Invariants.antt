@@ -1,7 +1,7 @@
 use Rattle.std.proofs.Common.{◌≡◌, map}
 use Rattle.std.specs.List.{range_with_len}
 use Rattle.fail_logs.specs.Frames.{rows_view}
-use Rattle.chain_compactor.specs.Seeing.{channels_of}
+use Rattle.chain_compactor.specs.ObservationPoints.{channels_of}
 use Rattle.chain_compactor.proofs.tables.channels_of_all.Given as goal
 
 abbrev pub invariant-loop-chain : goal.invariant-loop-chain

@@ -3,7 +3,7 @@ use Rattle.std.specs.List.{range_with_len}
 use Rattle.std.proofs.lemmas.List.{map_push}
 use Rattle.std.proofs.lemmas.List.FromFn.{map-range_with_len_more}
 use Rattle.fail_logs.specs.Frames.{rows_view}
-use Rattle.chain_compactor.specs.Seeing.{nets_of}
+use Rattle.chain_compactor.specs.ObservationPoints.{nets_of}
 use Rattle.chain_compactor.proofs.tables.nets_of_all.Goals as goal
 
 pub loop-chain-preserved : goal.loop-chain-preserved

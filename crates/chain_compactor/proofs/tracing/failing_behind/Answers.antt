@@ -8,7 +8,7 @@ use Rattle.scan_model.proofs.Points.{points_are_points}
 use Rattle.lane_rows.specs.Lanes.{lane}
 use Rattle.fault_effects.specs.declared.point_row.PointRow.{PointRow}
 use Rattle.fault_effects.specs.PointRows.{no_point_row}
-use Rattle.chain_compactor.specs.Seeing.{seeing}
+use Rattle.chain_compactor.specs.ObservationPoints.{seeing}
 use Rattle.chain_compactor.proofs.SeenBehind.{seen_are_places}
 use Rattle.chain_compactor.proofs.tracing.failing_behind.Goals as goal
 

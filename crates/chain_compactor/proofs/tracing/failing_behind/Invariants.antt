@@ -2,7 +2,7 @@ use Rattle.std.proofs.Common.{◌≡◌, ℕ, ◌-◌, ◌<◌, ◌≤◌, true,
 use Rattle.scan_model.specs.ScanTest.{point_at}
 use Rattle.lane_rows.specs.Lanes.{lane}
 use Rattle.fault_effects.specs.PointRows.{no_point_row}
-use Rattle.chain_compactor.specs.Seeing.{seeing}
+use Rattle.chain_compactor.specs.ObservationPoints.{seeing}
 use Rattle.chain_compactor.proofs.tracing.failing_behind.Given as goal
 
 abbrev pub invariant-loop-place : goal.invariant-loop-place

@@ -2,7 +2,7 @@ use Rattle.std.proofs.Common.{◌≡◌, length, sym, ap, subst, ◌∙◌, arit
 use Rattle.std.proofs.lemmas.Bool.{and_from, and_parts}
 use Rattle.scan_model.specs.ScanTest.{points_of}
 use Rattle.lane_rows.specs.Lanes.{lane}
-use Rattle.chain_compactor.specs.Tracing.{AddsBehind}
+use Rattle.chain_compactor.specs.TracedBits.{AddsBehind}
 use Rattle.chain_compactor.proofs.tracing.push_block.Goals as goal
 
 pub failing_behind-failing-requires-clause-point : goal.failing_behind-failing-requires-clause-point

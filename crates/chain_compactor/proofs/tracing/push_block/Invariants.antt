@@ -1,4 +1,4 @@
-use Rattle.chain_compactor.specs.Tracing.{AddsBehind}
+use Rattle.chain_compactor.specs.TracedBits.{AddsBehind}
 use Rattle.chain_compactor.proofs.tracing.push_block.Given as goal
 
 abbrev pub invariant-loop-point : goal.invariant-loop-point

@@ -1,4 +1,4 @@
-use Rattle.chain_compactor.specs.Tracing.{AddsLanes}
+use Rattle.chain_compactor.specs.TracedBits.{AddsLanes}
 use Rattle.chain_compactor.proofs.tracing.push_lanes.Given as goal
 
 abbrev pub invariant-loop-lane : goal.invariant-loop-lane

@@ -5,7 +5,7 @@ use Rattle.scan_model.specs.ScanTest.{points_of}
 use Rattle.scan_model.specs.Suspect.{suspects}
 use Rattle.scan_model.specs.MatchCounts.{counts_of}
 use Rattle.match_counts.proofs.BlockSums.{suspects_few}
-use Rattle.chain_compactor.specs.Tracing.{AreBits, ListsBehind, complete_log}
+use Rattle.chain_compactor.specs.TracedBits.{AreBits, ListsBehind, complete_log}
 use Rattle.chain_compactor.proofs.Explained.{complete_fits, none_explained}
 use Rattle.chain_compactor.proofs.tracing.traced_places.Goals as goal
 

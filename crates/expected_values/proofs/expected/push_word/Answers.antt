@@ -5,8 +5,8 @@ use Rattle.scan_model.specs.ChainShift.{value_at}
 use Rattle.lane_rows.specs.Planes.{Planes, held}
 use Rattle.lane_rows.specs.Sources.{no_planes}
 use Rattle.lane_rows.specs.GoodRows.{pattern_of}
-use Rattle.expected_values.specs.ShownWords.{AreShown}
-use Rattle.expected_values.proofs.ShownWords.{one_more, value_in, word_shows}
+use Rattle.expected_values.specs.ResponseWords.{AreResponseWords}
+use Rattle.expected_values.proofs.ResponseWords.{one_more, value_in, word_shows}
 use Rattle.expected_values.proofs.expected.push_word.Goals as goal
 
 pub loop-row-preserved : goal.loop-row-preserved
@@ -35,4 +35,4 @@ pub returns : goal.returns
 returns c = λ table block before.
     let n = length c.args.rows.now in
     let at_end : c.loop-row.row-index ≡ n = omega (arith, c.loop-row-test.false, c.loop-row.auto.row-index-end) in
-    subst (λ (k : ℕ). AreShown table n (c.args.word * n + k) c.loop-row.words) at_end (c.loop-row.invariant table block before)
+    subst (λ (k : ℕ). AreResponseWords table n (c.args.word * n + k) c.loop-row.words) at_end (c.loop-row.invariant table block before)

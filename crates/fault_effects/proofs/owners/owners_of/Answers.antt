@@ -1,6 +1,6 @@
 use Rattle.std.proofs.Common.{◌≡◌, ℕ, ◌+◌, List, length, ap, ◌∙◌, arith}
 use Rattle.scan_model.specs.Netlist.{Netlist}
-use Rattle.lane_rows.specs.Grouped.{members}
+use Rattle.lane_rows.specs.Groups.{members}
 use Rattle.fault_effects.proofs.OwnerGroups.{grouped}
 use Rattle.fault_effects.proofs.owners.owners_of.Goals as goal
 

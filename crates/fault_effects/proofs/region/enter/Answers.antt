@@ -11,10 +11,10 @@ returns-clause-region g c =
     let o = c.args.work.now.observer.now in
     let m = g.O.Observer.model o in
     let b = g.O.Observer.block o in
-    let region = c.match-lanes_behind.region in
-    let lanes = c.match-lanes_behind.lanes in
+    let region = c.match-upstream_lanes.region in
+    let lanes = c.match-upstream_lanes.lanes in
     let member : Member = record { net = c.args.net; lanes = lanes } in
-    let told : IsEntered (g.O.Observer.holds o) m b (length c.args.work.now.parts.now.netlist.nets) region c.args.net lanes = elim c.match-lanes_behind.branch [
+    let told : IsEntered (g.O.Observer.holds o) m b (length c.args.work.now.parts.now.netlist.nets) region c.args.net lanes = elim c.match-upstream_lanes.branch [
       | in-Some w ↦ rw (w.region-is, w.lanes-is) w.in-Some.ensures
       | in-None+in_ok-lanes-in-None w ↦ rw (w.region-is, w.lanes-is) w.in_ok-lanes-in-None.ensures.region
     ] in

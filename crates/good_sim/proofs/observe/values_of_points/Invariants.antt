@@ -1,5 +1,5 @@
 use Rattle.std.proofs.Common.{◌≡◌, map, take}
-use Rattle.good_sim.specs.Shown.{shown_at}
+use Rattle.good_sim.specs.PointValues.{shown_at}
 use Rattle.good_sim.proofs.observe.values_of_points.Given as goal
 
 abbrev pub invariant-loop-point : goal.invariant-loop-point

@@ -1,7 +1,7 @@
 use Rattle.std.proofs.Common.{ap, length, ◌+◌, ◌∙◌, arith}
 use Rattle.std.proofs.lemmas.List.{length_push}
 use Rattle.scan_model.specs.Marks.{is_marked}
-use Rattle.lane_rows.specs.Wired.{sink_key}
+use Rattle.lane_rows.specs.Wiring.{sink_key}
 use Rattle.lane_rows.proofs.Written.{one_more, one_below}
 use Rattle.lane_rows.proofs.wiring.keys_of.Goals as goal
 

@@ -1,7 +1,7 @@
 use Rattle.std.proofs.Common.{◌≡◌, ℕ, ◌+◌, ◌<◌, length, get_or}
 use Rattle.std.specs.Prelude.{All}
 use Rattle.scan_model.specs.Marks.{is_marked}
-use Rattle.lane_rows.specs.Wired.{sink_key}
+use Rattle.lane_rows.specs.Wiring.{sink_key}
 use Rattle.lane_rows.proofs.wiring.keys_of.Given as goal
 
 abbrev pub invariant-loop-pin : goal.invariant-loop-pin

@@ -1,5 +1,5 @@
 use Rattle.std.proofs.Common.{◌≡◌, ℕ, ◌<◌, length, get_or}
-use Rattle.lane_rows.specs.Wired.{sink_gate}
+use Rattle.lane_rows.specs.Wiring.{sink_gate}
 use Rattle.lane_rows.proofs.wiring.pin_places.Given as goal
 
 abbrev pub invariant-loop-pin : goal.invariant-loop-pin

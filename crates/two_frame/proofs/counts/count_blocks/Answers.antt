@@ -16,7 +16,7 @@ use Rattle.match_counts.proofs.BlockSums.{totals_are}
 use Rattle.two_frame.specs.TwoFrame.{transitions, frame_class, frame_fails}
 use Rattle.two_frame.specs.FrameModel.{frame_model}
 use Rattle.two_frame.proofs.FrameFlips.{frame_model-logic}
-use Rattle.two_frame.proofs.ShownRows.{fits_frames}
+use Rattle.two_frame.proofs.FrameResponses.{fits_frames}
 use Rattle.two_frame.proofs.FrameSuspects.{suspects_among, frame_sides, transition_owner}
 use Rattle.two_frame.proofs.counts.count_blocks.Goals as goal
 

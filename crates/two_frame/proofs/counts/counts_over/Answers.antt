@@ -8,9 +8,9 @@ use Rattle.fault_effects.specs.Owners.{IsSuspectOf, places_of}
 use Rattle.match_counts.specs.Totals.{AreTotals, candidates_in}
 use Rattle.two_frame.specs.TwoFrame.{transitions, frame_class, frame_fails, frame_candidates}
 use Rattle.two_frame.specs.FrameRows.{transition_at}
-use Rattle.two_frame.specs.Reaching.{AreReaching, reaches}
+use Rattle.two_frame.specs.FanInMarks.{AreReaching, reaches}
 use Rattle.two_frame.proofs.FrameSuspects.{suspects_in}
-use Rattle.two_frame.proofs.Reaching.{reaching_candidates}
+use Rattle.two_frame.proofs.FanInMarks.{reaching_candidates}
 use Rattle.two_frame.proofs.counts.counts_over.Goals as goal
 
 pub owners_of-requires-clause-few : goal.owners_of-requires-clause-few

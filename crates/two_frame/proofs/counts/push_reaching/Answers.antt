@@ -3,7 +3,7 @@ use Rattle.std.proofs.lemmas.List.{map-append}
 use Rattle.fault_effects.specs.declared.suspect.Suspect.{Suspect}
 use Rattle.fault_effects.specs.Owners.{places_of}
 use Rattle.two_frame.specs.FrameRows.{transition_at}
-use Rattle.two_frame.specs.Reaching.{reaches}
+use Rattle.two_frame.specs.FanInMarks.{reaches}
 use Rattle.two_frame.proofs.TransitionPlaces.{transition_is}
 use Rattle.two_frame.proofs.counts.push_reaching.Goals as goal
 

@@ -4,7 +4,7 @@ use Rattle.std.specs.List.{range_with_len}
 use Rattle.scan_model.proofs.Orders.{filter_range_more}
 use Rattle.two_frame.specs.TwoFrame.{transitions}
 use Rattle.two_frame.specs.FrameRows.{transition_at}
-use Rattle.two_frame.specs.Reaching.{reaches}
+use Rattle.two_frame.specs.FanInMarks.{reaches}
 use Rattle.two_frame.proofs.counts.reaching_suspects.Goals as goal
 
 pub loop-place-preserved : goal.loop-place-preserved

@@ -4,7 +4,7 @@ use Rattle.std.specs.List.{range_with_len}
 use Rattle.fault_effects.specs.Owners.{IsSuspectOf, places_of}
 use Rattle.two_frame.specs.TwoFrame.{transitions}
 use Rattle.two_frame.specs.FrameRows.{transition_at}
-use Rattle.two_frame.specs.Reaching.{reaches}
+use Rattle.two_frame.specs.FanInMarks.{reaches}
 use Rattle.two_frame.proofs.counts.reaching_suspects.Given as goal
 
 abbrev pub invariant-loop-place : goal.invariant-loop-place

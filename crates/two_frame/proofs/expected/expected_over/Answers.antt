@@ -3,7 +3,7 @@ use Rattle.std.proofs.lemmas.Result.{IfOk-weaker}
 use Rattle.log_join.specs.Joining.{JoinedBits, IsJoinedOf, FitsExpected}
 use Rattle.scan_model.specs.ScanTest.{points_of}
 use Rattle.two_frame.specs.TwoFrame.{frame_rows}
-use Rattle.two_frame.proofs.ShownRows.{length-frame_rows, frame_points, fits_frames}
+use Rattle.two_frame.proofs.FrameResponses.{length-frame_rows, frame_points, fits_frames}
 use Rattle.two_frame.proofs.expected.expected_over.Goals as goal
 
 pub expected_of-requires-clause-patterns : goal.expected_of-requires-clause-patterns

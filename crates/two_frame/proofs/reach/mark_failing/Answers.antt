@@ -1,7 +1,7 @@
 use Rattle.std.proofs.Common.{◌≡◌, ◌∙◌, ℕ, ◌+◌, ◌*◌, ◌/◌, ◌%◌, subst, inl, inr, arith}
 use Rattle.std.proofs.lemmas.Bool.{cases_eq}
-use Rattle.two_frame.specs.Reaching.{IsSeen}
-use Rattle.two_frame.proofs.Reaching.{still_seen}
+use Rattle.two_frame.specs.FanInMarks.{IsSeen}
+use Rattle.two_frame.proofs.FanInMarks.{still_seen}
 use Rattle.two_frame.proofs.reach.mark_failing.Goals as goal
 
 pub loop-word-preserved : goal.loop-word-preserved

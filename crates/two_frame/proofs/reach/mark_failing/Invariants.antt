@@ -1,7 +1,7 @@
 use Rattle.std.proofs.Common.{◌≡◌, ℕ, ◌/◌, ◌<◌, List, length}
 use Rattle.scan_model.specs.declared.logs.LogFacts.{LogFacts}
 use Rattle.log_join.specs.Joining.{StandsFor}
-use Rattle.two_frame.specs.Reaching.{IsSeen}
+use Rattle.two_frame.specs.FanInMarks.{IsSeen}
 use Rattle.two_frame.proofs.reach.mark_failing.Given as goal
 
 abbrev pub invariant-loop-word : goal.invariant-loop-word

@@ -1,4 +1,4 @@
-use Rattle.two_frame.proofs.Reaching.{kept_mark}
+use Rattle.two_frame.proofs.FanInMarks.{kept_mark}
 use Rattle.two_frame.proofs.reach.mark_point.Goals as goal
 
 pub returns-clause-kept : goal.returns-clause-kept

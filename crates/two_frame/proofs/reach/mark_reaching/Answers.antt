@@ -12,8 +12,8 @@ use Rattle.scan_model.proofs.counting.Shown.{point_at-IsPoint, observed_net-in_r
 use Rattle.packed_sim.specs.Belongs.{observed_at}
 use Rattle.back_trace.proofs.Ranges.{any_at}
 use Rattle.two_frame.proofs.BlockReads.{net_read}
-use Rattle.two_frame.proofs.ShownRows.{fits_frames}
-use Rattle.two_frame.proofs.Reaching.{class_is}
+use Rattle.two_frame.proofs.FrameResponses.{fits_frames}
+use Rattle.two_frame.proofs.FanInMarks.{class_is}
 use Rattle.two_frame.proofs.reach.mark_reaching.Goals as goal
 
 pub mark_failing-requires-clause-expected : goal.mark_failing-requires-clause-expected

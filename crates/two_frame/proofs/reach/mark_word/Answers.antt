@@ -3,7 +3,7 @@ use Rattle.std.proofs.lemmas.Bool.{cases_eq}
 use Rattle.scan_model.specs.Marks.{is_marked}
 use Rattle.scan_model.specs.Coverage.{bit_of}
 use Rattle.scan_model.specs.Classes.{is_failing, class_with}
-use Rattle.two_frame.proofs.Reaching.{still_seen}
+use Rattle.two_frame.proofs.FanInMarks.{still_seen}
 use Rattle.two_frame.proofs.reach.mark_word.Goals as goal
 
 pub mark_point-requires : goal.mark_point-requires

@@ -2,7 +2,7 @@ use Rattle.std.proofs.Common.{◌≡◌, ℕ, ◌+◌, ◌*◌, ◌<◌, true, L
 use Rattle.scan_model.specs.declared.logs.LogFacts.{LogFacts}
 use Rattle.scan_model.specs.Marks.{is_marked}
 use Rattle.log_join.specs.Joining.{StandsFor}
-use Rattle.two_frame.specs.Reaching.{IsSeen}
+use Rattle.two_frame.specs.FanInMarks.{IsSeen}
 use Rattle.two_frame.proofs.reach.mark_word.Given as goal
 
 abbrev pub invariant-loop-point : goal.invariant-loop-point

@@ -8,7 +8,7 @@ use Rattle.place_sets.specs.Places.{has_place}
 use Rattle.packed_sim.specs.Belongs.{observed_at, points_of_net}
 use Rattle.packed_sim.proofs.Changes.{point_stands}
 use Rattle.fault_effects.proofs.NetPoints.{filtered, of_net_points}
-use Rattle.chain_compactor.specs.Seeing.{seeing}
+use Rattle.chain_compactor.specs.ObservationPoints.{seeing}
 use Rattle.chain_compactor.proofs.Members.{members_are_points}
 use Rattle.chain_compactor.proofs.SeenBehind.{seen}
 use Rattle.chain_compactor.proofs.counts.CompactCounts.due_places.Goals as goal

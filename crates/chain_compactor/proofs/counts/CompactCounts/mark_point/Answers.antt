@@ -4,7 +4,7 @@ use Rattle.std.proofs.lemmas.List.{get_or_default}
 use Rattle.std.proofs.lemmas.Option.{slice_get_within, get_or_from_slice_get, slice_get-get_or}
 use Rattle.scan_model.specs.ScanTest.{point_at}
 use Rattle.place_sets.specs.Places.{has_place}
-use Rattle.chain_compactor.specs.Seeing.{seeing}
+use Rattle.chain_compactor.specs.ObservationPoints.{seeing}
 use Rattle.chain_compactor.proofs.counts.CompactCounts.mark_point.Goals as goal
 
 pub insert-requires : goal.insert-requires

@@ -1,7 +1,7 @@
 use Rattle.std.proofs.Common.{◌≡◌, ℕ, ◌-◌, ◌<◌, ◌≤◌, true, length, get_or}
 use Rattle.scan_model.specs.ScanTest.{point_at}
 use Rattle.place_sets.specs.Places.{has_place, room}
-use Rattle.chain_compactor.specs.Seeing.{seeing}
+use Rattle.chain_compactor.specs.ObservationPoints.{seeing}
 use Rattle.chain_compactor.proofs.counts.CompactCounts.mark_point.Given as goal
 
 abbrev pub invariant-loop-place : goal.invariant-loop-place

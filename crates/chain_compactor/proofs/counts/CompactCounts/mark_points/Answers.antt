@@ -2,7 +2,7 @@ use Rattle.std.proofs.Common.{ℕ, subst, ◌∙◌, arith, below_more}
 use Rattle.std.specs.Prelude.{Contains}
 use Rattle.std.proofs.lemmas.List.{get_or_default}
 use Rattle.scan_model.specs.ScanTest.{point_at}
-use Rattle.chain_compactor.specs.Seeing.{seeing}
+use Rattle.chain_compactor.specs.ObservationPoints.{seeing}
 use Rattle.chain_compactor.proofs.counts.CompactCounts.mark_points.Goals as goal
 
 pub loop-point-preserved : goal.loop-point-preserved

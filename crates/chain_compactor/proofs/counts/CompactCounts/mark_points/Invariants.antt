@@ -2,7 +2,7 @@ use Rattle.std.proofs.Common.{◌≡◌, ℕ, ◌<◌, true, length, get_or}
 use Rattle.std.specs.Prelude.{Contains}
 use Rattle.scan_model.specs.ScanTest.{point_at}
 use Rattle.place_sets.specs.Places.{has_place, room}
-use Rattle.chain_compactor.specs.Seeing.{seeing}
+use Rattle.chain_compactor.specs.ObservationPoints.{seeing}
 use Rattle.chain_compactor.proofs.counts.CompactCounts.mark_points.Given as goal
 
 abbrev pub invariant-loop-point : goal.invariant-loop-point

@@ -1,7 +1,7 @@
 use Rattle.std.proofs.Common.{List, ◌≤◌, ◌+◌, [], ◌∷◌, subst, arith}
 use Rattle.std.specs.Prelude.{count_by}
 use Rattle.scan_model.specs.Netlist.{Netlist}
-use Rattle.packed_sim.specs.Spread.{IsForced, is_behind}
+use Rattle.packed_sim.specs.Propagation.{IsForced, is_downstream}
 use Rattle.scan_model.specs.Force.{force}
 use Rattle.lane_rows.specs.Planes.{Planes, held}
 use Rattle.packed_sim.proofs.Belonging.{fits_of, inside_of, forced_at, few_steps}
@@ -37,5 +37,5 @@ returns-clause-values g c σ rows =
 pub returns-clause-steps : goal.returns-clause-steps
 returns-clause-steps g c =
     let order = c.args.self.now.wiring.order.items in
-    let few : c.force.new.steps ≤ c.args.steps.now + count_by (is_behind c.args.parts.now.netlist (c.args.net ∷ [])) order = subst (λ (n : Netlist). c.force.new.steps ≤ c.args.steps.now + count_by (is_behind n (c.args.net ∷ [])) order) c.circuit.ensures.value c.force.ensures.steps in
+    let few : c.force.new.steps ≤ c.args.steps.now + count_by (is_downstream c.args.parts.now.netlist (c.args.net ∷ [])) order = subst (λ (n : Netlist). c.force.new.steps ≤ c.args.steps.now + count_by (is_downstream n (c.args.net ∷ [])) order) c.circuit.ensures.value c.force.ensures.steps in
     omega (arith, few, few_steps c.args.parts.now c.circuit.ensures.fits c.args.self.now c.requires.built (c.args.net ∷ []))

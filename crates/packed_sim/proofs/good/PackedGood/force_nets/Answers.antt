@@ -2,7 +2,7 @@ use Rattle.std.proofs.Common.{List, ◌≤◌, ◌+◌, [], ◌∷◌, subst, sy
 use Rattle.std.specs.Prelude.{count_by}
 use Rattle.scan_model.specs.Netlist.{Netlist}
 use Rattle.lane_rows.specs.Stimuli.{stimuli_of}
-use Rattle.packed_sim.specs.Spread.{AreApart, IsForced, is_behind}
+use Rattle.packed_sim.specs.Propagation.{AreApart, IsForced, is_downstream}
 use Rattle.scan_model.proofs.counting.OneSite.{force_two}
 use Rattle.lane_rows.specs.Planes.{Planes, held}
 use Rattle.packed_sim.proofs.Belonging.{fits_of, inside_of, own_rows, forced_at, few_steps}
@@ -44,5 +44,5 @@ returns-clause-values g c =
 pub returns-clause-steps : goal.returns-clause-steps
 returns-clause-steps g c =
     let order = c.args.self.now.wiring.order.items in
-    let few : c.force_pair.new.steps ≤ c.args.steps.now + count_by (is_behind c.args.parts.now.netlist (c.args.nets.0 ∷ c.args.nets.1 ∷ [])) order = subst (λ (n : Netlist). c.force_pair.new.steps ≤ c.args.steps.now + count_by (is_behind n (c.args.nets.0 ∷ c.args.nets.1 ∷ [])) order) c.circuit.ensures.value c.force_pair.ensures.steps in
+    let few : c.force_pair.new.steps ≤ c.args.steps.now + count_by (is_downstream c.args.parts.now.netlist (c.args.nets.0 ∷ c.args.nets.1 ∷ [])) order = subst (λ (n : Netlist). c.force_pair.new.steps ≤ c.args.steps.now + count_by (is_downstream n (c.args.nets.0 ∷ c.args.nets.1 ∷ [])) order) c.circuit.ensures.value c.force_pair.ensures.steps in
     omega (arith, few, few_steps c.args.parts.now c.circuit.ensures.fits c.args.self.now c.requires.good.built (c.args.nets.0 ∷ c.args.nets.1 ∷ []))

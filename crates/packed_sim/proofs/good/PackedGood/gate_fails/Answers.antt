@@ -2,7 +2,7 @@ use Rattle.std.proofs.Common.{◌≡◌, true, List, ℕ, ◌+◌, ◌*◌, ◌/
 use Rattle.scan_model.specs.Values.{are_opposite}
 use Rattle.scan_model.specs.Netlist.{is_gate, is_gate_driver}
 use Rattle.lane_rows.specs.Lanes.{lane}
-use Rattle.packed_sim.specs.Belongs.{good_at, now_at, observed_at, gates_behind}
+use Rattle.packed_sim.specs.Belongs.{good_at, now_at, observed_at, gates_downstream}
 use Rattle.packed_sim.proofs.FaultBits.{lane_inside, block_inside, gate_bit, gate_nets}
 use Rattle.packed_sim.proofs.good.PackedGood.gate_fails.Goals as goal
 
@@ -31,4 +31,4 @@ returns-clause-steps g c =
     let t = c.args.parts.now in
     let gate : is_gate t.netlist c.args.gate.0 ≡ true = ap is_gate_driver c.requires.gate.driven in
     let nets = gate_nets t c.circuit.ensures.fits c.args.self.now.wiring.order.items c.requires.good.built.wired.wired.ordered c.args.branch.0 c.args.gate.0 c.requires.gate.index c.requires.gate.placed gate in
-    omega (arith, c.flip.ensures.steps, ap (λ (ns : List ℕ). length (gates_behind t ns)) nets)
+    omega (arith, c.flip.ensures.steps, ap (λ (ns : List ℕ). length (gates_downstream t ns)) nets)

@@ -2,7 +2,7 @@ use Rattle.std.proofs.Common.{◌≤◌, ◌+◌, drop, subst, ◌∙◌, sym, a
 use Rattle.std.specs.Prelude.{count_by}
 use Rattle.scan_model.specs.Netlist.{Netlist}
 use Rattle.scan_model.specs.ScanTest.{chain_at}
-use Rattle.packed_sim.specs.Spread.{IsClosed, is_behind}
+use Rattle.packed_sim.specs.Propagation.{IsClosed, is_downstream}
 use Rattle.packed_sim.proofs.Belonging.{few_steps}
 use Rattle.packed_sim.proofs.Spreading.{behind_closed}
 use Rattle.packed_sim.proofs.Loading.{loading_begins, loading_ends, above_lt, above_apart}
@@ -49,8 +49,8 @@ returns-clause-steps g c =
     let s = c.args.self.now in
     let nets = drop (c.args.behind.1 + 1) (chain_at t c.args.behind.0).cells in
     let order = s.wiring.order.items in
-    let closed : IsClosed t.netlist (is_behind t.netlist nets) = behind_closed t.netlist order c.chains.ensures.fits.circuit.netlist c.requires.good.built.wired.wired.ordered nets
+    let closed : IsClosed t.netlist (is_downstream t.netlist nets) = behind_closed t.netlist order c.chains.ensures.fits.circuit.netlist c.requires.good.built.wired.wired.ordered nets
     (above_lt t c.chains.ensures.fits s c.requires.good c.args.block c.requires.block c.args.behind.0 c.requires.chain c.args.behind.1)
     (above_apart t c.chains.ensures.fits s c.requires.good c.args.block c.requires.block c.args.behind.0 c.requires.chain c.args.behind.1) in
-    let few : c.settle.new.steps ≤ c.args.steps.now + count_by (is_behind t.netlist nets) order = c.settle.ensures.steps (is_behind t.netlist nets) (subst (λ (n : Netlist). IsClosed n (is_behind t.netlist nets)) (sym c.circuit-circuit.ensures.value) closed) c.loop-at.invariant.within in
+    let few : c.settle.new.steps ≤ c.args.steps.now + count_by (is_downstream t.netlist nets) order = c.settle.ensures.steps (is_downstream t.netlist nets) (subst (λ (n : Netlist). IsClosed n (is_downstream t.netlist nets)) (sym c.circuit-circuit.ensures.value) closed) c.loop-at.invariant.within in
     omega (arith, few, few_steps t c.chains.ensures.fits s c.requires.good.built nets)

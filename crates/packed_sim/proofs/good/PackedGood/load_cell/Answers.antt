@@ -1,6 +1,6 @@
 use Rattle.std.proofs.Common.{◌+◌, drop, subst, arith}
 use Rattle.scan_model.specs.ScanTest.{chain_at}
-use Rattle.packed_sim.specs.Spread.{IsSet}
+use Rattle.packed_sim.specs.Propagation.{IsSet}
 use Rattle.packed_sim.proofs.Forcing.{places_fit}
 use Rattle.packed_sim.proofs.Spreading.{set_within, set_moved}
 use Rattle.packed_sim.proofs.Loading.{load_down, above_lt, above_apart, above_has}

@@ -1,7 +1,7 @@
 use Rattle.std.proofs.Common.{◌≡◌, ◌+◌, ◌-◌, ℕ, subst, arith}
 use Rattle.std.proofs.lemmas.Bool.{both_ways}
 use Rattle.place_sets.specs.Places.{has_place}
-use Rattle.packed_sim.specs.Loaded.{IsOpenLoad}
+use Rattle.packed_sim.specs.ChainLoads.{IsOpenLoad}
 use Rattle.packed_sim.proofs.Settled.{moved_on}
 use Rattle.packed_sim.proofs.Loading.{loaded_open, load_settled}
 use Rattle.packed_sim.proofs.good.PackedGood.load_more.Goals as goal

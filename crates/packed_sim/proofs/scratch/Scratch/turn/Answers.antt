@@ -1,7 +1,7 @@
 use Rattle.std.proofs.Common.{◌≡◌, ◌<◌, ℕ, ap, length, ◌∙◌, get_or, arith, rules}
 use Rattle.std.proofs.lemmas.List.{get_or_read}
 use Rattle.std.proofs.lemmas.List.Elements.{Contains-get_or}
-use Rattle.lane_rows.specs.Wired.{sinks_of}
+use Rattle.lane_rows.specs.Wiring.{sinks_of}
 use Rattle.lane_rows.specs.Planes.{Planes, held}
 use Rattle.packed_sim.specs.Rows.{row_now}
 use Rattle.packed_sim.proofs.Turns.{turn_of_set, turn_of_same}

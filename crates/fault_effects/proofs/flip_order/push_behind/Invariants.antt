@@ -1,5 +1,0 @@
-use Rattle.std.specs.Prelude.{◌<◌, All, length}
-use Rattle.fault_effects.proofs.flip_order.push_behind.Given as goal
-
-abbrev pub invariant-loop-pin : goal.invariant-loop-pin
-invariant-loop-pin l = All (λ n. n < length l.parts.netlist.nets) l.due.items

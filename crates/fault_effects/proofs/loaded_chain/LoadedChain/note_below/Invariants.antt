@@ -1,0 +1,16 @@
+use Rattle.std.proofs.Common.{◌≡◌, ℕ, ◌+◌, ◌<◌, get_or}
+use Rattle.scan_model.specs.declared.fault.Fault.TheVariants as fault
+use Rattle.scan_model.specs.declared.parts.Point.TheVariants.{Cell}
+use Rattle.scan_model.specs.ScanTest.{point_at}
+use Rattle.scan_model.specs.Suspect.{observed_net}
+use Rattle.fault_effects.specs.Notes.{AreNotes}
+use Rattle.fault_effects.specs.Walks.{AreFreshAt, IsRenoted}
+use Rattle.fault_effects.proofs.loaded_chain.LoadedChain.note_below.Given as goal
+
+abbrev pub invariant-loop-point : goal.invariant-loop-point
+invariant-loop-point g l = record {
+  notes : AreNotes (g.O.ChainObserver.sums l.self.work.now.observer.now) (g.O.Observer.model l.self.work.now.observer.now).places l.notes;
+  renoted : IsRenoted (g.O.Observer.model l.self.work.now.observer.now) l.self.work.now.block (fault.Cell l.self.chain l.self.pos l.self.kind) l.initial.notes.rows.items l.notes.rows.items;
+  fresh : (i p : ℕ) → i < l.point-index → point_at l.self.work.now.parts.now (get_or l.points i 0) ≡ Cell l.self.chain (p + 1)
+      → AreFreshAt l.self.work.now.parts.now (g.O.Observer.model l.self.work.now.observer.now) l.self.work.now.block (fault.Cell l.self.chain l.self.pos l.self.kind) l.notes.rows.items (observed_net l.self.work.now.parts.now (Cell l.self.chain p));
+}

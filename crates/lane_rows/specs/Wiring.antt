@@ -1,0 +1,60 @@
+-- The wiring: the gates that lead to an observed net, in order, and those of them that read each net.
+use Rattle.std.specs.Prelude.{◌≡◌, ℕ, ◌<◌, ◌≤◌, List, [], length, cond, Bool, true, ◌&&◌, Contains, slice_index, slice_index_or}
+use Rattle.scan_model.specs.declared.circuit.PinPlace.{PinPlace}
+use Rattle.scan_model.specs.declared.circuit.PinPlace.TheVariants.{Operand, Output}
+use Rattle.scan_model.specs.Netlist.{Netlist, is_gate, reads, pin_at}
+use Rattle.scan_model.specs.Walks.{IsEvaluationOrder}
+use Rattle.scan_model.specs.Cone.{in_fan_in}
+
+-- the places of the gates that read a net
+abbrev pub sinks_of : List (List ℕ) → ℕ → List ℕ
+sinks_of sinks n = slice_index_or sinks n []
+
+-- An order of evaluation, and places of gates that read each net. All stand after the net's own place.
+pub record IsWired (c : Netlist) (order : List ℕ) (sinks : List (List ℕ)) : Type 0 where
+  pub ordered : IsEvaluationOrder c order
+  pub nets : length c.nets ≤ length sinks
+  pub places : (n k : ℕ) → n < length c.nets → Contains (sinks_of sinks n) k → (k < length order) × Contains (reads c (slice_index order k)) n
+  pub after : (i k : ℕ) → i < length order → Contains (sinks_of sinks (slice_index order i)) k → i < k
+
+-- each gate that matters is among those of each net that it reads
+abbrev pub Covers : Netlist → List ℕ → List (List ℕ) → (ℕ → Bool) → Type 0
+Covers c order sinks live = (n k : ℕ) → k < length order → live (slice_index order k) ≡ true → Contains (reads c (slice_index order k)) n → Contains (sinks_of sinks n) k
+
+-- what leads to a net that matters matters
+abbrev pub LeadsUp : Netlist → (ℕ → Bool) → Type 0
+LeadsUp c live = (m n : ℕ) → n < length c.nets → live n ≡ true → in_fan_in c m n ≡ true → live m ≡ true
+
+-- some nets and all that gates with a mark read have marks
+pub record AreMarked (c : Netlist) (nets : List ℕ) (marked : ℕ → Bool) : Type 0 where
+  pub own : (k : ℕ) → k < length nets → marked (slice_index nets k) ≡ true
+  pub closed : (g n : ℕ) → g < length c.nets → is_gate c g ≡ true → marked g ≡ true → Contains (reads c g) n → marked n ≡ true
+
+abbrev pub place_key : Netlist → (ℕ → Bool) → PinPlace → ℕ → ℕ
+place_key c marked (Operand g i) net = cond (is_gate c g && marked g) net (length c.nets)
+place_key c marked (Output k) net = length c.nets
+
+-- the net of a pin that is an operand of a gate with a mark, else one past the nets
+abbrev pub sink_key : Netlist → (ℕ → Bool) → ℕ → ℕ
+sink_key c marked p = place_key c marked (pin_at c p).place (pin_at c p).net
+
+abbrev pub place_gate : PinPlace → ℕ
+place_gate (Operand g i) = g
+place_gate (Output k) = 0
+
+-- the net of which a pin is an operand
+abbrev pub sink_gate : Netlist → ℕ → ℕ
+sink_gate c p = place_gate (pin_at c p).place
+
+-- Wiring in which the gates with a mark wait for what they read.
+pub record IsMadeFor (c : Netlist) (order : List ℕ) (marked : ℕ → Bool) (sinks : List (List ℕ)) : Type 0 where
+  pub wired : IsWired c order sinks
+  pub covers : Covers c order sinks marked
+
+-- Wiring for what leads to some nets.
+pub record IsWiredFor (c : Netlist) (nets : List ℕ) (order : List ℕ) (sinks : List (List ℕ)) : Type 0 where
+  pub live : ℕ → Bool
+  pub own : (k : ℕ) → k < length nets → live (slice_index nets k) ≡ true
+  pub up : LeadsUp c live
+  pub wired : IsWired c order sinks
+  pub covers : Covers c order sinks live
