@@ -1,3 +1,4 @@
+-- The spec modules: deeds, which lists of them are legal, and what a book holds and answers.
 pub mod Deeds
 pub mod Legal
 pub mod Answers

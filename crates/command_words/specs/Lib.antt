@@ -1,3 +1,4 @@
+-- The spec modules: the words of commands, and what they ask for.
 pub mod Words
 pub mod Arguments
 pub mod Table

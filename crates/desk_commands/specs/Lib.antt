@@ -1,3 +1,4 @@
+-- The spec modules: what commands read, what they come to, and how they end.
 pub mod Reading
 pub mod Work
 pub mod Demo

@@ -25,7 +25,7 @@ pub trait DieLogs {
     /// The texts of its logs.
     ghost texts: { Self → List (List ℕ) };
 
-    /// The same die without logs.
+    /// This die without its logs.
     ghost bare: { Self → Self };
 
     /// Reads a log and adds it, unless one of equal text is there.

@@ -1,3 +1,4 @@
+-- The spec modules: faults, files, bytes, keepers and connections, and where these come from.
 pub mod Faults
 pub mod Files
 pub mod Bytes

@@ -133,7 +133,7 @@ impl Response {
         }
     }
 
-    /// The same with a short body.
+    /// A response of any method whose body is short.
     pub fn short(status: Status, body: Short) -> Response
         ensures { result ≡ response_of (plain status body) }
     {

@@ -1,3 +1,4 @@
+-- The spec modules: bundles and their readings, designs, dies and cases.
 pub mod Texts
 pub mod Halts
 pub mod Shown

@@ -160,8 +160,7 @@ pub fn design_of(
     Ok(design)
 }
 
-/// The same design, of four texts that were read and stand for the parts. Its profile is that of
-/// the parts.
+/// The design of four texts that were read and stand for the parts, in the profile of the parts.
 pub fn design_with(
     alloc: Global,
     name: &[u8],

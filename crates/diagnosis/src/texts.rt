@@ -300,8 +300,8 @@ pub fn read_texts(alloc: Global, texts: &Sections<'_>) -> Result<Parts, BundleFa
     Ok(design.into_parts())
 }
 
-/// The same, of a profile and four texts one by one. The nets and the chains of the parts have
-/// names that a log can name.
+/// The parts that a profile and four texts, given one by one, stand for, or their first fault. The nets and the chains of the
+/// parts have names that a log can name.
 pub fn parts_of(
     alloc: Global,
     profile: Profile,

@@ -55,7 +55,7 @@ impl DieView {
         push_log(&mut self.logs, log)
     }
 
-    // The same die with the same logs once more.
+    // A copy, which holds the design and the logs jointly with this view.
     pub(crate) fn copy(&self, alloc: Global) -> Result<DieView, NoMemory>
         ensures { IfOk result (λ copy. copy ≡ self.now) }
     {

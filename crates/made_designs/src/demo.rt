@@ -159,7 +159,7 @@ fn read_made(alloc: Global, made: &Made) -> Result<Parts, BundleFault>
     )
 }
 
-// The same of texts that break no rule.
+// The scan test of the texts that were made, where they break no rule.
 fn parts_of_made(alloc: Global, made: &Made) -> Result<Parts, NoMemory>
     requires { BreakNoRule (texts_of made.now) }
     ensures stands { IfOk result (λ parts. texts_reading (texts_of made.now) ≡ Ok parts) }

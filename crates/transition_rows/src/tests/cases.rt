@@ -189,7 +189,7 @@ fn are_by_definition(
     Ok(true)
 }
 
-/// The same of the pattern of this number, which there must be.
+/// Whether all faults fail by the definition in the pattern of this number, which there must be.
 fn fails_by_definition(
     alloc: Global,
     parts: &Result<Parts, ReadFault>,
