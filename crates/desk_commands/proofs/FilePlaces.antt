@@ -6,8 +6,8 @@ use Rattle.desk_outside.specs.Files.{text_of}
 use Rattle.diagnosis.specs.declared.section.DesignText.{DesignText}
 use Rattle.diagnosis.specs.declared.section.DesignText.TheVariants.{Netlist, Scan, Patterns, Neighbours}
 use Rattle.diagnosis.specs.Texts.{Place, Source}
-use Rattle.diagnosis.specs.Halts.{IsHad, HaltsAt, place_of}
-use Rattle.diagnosis.specs.Reading.{four}
+use Rattle.diagnosis.specs.TextHalts.{IsHad, HaltsAt, place_of}
+use Rattle.diagnosis.specs.ReaderAnswers.{four}
 use Rattle.desk_commands.specs.declared.design.FileSource.{FileSource}
 use Rattle.desk_commands.specs.declared.files.Refusal.{Refusal}
 use Rattle.desk_commands.specs.declared.files.Refusal.TheVariants.{Absent, TooLong, Rule}

@@ -6,7 +6,7 @@ use Rattle.text_parts.specs.Gives.{Gives}
 use Rattle.desk_outside.specs.declared.shelf.File.{File}
 use Rattle.desk_outside.specs.Files.{text_of}
 use Rattle.diagnosis.specs.Texts.{by_rules}
-use Rattle.diagnosis.specs.Halts.{ComesTo}
+use Rattle.diagnosis.specs.TextHalts.{ComesTo}
 use Rattle.diagnosis.proofs.Halting.{text_halts}
 use Rattle.desk_commands.specs.declared.files.Stop.{Stop}
 use Rattle.desk_commands.specs.declared.files.Stop.TheVariants.{Refused, Fault, NoMemory}

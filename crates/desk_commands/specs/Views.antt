@@ -56,7 +56,7 @@ module _ (files : List File) (r : Request) where
       let frame = compact_frame t c r.design r.die in
       logs_report files frame r.logs (λ texts. compact_report t c r.design r.die (read_logs frame (different texts)))
 
-  -- the same, after the channels of the compactor
+  -- that report, after the channels of the compactor
   abbrev pub with_channels : ScanTest → Reading (List ℕ)
   with_channels t = and_then (file_reading files (channel_reading t) r.channels) (with_compactor t)
 

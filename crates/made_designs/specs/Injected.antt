@@ -8,7 +8,7 @@ use Rattle.diag_report.specs.PredictedLog.{fault_of, predicted_log, predicted_fa
 use Rattle.diag_report.specs.Summary.{count_line}
 use Rattle.diagnosis.specs.Texts.{FourTexts}
 use Rattle.scan_model.specs.declared.fault.Profile.TheVariants.{One}
-use Rattle.diagnosis.specs.Reading.{four}
+use Rattle.diagnosis.specs.ReaderAnswers.{four}
 use Rattle.diagnosis.specs.Designs.{ReadLogFacts, StandsOver}
 use Rattle.diagnosis.specs.Cases.{CaseFacts}
 use Rattle.made_designs.specs.declared.design.Made.{Made}

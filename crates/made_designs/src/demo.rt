@@ -11,7 +11,7 @@ ghost use Rattle.scan_model.specs.ReportText as text_of;
 ghost use Rattle.diag_report.specs.PredictedLog.{HasWordNames, fault_of};
 ghost use Rattle.diag_report.specs.Summary.{count_line};
 ghost use Rattle.diagnosis.specs.Bundle.{texts_reading};
-ghost use Rattle.diagnosis.specs.Reading.{RefusedBy};
+ghost use Rattle.diagnosis.specs.ReaderAnswers.{RefusedBy};
 ghost use Rattle.made_designs.specs.Demo.{demo_written, injected_lines, rank_lines};
 ghost use Rattle.made_designs.specs.Made.{BreakNoRule};
 ghost use Rattle.made_designs.specs.Injected.{IsDemoCase, IsFound, IsAfterTexts, IsText, place_of, texts_of};
