@@ -2,7 +2,7 @@
 pub mod Words
 pub mod Arguments
 pub mod Table
-pub mod Right
-pub mod Asked
-pub mod Shown
-pub mod Assigned
+pub mod RightWords
+pub mod Invocations
+pub mod CommandViews
+pub mod ClapCommands

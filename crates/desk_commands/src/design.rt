@@ -7,7 +7,7 @@ ghost use Rattle.diagnosis.specs.ReaderAnswers.{four};
 ghost use Rattle.diagnosis.specs.TextHalts.{ComesTo};
 ghost use Rattle.desk_commands.specs.Designs.{shown_design};
 ghost use Rattle.desk_commands.specs.Reading.{name_of};
-ghost use Rattle.command_words.specs.Shown.{shown_files};
+ghost use Rattle.command_words.specs.CommandViews.{shown_files};
 ghost use Rattle.desk_commands.specs.Stops.{halt_of, ends_by_fault};
 ghost use Rattle.desk_commands.specs.Work.{design_reading};
 

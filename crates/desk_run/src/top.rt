@@ -3,7 +3,7 @@ ghost use Rattle.std.specs.Prelude.{◌≡◌, ◌≤◌, ◌⊎◌, List, false
 ghost use Rattle.desk_outside.specs.declared.shelf.File.{File};
 ghost use Rattle.std.specs.Io.KnownBytes.{append_known};
 ghost use Rattle.desk_outside.specs.Faults.{Rose};
-ghost use Rattle.command_words.specs.Asked.{Service, asked, comes_to_page, is_serve, serving};
+ghost use Rattle.command_words.specs.Invocations.{Service, asked, comes_to_page, is_serve, serving};
 ghost use Rattle.desk_serve.specs.Runs.{HasRun};
 ghost use Rattle.desk_commands.specs.Commands.{work};
 ghost use Rattle.desk_commands.specs.Ending.{is_one_of};

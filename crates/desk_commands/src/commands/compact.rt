@@ -9,7 +9,7 @@ ghost use Rattle.chain_compactor.specs.Channels.{IsCompactorOf};
 ghost use Rattle.chain_compactor.specs.ChannelText.{channel_reading};
 ghost use Rattle.chain_compactor.specs.Compaction.{compact_candidates, compact_rows};
 ghost use Rattle.chain_compactor.specs.CompactReport.{compact_report};
-ghost use Rattle.command_words.specs.Shown.{shown_order};
+ghost use Rattle.command_words.specs.CommandViews.{shown_order};
 ghost use Rattle.desk_commands.specs.Reading.{file_reading};
 ghost use Rattle.desk_commands.specs.Logs.{StandsForSome};
 ghost use Rattle.desk_commands.specs.Stops.{Follows, ends_by_fault};

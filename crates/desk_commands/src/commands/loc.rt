@@ -7,7 +7,7 @@ ghost use Rattle.scan_model.specs.ScanTest.{points_of};
 ghost use Rattle.log_join.specs.Joining.{StandsFor, IsJoinedOf};
 ghost use Rattle.two_frame.specs.TwoFrame.{frame_report};
 ghost use Rattle.two_frame.specs.FrameRows.{AllCapture};
-ghost use Rattle.command_words.specs.Shown.{shown_order};
+ghost use Rattle.command_words.specs.CommandViews.{shown_order};
 ghost use Rattle.desk_commands.specs.Logs.{StandsForSome};
 ghost use Rattle.desk_commands.specs.Stops.{Follows, ends_by_fault};
 ghost use Rattle.desk_commands.specs.Views.{loc_reading};

@@ -6,7 +6,7 @@ use Rattle.scan_model.specs.PatternText.{pattern_reading}
 use Rattle.two_frame.specs.TwoFrame.{launch_frame}
 use Rattle.diagnosis.specs.Texts.{value}
 use Rattle.diagnosis.proofs.Halting.{at_halt, halts_after}
-use Rattle.command_words.specs.Shown.{shown_files}
+use Rattle.command_words.specs.CommandViews.{shown_files}
 use Rattle.desk_commands.specs.Reading.{file_reading}
 use Rattle.desk_commands.specs.Stops.{halt_of}
 use Rattle.desk_commands.specs.Views.{no_pairs, over_chains}

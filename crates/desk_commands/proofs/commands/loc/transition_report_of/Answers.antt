@@ -1,6 +1,6 @@
 use Rattle.std.proofs.Common.{◌∙◌, ℕ, List, ap, map, subst}
 use Rattle.diagnosis.proofs.Halting.{comes_after}
-use Rattle.command_words.specs.Shown.{shown_order}
+use Rattle.command_words.specs.CommandViews.{shown_order}
 use Rattle.desk_commands.specs.Reading.{Reading}
 use Rattle.desk_commands.specs.Stops.{Follows, halt_of}
 use Rattle.desk_commands.specs.Views.{launch_reading, with_launches}
