@@ -14,9 +14,9 @@ use Rattle.desk_commands.specs.declared.files.Refusal.TheVariants.{Absent, TooLo
 use Rattle.desk_commands.specs.declared.files.Stop.{Stop}
 use Rattle.desk_commands.specs.declared.files.Stop.TheVariants.{Refused, Fault, NoMemory}
 use Rattle.command_words.specs.Invocations.{DesignNames}
-use Rattle.desk_commands.specs.Reading.{file_limit, served, file_place, files_source, name_of}
+use Rattle.desk_commands.specs.FileReadings.{file_limit, served, file_place, files_source, name_of}
 use Rattle.command_words.specs.CommandViews.{shown_files}
-use Rattle.desk_commands.specs.Stops.{StopsAt, halt_of}
+use Rattle.desk_commands.specs.CommandStops.{StopsAt, halt_of}
 use Rattle.desk_commands.specs.Designs.{AreFilesOf}
 use Rattle.scan_model.specs.declared.fault.Profile.{Profile}
 

@@ -4,7 +4,7 @@ use Rattle.desk_outside.specs.declared.shelf.File.{File}
 use Rattle.command_words.specs.declared.table.Product.{Product}
 use Rattle.command_words.specs.declared.table.Product.TheVariants.{Summary, Bundle, Report, TransitionReport, CompactReport}
 use Rattle.command_words.specs.Invocations.{Invocation, making, trying, serving, Request, asked}
-use Rattle.desk_commands.specs.Reading.{Reading}
+use Rattle.desk_commands.specs.FileReadings.{Reading}
 use Rattle.desk_commands.specs.Work.{Output, output_of, check_reading, pack_reading, report_reading}
 use Rattle.desk_commands.specs.Views.{loc_reading, compact_reading}
 use Rattle.desk_commands.specs.Demo.{demo_output}

@@ -6,7 +6,7 @@ use Rattle.diagnosis.specs.Texts.{ReadTexts, Source}
 use Rattle.diagnosis.specs.ReadDesigns as of_texts
 use Rattle.desk_commands.specs.declared.design.FileSource.{FileSource}
 use Rattle.desk_commands.specs.declared.files.Refusal.{Refusal}
-use Rattle.desk_commands.specs.Reading.{files_source}
+use Rattle.desk_commands.specs.FileReadings.{files_source}
 use Rattle.command_words.specs.CommandViews.{shown_files}
 
 abbrev pub shown_design : ReadDesign (List ℕ) → ReadTexts

@@ -17,7 +17,7 @@ use Rattle.chain_compactor.specs.CompactLog.{compact_frame}
 use Rattle.chain_compactor.specs.CompactReport.{compact_report}
 use Rattle.diagnosis.specs.Texts.{value, and_then}
 use Rattle.command_words.specs.Invocations.{DesignNames, Request}
-use Rattle.desk_commands.specs.Reading.{Reading, file_reading}
+use Rattle.desk_commands.specs.FileReadings.{Reading, file_reading}
 use Rattle.desk_commands.specs.Work.{design_reading, logs_report}
 use Rattle.desk_commands.specs.Logs.{read_logs}
 

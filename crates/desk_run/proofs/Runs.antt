@@ -4,7 +4,7 @@ use Rattle.desk_outside.specs.declared.shelf.File.{File}
 use Rattle.command_words.specs.Invocations.{Invocation, asked}
 use Rattle.desk_commands.specs.Work.{Output}
 use Rattle.desk_commands.specs.Commands.{output_for, work}
-use Rattle.desk_commands.specs.Ending.{IsDueOf}
+use Rattle.desk_commands.specs.CommandEnds.{IsDueOf}
 
 -- what is due of what is asked for is due of the words that ask for it
 pub asked_due : (words : List (List ℕ)) (files : List File) (a : Invocation) (rose : Type 0) (status : ℕ) (text : List ℕ) → asked words ≡ Some a

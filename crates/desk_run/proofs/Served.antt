@@ -10,8 +10,8 @@ use Rattle.command_words.specs.declared.command.Command.{Command}
 use Rattle.command_words.specs.declared.command.Command.TheVariants.{Make, Demo}
 use Rattle.command_words.specs.Invocations as words
 use Rattle.command_words.specs.CommandViews.{shown}
-use Rattle.desk_commands.specs.Ending.{is_one_of, page_statuses}
-use Rattle.desk_run.specs.Ending.{Ends, statuses_of}
+use Rattle.desk_commands.specs.CommandEnds.{is_one_of, page_statuses}
+use Rattle.desk_run.specs.RunEnds.{Ends, statuses_of}
 use Rattle.desk_run.specs.Words.{are_right}
 
 -- the statuses of files and words are none of `serve`

@@ -1,4 +1,4 @@
 -- The spec modules: the texts of a made design, and the text of `demo`.
-pub mod Made
+pub mod MadeTexts
 pub mod Demo
-pub mod Injected
+pub mod InjectedFaults

@@ -1,5 +1,5 @@
 use Rattle.std.proofs.Common.{refl}
-use Rattle.desk_commands.specs.Reading.{files_source}
+use Rattle.desk_commands.specs.FileReadings.{files_source}
 use Rattle.command_words.specs.CommandViews.{shown_files}
 use Rattle.desk_commands.proofs.design.read_design.Goals as goal
 

@@ -5,7 +5,7 @@ use Rattle.made_laws.specs.MadeNetlist.{made_netlist}
 use Rattle.made_laws.specs.MadeScan.{made_scan}
 use Rattle.made_laws.specs.MadePatterns.{made_patterns}
 use Rattle.made_laws.specs.MadePairs.{made_pairs}
-use Rattle.made_designs.specs.Made.{BreakNoRule}
+use Rattle.made_designs.specs.MadeTexts.{BreakNoRule}
 use Rattle.made_designs.proofs.MadeReading.{made_legal}
 use Rattle.made_designs.proofs.design.made_design.Goals as goal
 

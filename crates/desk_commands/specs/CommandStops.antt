@@ -8,7 +8,7 @@ use Rattle.desk_commands.specs.declared.files.Refusal.{Refusal}
 use Rattle.desk_commands.specs.declared.files.Refusal.TheVariants.{Absent, TooLong, Rule}
 use Rattle.desk_commands.specs.declared.files.Stop.{Stop}
 use Rattle.desk_commands.specs.declared.files.Stop.TheVariants.{Refused, Fault, NoMemory}
-use Rattle.desk_commands.specs.Reading.{Reading, file_limit}
+use Rattle.desk_commands.specs.FileReadings.{Reading, file_limit}
 use Rattle.desk_commands.specs.Work.{refusal_status, refusal_line}
 
 -- the refusal holds of a file's text, or of there being none, whatever the text stands for
