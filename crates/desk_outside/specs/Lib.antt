@@ -5,7 +5,7 @@ pub mod Bytes
 pub mod Schedule
 pub mod Memory
 pub mod KeeperMemory
-pub mod Reads
+pub mod LinkReads
 pub mod LinkMemory
 pub mod Doors
 pub mod Streets
