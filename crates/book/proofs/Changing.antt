@@ -10,10 +10,10 @@ use Rattle.book.specs.declared.answers.PutFault.{PutFault}
 use Rattle.std.specs.Prelude.{if◌then◌else◌}
 use Rattle.std.specs.Str.{bytes_eq}
 use Rattle.book.specs.declared.answers.PutFault.TheVariants.{DigestDiffers}
-use Rattle.book.specs.Putting.{put_fault_of}
+use Rattle.book.specs.ChangeParts.{put_fault_of}
 use Rattle.book.specs.Deeds.{die_signs}
 use Rattle.book.specs.Answers.{sign_answer, sign_among}
-use Rattle.book.specs.Legal.{fits, is_legal}
+use Rattle.book.specs.LegalDeeds.{fits, is_legal}
 use Rattle.book.specs.Kinds.{appended}
 use Rattle.book.specs.Changes.{BookFacts, IsBook, Changed, Answered, after}
 use Rattle.book.proofs.OneMore.{legal-push}

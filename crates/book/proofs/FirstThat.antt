@@ -4,7 +4,7 @@ use Rattle.std.specs.List.{list_any, position_or_len}
 use Rattle.std.proofs.lemmas.Grind.{common_steps}
 use Rattle.diagnosis.specs.declared.put.Put.{Put}
 use Rattle.diagnosis.specs.declared.put.Put.TheVariants.{Created, Same}
-use Rattle.book.specs.Putting.{put_numbered, put_where}
+use Rattle.book.specs.ChangeParts.{put_numbered, put_where}
 
 -- one passes exactly where the first that does has a place
 pub any_is_before : {X : Type 0} (test : X → Bool) (xs : List X) → list_any test xs ≡ nat_lt (position_or_len test xs) (length xs)

@@ -14,10 +14,10 @@ use Rattle.desk_outside.specs.declared.deed.DeedKind.TheVariants.{Sign}
 use Rattle.scan_model.specs.DieReport.{die_report}
 use Rattle.diagnosis.specs.Designs.{DesignFacts, ReadLogFacts, ViewFacts, IsDesign, StandsOver, texts_of, view_report}
 use Rattle.book.specs.Deeds.{design_text, design_test, test_of_text, test_of_reading, die_logs, die_signs, is_signed_by, report_over, report_at}
-use Rattle.book.specs.Legal.{fits, each_fits, is_log_over}
+use Rattle.book.specs.LegalDeeds.{fits, each_fits, is_log_over}
 use Rattle.book.specs.Changes.{StandsIn, IsViewIn}
 use Rattle.book.specs.Kinds.{design_deed, log_deed}
-use Rattle.book.specs.Putting.{put_where}
+use Rattle.book.specs.ChangeParts.{put_where}
 use Rattle.book.proofs.LegalLists.{test_known}
 
 pub design_fits : (deeds : List Deed) (by : ℕ) (d : DesignFacts) → IsDesign d → design_text deeds d.name ≡ None → fits deeds (design_deed by d).what ≡ true

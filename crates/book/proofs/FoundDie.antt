@@ -10,7 +10,7 @@ use Rattle.desk_outside.specs.declared.deed.Deed.{Deed}
 use Rattle.book.specs.declared.sign.Sign.{Sign as SignOff}
 use Rattle.diagnosis.specs.Designs.{ReadLogFacts, texts_of}
 use Rattle.book.specs.Deeds.{die_logs, die_signs}
-use Rattle.book.specs.Finding.{IsDieIn}
+use Rattle.book.specs.Lookups.{IsDieIn}
 use Rattle.book.specs.Dies.{DieFacts, bare_die, is_die, kept_logs, kept_signs, logs_in, signs_in}
 use Rattle.book.specs.State.{AreOfDie}
 use Rattle.book.specs.Kinds.{arc_values}

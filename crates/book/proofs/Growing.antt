@@ -6,8 +6,8 @@ use Rattle.std.specs.Str.{bytes_eq}
 use Rattle.std.proofs.lemmas.List.Elements.{filter_map-append}
 use Rattle.desk_outside.specs.declared.deed.Deed.{Deed}
 use Rattle.book.specs.declared.sign.Sign.{Sign as SignOff}
-use Rattle.book.specs.Deeds.{Named, designs, design_in, design_text, text_if_named, die_logs, die_signs, log_in, sign_in}
-use Rattle.book.specs.Legal.{fits, each_fits}
+use Rattle.book.specs.Deeds.{NamedText, designs, design_in, design_text, text_if_named, die_logs, die_signs, log_in, sign_in}
+use Rattle.book.specs.LegalDeeds.{fits, each_fits}
 
 pub and_left : (a b : Bool) → (a && b) ≡ true → a ≡ true
 and_left true b e = refl
@@ -39,11 +39,11 @@ module _ (deeds : List Deed) (deed : Deed) where
   pub designs-same : design_in deed.what ≡ None → designs (deeds ++ deed ∷ []) ≡ designs deeds
   designs-same e = one_more (λ d. design_in d.what) deeds deed e
 
-  pub designs-push : (n : Named) → design_in deed.what ≡ Some n → designs (deeds ++ deed ∷ []) ≡ designs deeds ++ n ∷ []
+  pub designs-push : (n : NamedText) → design_in deed.what ≡ Some n → designs (deeds ++ deed ∷ []) ≡ designs deeds ++ n ∷ []
   designs-push n e = one_kept (λ d. design_in d.what) deeds deed n e
 
   -- a design of another name
-  pub design_text-other : (n : Named) (name : List ℕ) → design_in deed.what ≡ Some n → bytes_eq n.name name ≡ false → design_text (deeds ++ deed ∷ []) name ≡ design_text deeds name
+  pub design_text-other : (n : NamedText) (name : List ℕ) → design_in deed.what ≡ Some n → bytes_eq n.name name ≡ false → design_text (deeds ++ deed ∷ []) name ≡ design_text deeds name
   design_text-other n name e differs =
       ap (λ ds. slice_get (filter_map (text_if_named name) ds) 0) (designs-push n e)
       ∙ ap (λ ts. slice_get ts 0) (one_more (text_if_named name) (designs deeds) n (rw differs))

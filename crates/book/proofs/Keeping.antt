@@ -12,7 +12,7 @@ use Rattle.book.specs.declared.sign.Sign.{Sign as SignOff}
 use Rattle.diagnosis.specs.Bundle.{bundle_reading}
 use Rattle.diagnosis.specs.Designs.{DesignFacts, ReadLogFacts}
 use Rattle.book.specs.Deeds.{design_text}
-use Rattle.book.specs.Legal.{fits}
+use Rattle.book.specs.LegalDeeds.{fits}
 use Rattle.book.specs.Kinds.{named, design_deed, log_deed, sign_deed}
 use Rattle.book.specs.Changes.{StandsIn}
 use Rattle.book.specs.Dies.{AreSameDies, DieFacts, is_die, with_log, with_sign, kept_logs, kept_signs, logs_in, signs_in}

@@ -9,7 +9,7 @@ use Rattle.desk_outside.specs.declared.deed.DeedKind.TheVariants.{Design, Log, S
 use Rattle.scan_model.specs.ScanTest.{ScanTest}
 use Rattle.diagnosis.specs.Bundle.{bundle_reading}
 use Rattle.book.specs.Deeds.{design_text, design_test, test_of_text, test_of_reading}
-use Rattle.book.specs.Legal.{fits, each_fits}
+use Rattle.book.specs.LegalDeeds.{fits, each_fits}
 use Rattle.book.proofs.Longer.{or_else, text-append}
 
 pub both : (a b : Bool) → (a && b) ≡ true → (a ≡ true) × (b ≡ true)

@@ -19,8 +19,8 @@ use Rattle.book.specs.Deeds.{design_text, die_logs, die_signs, report_at}
 use Rattle.book.specs.Answers.{known_design, design_look, and_look, up_to, known_die, die_look, sign_numbered, sign_look}
 use Rattle.book.specs.Changes.{Looked, IsViewIn}
 use Rattle.book.specs.Kinds.{arc_values}
-use Rattle.book.specs.Legal.{each_fits}
-use Rattle.book.specs.Finding.{IsDieIn}
+use Rattle.book.specs.LegalDeeds.{each_fits}
+use Rattle.book.specs.Lookups.{IsDieIn}
 use Rattle.book.proofs.Longer.{text_stays, logs-append, signs-append, report_stays}
 use Rattle.book.proofs.Sound.{IsRight, sound}
 

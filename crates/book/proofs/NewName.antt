@@ -10,7 +10,7 @@ use Rattle.scan_model.specs.Words.{is_tag}
 use Rattle.diagnosis.specs.Bundle.{bundle_reading}
 use Rattle.diagnosis.specs.Designs.{DesignFacts}
 use Rattle.book.specs.Deeds.{designs, design_text}
-use Rattle.book.specs.Legal.{fits}
+use Rattle.book.specs.LegalDeeds.{fits}
 use Rattle.book.specs.Kinds.{named, design_deed}
 use Rattle.book.proofs.Growing.{and_left, and_right}
 use Rattle.book.proofs.NumberedDesign.{found_design, position_at}

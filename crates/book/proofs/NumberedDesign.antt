@@ -9,9 +9,9 @@ use Rattle.std.proofs.lemmas.Bool.Decides.{nat_tests}
 use Rattle.std.proofs.lemmas.Option.{slice_get-map, slice_get_past}
 use Rattle.desk_outside.specs.declared.deed.Deed.{Deed}
 use Rattle.diagnosis.specs.Designs.{DesignFacts}
-use Rattle.book.specs.Deeds.{Named, designs, design_text, text_if_named}
+use Rattle.book.specs.Deeds.{NamedText, designs, design_text, text_if_named}
 use Rattle.book.specs.Kinds.{named}
-use Rattle.book.specs.Finding.{IsFound}
+use Rattle.book.specs.Lookups.{IsFound}
 
 pub position_at : {X : Type 0} (p : X → Bool) (xs : List X) (i : ℕ) → position p xs ≡ Some i → (position_or_len p xs ≡ i) × (i < length xs)
 position_at p xs i e = (grind (arith, nat_tests, e), grind (arith, nat_tests, e))
@@ -34,13 +34,13 @@ first_passes p (y ∷ ys) x at = passes_cons p y ys x (first_passes p ys x) (p y
 pub passes_here : {X : Type 0} (p : X → Bool) (xs : List X) (i : ℕ) (x : X) → position_or_len p xs ≡ i → slice_get xs i ≡ Some x → p x ≡ true
 passes_here p xs i x e at = first_passes p xs x (ap (slice_get xs) e ∙ at)
 
-text_cons : (name : List ℕ) (n : Named) (ns : List Named) (b : Bool) → bytes_eq n.name name ≡ b
+text_cons : (name : List ℕ) (n : NamedText) (ns : List NamedText) (b : Bool) → bytes_eq n.name name ≡ b
     → slice_get (filter_map (text_if_named name) ns) 0 ≡ option_map (λ m. m.text) (slice_get ns (position_or_len (λ m. bytes_eq m.name name) ns))
     → slice_get (filter_map (text_if_named name) (n ∷ ns)) 0 ≡ option_map (λ m. m.text) (slice_get (n ∷ ns) (position_or_len (λ m. bytes_eq m.name name) (n ∷ ns)))
 text_cons name n ns true t more = rw t refl
 text_cons name n ns false t more = rw t (more ∙ ap (option_map (λ m. m.text)) (sym (get_next n ns (position_or_len (λ m. bytes_eq m.name name) ns))))
 
-first_text : (name : List ℕ) (ns : List Named) → slice_get (filter_map (text_if_named name) ns) 0 ≡ option_map (λ n. n.text) (slice_get ns (position_or_len (λ n. bytes_eq n.name name) ns))
+first_text : (name : List ℕ) (ns : List NamedText) → slice_get (filter_map (text_if_named name) ns) 0 ≡ option_map (λ n. n.text) (slice_get ns (position_or_len (λ n. bytes_eq n.name name) ns))
 first_text name [] = refl
 first_text name (n ∷ ns) = text_cons name n ns (bytes_eq n.name name) refl (first_text name ns)
 

@@ -14,9 +14,9 @@ use Rattle.scan_model.specs.Words.{is_tag, has_word}
 use Rattle.book.specs.declared.sign.Sign.{Sign as SignOff}
 use Rattle.diagnosis.specs.Designs.{DesignFacts, ReadLogFacts, texts_of}
 use Rattle.book.specs.Deeds.{design_text, design_test, test_of_text, die_logs, die_signs, report_at, is_signed_by}
-use Rattle.book.specs.Legal.{fits, is_log_over}
+use Rattle.book.specs.LegalDeeds.{fits, is_log_over}
 use Rattle.book.specs.Kinds.{named, design_deed, log_deed, sign_deed}
-use Rattle.book.specs.Finding.{IsLogIn}
+use Rattle.book.specs.Lookups.{IsLogIn}
 use Rattle.book.specs.Changes.{StandsIn}
 use Rattle.book.specs.State.{AreOfDie}
 use Rattle.book.proofs.Growing.{and_left, and_right, die_logs-same, die_logs-push, die_signs-same, die_signs-push, design_text-other, design_text-same}

@@ -3,7 +3,7 @@ use Rattle.std.proofs.Common.{◌≡◌, ℕ, ◌<◌, ◌≤◌, true, List, []
 use Rattle.std.proofs.lemmas.Grind.{common_steps}
 use Rattle.desk_outside.specs.declared.deed.Deed.{Deed}
 use Rattle.book.specs.Deeds.{designs}
-use Rattle.book.specs.Legal.{fits, each_fits, is_legal}
+use Rattle.book.specs.LegalDeeds.{fits, each_fits, is_legal}
 
 -- one more deed that fits
 pub each_fits-push : (before deeds : List Deed) (deed : Deed) → each_fits before deeds ≡ true → fits (before ++ deeds) deed.what ≡ true → each_fits before (deeds ++ deed ∷ []) ≡ true

@@ -10,12 +10,12 @@ use Rattle.book.specs.declared.state.ready.ReadyDesign.{ReadyDesign}
 use Rattle.book.specs.declared.state.ready.ReadyLog.{ReadyLog}
 use Rattle.book.specs.declared.state.ready.ReadySign.{ReadySign}
 use Rattle.diagnosis.specs.Designs.{DesignFacts, ReadLogFacts}
-use Rattle.book.specs.Legal.{fits}
+use Rattle.book.specs.LegalDeeds.{fits}
 use Rattle.book.specs.Changes.{StandsIn}
 use Rattle.book.specs.Kinds.{design_deed, log_deed, sign_deed}
 use Rattle.book.specs.Dies.{DieFacts, is_die, with_log, with_sign}
 use Rattle.book.specs.State.{IsState, StateFacts}
-use Rattle.book.specs.Ready.{IsReadyDesign, IsReadyLog, IsReadySign}
+use Rattle.book.specs.ReadyChanges.{IsReadyDesign, IsReadyLog, IsReadySign}
 use Rattle.book.proofs.NewName.{name_is_new}
 use Rattle.book.proofs.NumberedDesign.{position_at}
 use Rattle.book.proofs.FoundDie.{die_there}

@@ -7,9 +7,9 @@ use Rattle.scan_model.specs.LogText.{log_frame, log_reading}
 use Rattle.scan_model.specs.Words.{is_tag, has_word}
 use Rattle.diagnosis.specs.Designs.{DesignFacts, ReadLogFacts, IsDesign}
 use Rattle.book.specs.Deeds.{design_test, test_of_text, test_of_reading, die_logs}
-use Rattle.book.specs.Legal.{is_log_over}
+use Rattle.book.specs.LegalDeeds.{is_log_over}
 use Rattle.book.specs.Changes.{StandsIn}
-use Rattle.book.specs.Finding.{IsFound}
+use Rattle.book.specs.Lookups.{IsFound}
 
 test_found : (deeds : List Deed) (inner d : DesignFacts) (asked : List ℕ) (number : ℕ) → inner ≡ d → IsDesign inner → IsFound deeds asked number d → design_test deeds asked ≡ Some inner.test
 test_found deeds inner d asked number same design found =

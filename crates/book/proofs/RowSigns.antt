@@ -10,8 +10,8 @@ use Rattle.desk_outside.specs.declared.deed.Deed.{Deed}
 use Rattle.book.specs.declared.sign.Sign.{Sign as SignOff}
 use Rattle.diagnosis.specs.Designs.{DesignFacts, ReadLogFacts, ViewFacts, view_report}
 use Rattle.book.specs.Deeds.{design_text, die_logs, die_signs, report_at}
-use Rattle.book.specs.Legal.{each_fits}
-use Rattle.book.specs.Finding.{IsDieIn}
+use Rattle.book.specs.LegalDeeds.{each_fits}
+use Rattle.book.specs.Lookups.{IsDieIn}
 use Rattle.book.specs.Kinds.{arc_values}
 use Rattle.book.proofs.Fitting.{report_in}
 use Rattle.book.proofs.Looking.{view_in}

@@ -15,11 +15,11 @@ use Rattle.scan_model.specs.Words.{is_tag, has_word}
 use Rattle.diagnosis.specs.declared.put.Put.{Put}
 use Rattle.diagnosis.specs.declared.put.Put.TheVariants.{Created, Same}
 use Rattle.book.specs.declared.sign.Sign.{Sign as SignOff}
-use Rattle.diagnosis.specs.Adding.{Added, with_log}
+use Rattle.diagnosis.specs.LogAddition.{Added, with_log}
 use Rattle.diagnosis.specs.Designs.{DesignFacts, ReadLogFacts, ViewFacts, IsDesign, IsLogOf, texts_of}
 use Rattle.book.specs.Deeds.{design_text, design_test, test_of_text, test_of_reading, die_logs}
-use Rattle.book.specs.Legal.{each_fits}
-use Rattle.book.specs.Finding.{IsLogIn, IsDieIn, IsShowable}
+use Rattle.book.specs.LegalDeeds.{each_fits}
+use Rattle.book.specs.Lookups.{IsLogIn, IsDieIn, IsShowable}
 use Rattle.book.specs.Kinds.{arc_values}
 use Rattle.book.proofs.Sound.{sound}
 

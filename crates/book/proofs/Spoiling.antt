@@ -6,7 +6,7 @@ use Rattle.std.proofs.lemmas.Option.{slice_get_within, get_or_from_slice_get}
 use Rattle.desk_outside.specs.declared.deed.Deed.{Deed}
 use Rattle.book.specs.declared.opening.StartFault.{StartFault}
 use Rattle.book.specs.declared.opening.StartFault.TheVariants as start_fault
-use Rattle.book.specs.Legal.{fits, each_fits, is_legal, spoiled_after, spoiled_row}
+use Rattle.book.specs.LegalDeeds.{fits, each_fits, is_legal, spoiled_after, spoiled_row}
 use Rattle.book.proofs.LegalLists.{both}
 
 lt_true : {a b : ℕ} → a < b → nat_lt a b ≡ true

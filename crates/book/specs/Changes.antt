@@ -10,7 +10,7 @@ use Rattle.book.specs.declared.answers.LookFault.{LookFault}
 use Rattle.book.specs.declared.answers.LookFault.TheVariants as look_fault
 use Rattle.diagnosis.specs.Designs.{ViewFacts, ReadLogFacts, StandsOver, texts_of}
 use Rattle.book.specs.Deeds.{design_text, design_test, die_logs}
-use Rattle.book.specs.Legal.{is_legal}
+use Rattle.book.specs.LegalDeeds.{is_legal}
 
 -- A book as contracts see it: its deeds and the most that it may have, the rows of its keeper where these are told, and
 -- the keeper's count of faults.

@@ -10,11 +10,11 @@ use Rattle.book.specs.declared.sign.Sign.{Sign as SignOff}
 use Rattle.diagnosis.specs.Bundle.{bundle_reading}
 
 -- a name with a text
-pub record Named : Type 0 where
+pub record NamedText : Type 0 where
   pub name : List ℕ
   pub text : List ℕ
 
-abbrev pub design_in : DeedKind → Option Named
+abbrev pub design_in : DeedKind → Option NamedText
 design_in (Design name text) = Some (record { name = name; text = text })
 design_in (Log design die text) = None
 design_in (Sign design die revision signer digest) = None
@@ -31,10 +31,10 @@ sign_in d x (Sign design die revision signer digest) =
     if bytes_eq design d && bytes_eq die x then Some (record { revision = revision; signer = signer; digest = digest }) else None
 
 -- the designs, in their order
-abbrev pub designs : List Deed → List Named
+abbrev pub designs : List Deed → List NamedText
 designs deeds = filter_map (λ deed. design_in deed.what) deeds
 
-abbrev pub text_if_named : List ℕ → Named → Option (List ℕ)
+abbrev pub text_if_named : List ℕ → NamedText → Option (List ℕ)
 text_if_named name d = if bytes_eq d.name name then Some d.text else None
 
 -- the text of the design of a name

@@ -8,7 +8,7 @@ use Rattle.desk_outside.specs.declared.deed.DeedKind.TheVariants.{Design, Log, S
 use Rattle.desk_outside.specs.declared.keeper.KeepFault.{KeepFault}
 use Rattle.book.specs.declared.sign.Sign.{Sign as SignOff}
 use Rattle.diagnosis.specs.Designs.{DesignFacts, ReadLogFacts}
-use Rattle.book.specs.Deeds.{Named}
+use Rattle.book.specs.Deeds.{NamedText}
 
 abbrev pub design_deed : ℕ → DesignFacts → Deed
 design_deed by d = record { by = by; what = Design d.name d.text }
@@ -32,5 +32,5 @@ abbrev pub appended : {X : Type 0} → Result (Unit {0}) KeepFault → List X �
 appended (Ok done) xs x = xs ++ x ∷ []
 appended (Err fault) xs x = xs
 
-abbrev pub named : DesignFacts → Named
+abbrev pub named : DesignFacts → NamedText
 named d = record { name = d.name; text = d.text }

@@ -5,10 +5,10 @@ use Rattle.scan_model.specs.Words.{is_tag}
 use Rattle.book.specs.declared.sign.Sign.{Sign as SignOff}
 use Rattle.diagnosis.specs.Designs.{DesignFacts, ReadLogFacts, texts_of}
 use Rattle.book.specs.Deeds.{designs, design_text, die_logs, die_signs}
-use Rattle.book.specs.Legal.{each_fits}
+use Rattle.book.specs.LegalDeeds.{each_fits}
 use Rattle.book.specs.Kinds.{named}
 use Rattle.book.specs.Places.{DesignsFacts}
-use Rattle.book.specs.Finding.{IsLogIn}
+use Rattle.book.specs.Lookups.{IsLogIn}
 use Rattle.book.specs.Dies.{DieFacts, kept_logs, kept_signs}
 
 -- these are the logs and the sign-offs of a die

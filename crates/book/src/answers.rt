@@ -1,7 +1,7 @@
 //! What the calls of a book answer.
 ghost use Rattle.std.specs.Prelude.{◌≡◌};
 ghost use Rattle.book.specs.declared.answers.PutFault.TheVariants as put_fault;
-ghost use Rattle.book.specs.Putting.{put_fault_of};
+ghost use Rattle.book.specs.ChangeParts.{put_fault_of};
 ghost use Rattle.book.specs.declared.answers.LookFault.TheVariants as look_fault;
 
 use desk_outside::KeepFault;

@@ -7,7 +7,7 @@ ghost use Rattle.scan_model.specs.Words.{is_tag};
 ghost use Rattle.book.specs.declared.answers.PutFault.{PutFault};
 ghost use Rattle.diagnosis.specs.Designs.{view_report, texts_of};
 ghost use Rattle.book.specs.Deeds.{die_logs, die_signs, is_signed_by};
-ghost use Rattle.book.specs.Putting.{beside, put_numbered, put_where};
+ghost use Rattle.book.specs.ChangeParts.{beside, put_numbered, put_where};
 ghost use Rattle.book.specs.Answers.{design_answer, log_answer, sign_answer};
 ghost use Rattle.book.specs.Changes.{IsBook, Changed, StandsIn, IsViewIn};
 ghost use Rattle.book.specs.Kinds.{design_deed, log_deed, sign_deed, arc_values};
@@ -17,7 +17,7 @@ use crate::recording::{record_design, record_log, record_sign};
 use crate::sign::Sign;
 use crate::state::{BookState, NumberedDesign};
 use desk_outside::Keeper;
-use diagnosis::{Checked, Design, Put, ReadLog};
+use diagnosis::{CheckedView, Design, Put, ReadLog};
 use scan_model::{Digest, Name, NoMemory};
 use std::alloc::Global;
 use std::marker::Model;
@@ -197,7 +197,7 @@ impl<K: Keeper> Book<K> {
     pub fn sign(
         &mut self,
         by: u32,
-        checked: &Checked,
+        checked: &CheckedView,
         signer: &Name,
         digest: &Digest,
     ) -> Result<Put, PutFault>

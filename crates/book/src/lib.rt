@@ -14,8 +14,9 @@ mod state;
 pub use answers::{LookFault, PutFault};
 pub use book::Book;
 pub use diagnosis::{
-    BundleFault, Checked, Design, Diagnosis, DieView, Put, ReadLog, Section, Sections, bundle_text,
-    check_report, design_of, design_with, log_of, make_diagnosis, make_report, read_bundle,
+    BundleFault, CheckedView, Design, Diagnosis, DieView, Put, ReadLog, Section, Sections,
+    bundle_text, check_report, design_of, design_with, log_of, make_diagnosis, make_report,
+    read_bundle,
 };
-pub use opening::{NotStarted, StartFault};
+pub use opening::{StartFault, UnopenedBook};
 pub use sign::Sign;

@@ -3,7 +3,7 @@ ghost use Rattle.std.specs.Prelude.{◌≡◌, ◌≤◌, ℕ, List, true, Some,
 ghost use Rattle.desk_outside.specs.declared.deed.Deed.{Deed};
 ghost use Rattle.desk_outside.specs.Faults.{Rose};
 ghost use Rattle.book.specs.declared.opening.StartFault.{StartFault};
-ghost use Rattle.book.specs.Legal.{each_fits, spoiled_row};
+ghost use Rattle.book.specs.LegalDeeds.{each_fits, spoiled_row};
 ghost use Rattle.book.specs.Rows.{start_fault_of};
 
 use crate::book::Book;
@@ -30,7 +30,7 @@ pub enum StartFault {
 
 /// A book that wasn't opened, and its keeper, which comes back whatever the fault.
 #[derive(Drop)]
-pub struct NotStarted<K> {
+pub struct UnopenedBook<K> {
     pub fault: StartFault,
     pub keeper: Option<K>,
 }
@@ -103,7 +103,7 @@ impl<K: Keeper> Book<K> {
         alloc: Global,
         keeper: K,
         max_deeds: u32,
-    ) -> Result<Book<K>, NotStarted<K>>
+    ) -> Result<Book<K>, UnopenedBook<K>>
         ensures limit { IfOk result (λ book. book.limit ≡ max_deeds) }
         ensures rows { IfOk result (λ book. book.rows ≡ K.rows keeper) }
         ensures deeds { (rows : List Deed) → K.rows keeper ≡ Some rows → IfOk result (λ book. book.deeds ≡ rows) }
@@ -122,7 +122,7 @@ impl<K: Keeper> Book<K> {
                 limit: max_deeds,
                 kept,
             }),
-            Err(fault) => Err(NotStarted {
+            Err(fault) => Err(UnopenedBook {
                 fault,
                 keeper: Some(keeper),
             }),

@@ -1,10 +1,10 @@
 //! The one way of each change: what takes memory, then the keeper's one call, and then what takes none.
 ghost use Rattle.std.specs.Prelude.{◌≡◌, true};
 ghost use Rattle.std.specs.Arc.{arc_value};
-ghost use Rattle.book.specs.Legal.{fits};
+ghost use Rattle.book.specs.LegalDeeds.{fits};
 ghost use Rattle.book.specs.Changes.{StandsIn};
 ghost use Rattle.book.specs.Kinds.{design_deed, log_deed, sign_deed};
-ghost use Rattle.book.specs.Putting.{Recorded};
+ghost use Rattle.book.specs.ChangeParts.{Recorded};
 
 use crate::sign::Sign;
 use crate::state::BookState;

@@ -7,10 +7,10 @@ ghost use Rattle.desk_outside.specs.declared.deed.DeedKind.TheVariants as deed_k
 ghost use Rattle.book.specs.declared.sign.Sign.{Sign as SignOff};
 ghost use Rattle.scan_model.specs.Words.{is_tag, has_word};
 ghost use Rattle.book.specs.Deeds.{report_at, die_logs, die_signs, is_signed_by};
-ghost use Rattle.book.specs.Legal.{fits, each_fits};
+ghost use Rattle.book.specs.LegalDeeds.{fits, each_fits};
 ghost use Rattle.book.specs.Changes.{StandsIn};
 ghost use Rattle.diagnosis.specs.Designs.{view_report};
-ghost use Rattle.book.specs.Finding.{IsShowable};
+ghost use Rattle.book.specs.Lookups.{IsShowable};
 ghost use Rattle.book.specs.Kinds.{sign_deed, arc_values};
 ghost use Rattle.book.specs.Rows.{added_if};
 

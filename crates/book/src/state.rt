@@ -2,11 +2,11 @@
 ghost use Rattle.std.specs.Prelude.{◌≡◌, ◌∷◌, ◌++◌, [], length, true, None, IfOk, IfSome, IfNone};
 ghost use Rattle.std.specs.Arc.{arc_value};
 ghost use Rattle.book.specs.Deeds.{designs, design_text, die_logs, die_signs};
-ghost use Rattle.book.specs.Legal.{fits, each_fits};
+ghost use Rattle.book.specs.LegalDeeds.{fits, each_fits};
 ghost use Rattle.book.specs.Changes.{StandsIn};
 ghost use Rattle.book.specs.Kinds.{design_deed, log_deed, sign_deed};
-ghost use Rattle.book.specs.Finding.{IsFound, IsDieIn};
-ghost use Rattle.book.specs.Ready.{IsReadyDesign, IsReadyLog, IsReadySign};
+ghost use Rattle.book.specs.Lookups.{IsFound, IsDieIn};
+ghost use Rattle.book.specs.ReadyChanges.{IsReadyDesign, IsReadyLog, IsReadySign};
 
 mod deeds;
 mod designs;

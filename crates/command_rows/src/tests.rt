@@ -1,3 +1,4 @@
+//! Runs of commands and of `serve` whose shelves, sinks, streets and cabinets fail or don't.
 mod byte_sink;
 mod failing;
 mod files;

@@ -12,9 +12,9 @@ use Rattle.clap.specs.Walk.{Names, Walk, finished, nothing_held, rows_after, wal
 use Rattle.clap.proofs.OnLiterals.{clap_on_literals}
 use Rattle.command_words.specs.Words.{is_plain_word, word_at}
 use Rattle.command_words.specs.Table.{Form, commands}
-use Rattle.command_words.specs.Right.{fits_count, form_named}
-use Rattle.command_words.specs.Asked.{Asked, trying, asked_by, asked_of, log_words, word_for}
-use Rattle.command_words.specs.Assigned.{app_of_form, asked_in}
+use Rattle.command_words.specs.RightWords.{fits_count, form_named}
+use Rattle.command_words.specs.Invocations.{Invocation, trying, asked_by, asked_of, log_words, word_for}
+use Rattle.command_words.specs.ClapCommands.{app_of_form, asked_in}
 use Rattle.command_words.proofs.PlainWords.{plain_rows, rows_taken, taken}
 use Rattle.command_words.proofs.OfForms.{at_named, right_count, right_plain}
 
@@ -77,7 +77,7 @@ least_count : (f : Form) (n : ℕ) → f.has_logs ≡ true → fits_count f n �
 least_count f n some fit = leb-true (count f + 2) n (rw some at fit)
 
 -- stands for the commands that a table isn't about
-abbrev nothing : Asked
+abbrev nothing : Invocation
 nothing = trying 0 0
 
 module _ (words : List Text) where

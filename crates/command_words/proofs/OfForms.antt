@@ -4,7 +4,7 @@ use Rattle.std.specs.Prelude.{slice_index_or, find, is_some, unwrap_or, length}
 use Rattle.std.specs.List.{list_all}
 use Rattle.command_words.specs.Words.{begins, is_plain_word}
 use Rattle.command_words.specs.Table.{Form, commands}
-use Rattle.command_words.specs.Right.{are_right, fits, fits_count, form_named}
+use Rattle.command_words.specs.RightWords.{are_right, fits, fits_count, form_named}
 
 module _ {X : Type 0} (p : X → Bool) (x : X) where
   -- two functions that agree on a list agree on the one that is found

@@ -13,8 +13,8 @@ use Rattle.command_words.specs.declared.table.Task.TheVariants.{Make, Demo, Serv
 use Rattle.command_words.specs.Words.{word_at}
 use Rattle.command_words.specs.Arguments.{kind_of, name_of}
 use Rattle.command_words.specs.Table.{Form, commands}
-use Rattle.command_words.specs.Right.{are_right, form_named, is_right, is_within}
-use Rattle.command_words.specs.Asked.{IsSound, asked_by, asked_of, is_of_die, log_words, number_or_zero, word_among, word_for}
+use Rattle.command_words.specs.RightWords.{are_right, form_named, is_right, is_within}
+use Rattle.command_words.specs.Invocations.{IsSound, asked_by, asked_of, is_of_die, log_words, number_or_zero, word_among, word_for}
 use Rattle.command_words.proofs.OfForms.{at_named, both, right_arguments}
 
 -- what the word of an argument must be, where it is one of these

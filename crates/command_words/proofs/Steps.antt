@@ -5,8 +5,8 @@ use Rattle.clap.specs.Words.{App, with_rule}
 use Rattle.command_words.specs.declared.argument.Argument.{Argument}
 use Rattle.command_words.specs.Words.{word_at}
 use Rattle.command_words.specs.Arguments.{kind_of, name_of}
-use Rattle.command_words.specs.Right.{are_right, is_right}
-use Rattle.command_words.specs.Assigned.{argument, with_arguments}
+use Rattle.command_words.specs.RightWords.{are_right, is_right}
+use Rattle.command_words.specs.ClapCommands.{argument, with_arguments}
 
 -- the one at a place comes before those after it
 next : (arguments : List Argument) (i : ℕ) (d : Argument) → i < length arguments → drop i arguments ≡ slice_index_or arguments i d ∷ drop (i + 1) arguments

@@ -7,10 +7,10 @@ use Rattle.command_words.specs.declared.table.Task.TheVariants.{Make, Demo, Serv
 use Rattle.command_words.specs.Table.{Form}
 use Rattle.clap.specs.Words.{Row}
 use Rattle.command_words.specs.declared.command.Command.{Command}
-use Rattle.command_words.specs.Right.{form_named}
-use Rattle.command_words.specs.Asked.{Asked, serving, IsSound, Service, asked, asked_by, asked_of, comes_to_page, is_serve, log_words, serves, service_by, word_for}
-use Rattle.command_words.specs.Assigned.{asked_in, found_logs, found_word}
-use Rattle.command_words.specs.Shown.{IsAskedBy, IsCommandFor, shown}
+use Rattle.command_words.specs.RightWords.{form_named}
+use Rattle.command_words.specs.Invocations.{Invocation, serving, IsSound, Service, asked, asked_by, asked_of, comes_to_page, is_serve, log_words, serves, service_by, word_for}
+use Rattle.command_words.specs.ClapCommands.{asked_in, found_logs, found_word}
+use Rattle.command_words.specs.CommandViews.{IsAskedBy, IsCommandFor, shown}
 use Rattle.command_words.proofs.Sound.{sound}
 
 -- an answer of `get_str`, with an empty word in place of none
@@ -34,7 +34,7 @@ module _ (words : List Text) (f : Form) (named : form_named words ≡ Some f) wh
   asked_is : asked words ≡ Some (asked_of words f)
   asked_is = ap (option_map (asked_of words)) named
 
-  pub command_taken : (a : Asked) → a ≡ asked_of words f → (o : Option Command) → IsCommandFor a o → IsAskedBy words o
+  pub command_taken : (a : Invocation) → a ≡ asked_of words f → (o : Option Command) → IsCommandFor a o → IsAskedBy words o
   command_taken a is None none = ap comes_to_page (asked_is ∙ ap Some (sym is)) ∙ none
   command_taken a is (Some c) made = (asked_is ∙ ap Some (sym (made ∙ is)), subst IsSound (sym (made ∙ is)) (sound words f named))
 

@@ -1,9 +1,9 @@
 //! What right words ask for, from the words of their arguments.
 ghost use Rattle.std.specs.Prelude.{◌≡◌, map, Some, true, IfOk, OnErr, string_bytes};
 ghost use Rattle.clap.specs.Words.{found_of, rows_of};
-ghost use Rattle.command_words.specs.Asked.{IsSound, asked, comes_to_page, is_serve, number_for, request_by, service_by, serving};
-ghost use Rattle.command_words.specs.Assigned.{asked_in, found_logs, found_word};
-ghost use Rattle.command_words.specs.Shown.{IsAskedBy, IsCommandFor, shown_files, shown_order, shown_service};
+ghost use Rattle.command_words.specs.Invocations.{IsSound, asked, comes_to_page, is_serve, number_for, request_by, service_by, serving};
+ghost use Rattle.command_words.specs.ClapCommands.{asked_in, found_logs, found_word};
+ghost use Rattle.command_words.specs.CommandViews.{IsAskedBy, IsCommandFor, shown_files, shown_order, shown_service};
 
 use crate::argument::Argument;
 use crate::assigned::assigned;

@@ -1,10 +1,10 @@
 //! Right words, which `clap` assigns to the arguments of their command.
 ghost use Rattle.std.specs.Prelude.{◌≡◌, map, Some, true, false, IfOk, string_bytes};
 ghost use Rattle.clap.specs.Words.{app_of, found_of, is_simple, matches_of, rows_of, rule_of};
-ghost use Rattle.command_words.specs.Right.{form_named};
-ghost use Rattle.command_words.specs.Asked.{asked_of};
-ghost use Rattle.command_words.specs.Shown.{shown_form};
-ghost use Rattle.command_words.specs.Assigned.{app_of_form, argument, arguments, asked_in, with_arguments};
+ghost use Rattle.command_words.specs.RightWords.{form_named};
+ghost use Rattle.command_words.specs.Invocations.{asked_of};
+ghost use Rattle.command_words.specs.CommandViews.{shown_form};
+ghost use Rattle.command_words.specs.ClapCommands.{app_of_form, argument, arguments, asked_in, with_arguments};
 
 use crate::argument::Argument;
 use crate::table::Form;

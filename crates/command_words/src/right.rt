@@ -2,9 +2,9 @@
 ghost use Rattle.std.specs.Prelude.{◌≡◌, find, map, option_map, string_bytes};
 ghost use Rattle.std.specs.List.{list_all};
 ghost use Rattle.command_words.specs.Words.{begins, is_plain_word, word_at};
-ghost use Rattle.command_words.specs.Right.{are_right, fits, fits_count, form_named, is_right};
-ghost use Rattle.command_words.specs.Asked.{is_serve};
-ghost use Rattle.command_words.specs.Shown.{shown_form};
+ghost use Rattle.command_words.specs.RightWords.{are_right, fits, fits_count, form_named, is_right};
+ghost use Rattle.command_words.specs.Invocations.{is_serve};
+ghost use Rattle.command_words.specs.CommandViews.{shown_form};
 
 use crate::argument::{Argument, Kind};
 use crate::table::{COMMANDS, Form, Task};

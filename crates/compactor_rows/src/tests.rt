@@ -1,2 +1,3 @@
+//! The tests: rows known from outside, and the definition written out.
 mod cases;
 mod definition;

@@ -13,7 +13,7 @@ use Rattle.diagnosis.specs.declared.put.Put.TheVariants.{Created, Same}
 use Rattle.diagnosis.specs.Designs.{ReadLogFacts, texts_of}
 use Rattle.diagnosis.specs.Texts.{ReadTexts}
 use Rattle.diagnosis.specs.Cases.{CaseFacts, AddedAmong, IsTextAdded, case_report, log_in, with_logs}
-use Rattle.command_words.specs.Asked.{Request}
+use Rattle.command_words.specs.Invocations.{Request}
 use Rattle.desk_commands.specs.Work.{logs_report, with_design}
 use Rattle.desk_commands.specs.Logs.{IsTaken, with_text}
 use Rattle.desk_commands.proofs.DifferentTexts.{different_again}

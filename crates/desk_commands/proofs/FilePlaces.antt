@@ -6,17 +6,17 @@ use Rattle.desk_outside.specs.Files.{text_of}
 use Rattle.diagnosis.specs.declared.section.DesignText.{DesignText}
 use Rattle.diagnosis.specs.declared.section.DesignText.TheVariants.{Netlist, Scan, Patterns, Neighbours}
 use Rattle.diagnosis.specs.Texts.{Place, Source}
-use Rattle.diagnosis.specs.Halts.{IsHad, HaltsAt, place_of}
-use Rattle.diagnosis.specs.Reading.{four}
+use Rattle.diagnosis.specs.TextHalts.{IsHad, HaltsAt, place_of}
+use Rattle.diagnosis.specs.ReaderAnswers.{four}
 use Rattle.desk_commands.specs.declared.design.FileSource.{FileSource}
 use Rattle.desk_commands.specs.declared.files.Refusal.{Refusal}
 use Rattle.desk_commands.specs.declared.files.Refusal.TheVariants.{Absent, TooLong, Rule}
 use Rattle.desk_commands.specs.declared.files.Stop.{Stop}
 use Rattle.desk_commands.specs.declared.files.Stop.TheVariants.{Refused, Fault, NoMemory}
-use Rattle.command_words.specs.Asked.{DesignNames}
-use Rattle.desk_commands.specs.Reading.{file_limit, served, file_place, files_source, name_of}
-use Rattle.command_words.specs.Shown.{shown_files}
-use Rattle.desk_commands.specs.Stops.{StopsAt, halt_of}
+use Rattle.command_words.specs.Invocations.{DesignNames}
+use Rattle.desk_commands.specs.FileReadings.{file_limit, served, file_place, files_source, name_of}
+use Rattle.command_words.specs.CommandViews.{shown_files}
+use Rattle.desk_commands.specs.CommandStops.{StopsAt, halt_of}
 use Rattle.desk_commands.specs.Designs.{AreFilesOf}
 use Rattle.scan_model.specs.declared.fault.Profile.{Profile}
 

@@ -1,10 +1,10 @@
 -- What the words come to, from what they ask for.
 use Rattle.std.proofs.Common.{◌≡◌, false, Option, None, Some, List, ℕ, refl, true≢false}
 use Rattle.desk_outside.specs.declared.shelf.File.{File}
-use Rattle.command_words.specs.Asked.{Asked, making, trying, serving, asked, comes_to_page}
+use Rattle.command_words.specs.Invocations.{Invocation, making, trying, serving, asked, comes_to_page}
 use Rattle.desk_commands.specs.Commands.{misunderstood, output_for, work}
 
-no_output : (files : List File) (a : Option Asked) → comes_to_page a ≡ false → output_for files a ≡ misunderstood
+no_output : (files : List File) (a : Option Invocation) → comes_to_page a ≡ false → output_for files a ≡ misunderstood
 no_output files None none = refl
 no_output files (Some (serving service)) none = refl
 no_output files (Some (making product request)) none = absurd (true≢false none)

@@ -5,10 +5,10 @@ use Rattle.scan_model.specs.declared.rows.NoMemory.{NoMemory}
 use Rattle.desk_commands.specs.declared.files.Stop.{Stop}
 use Rattle.desk_commands.specs.declared.files.Stop.TheVariants.{Refused, Fault, NoMemory as LacksMemory}
 use Rattle.desk_commands.specs.declared.page.Page.{Page}
-use Rattle.desk_commands.specs.Reading.{Reading}
+use Rattle.desk_commands.specs.FileReadings.{Reading}
 use Rattle.desk_commands.specs.Work.{Output, output_of}
-use Rattle.desk_commands.specs.Stops.{Follows, IsPageOf, IsPageOfAnswer, is_fault, ends_by_fault}
-use Rattle.desk_commands.specs.Ending.{IsDueOf}
+use Rattle.desk_commands.specs.CommandStops.{Follows, IsPageOf, IsPageOfAnswer, is_fault, ends_by_fault}
+use Rattle.desk_commands.specs.CommandEnds.{IsDueOf}
 
 -- the page of a stop is due where reading comes to that stop, and where the shelf failed, its count rose
 pub stop_is_due : (reading : Reading (List ℕ)) (rose : Type 0) (stop : Stop) (status : ℕ) (text : List ℕ) → Follows {X = List ℕ} (Err stop) reading

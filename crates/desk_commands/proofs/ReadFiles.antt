@@ -6,12 +6,12 @@ use Rattle.text_parts.specs.ReadResults.{Gives}
 use Rattle.desk_outside.specs.declared.shelf.File.{File}
 use Rattle.desk_outside.specs.Files.{text_of}
 use Rattle.diagnosis.specs.Texts.{by_rules}
-use Rattle.diagnosis.specs.Halts.{ComesTo}
+use Rattle.diagnosis.specs.TextHalts.{ComesTo}
 use Rattle.diagnosis.proofs.Halting.{text_halts}
 use Rattle.desk_commands.specs.declared.files.Stop.{Stop}
 use Rattle.desk_commands.specs.declared.files.Stop.TheVariants.{Refused, Fault, NoMemory}
-use Rattle.desk_commands.specs.Reading.{file_limit, file_place, file_reading, for_fault}
-use Rattle.desk_commands.specs.Stops.{StopsAt, IsNamed, halt_of}
+use Rattle.desk_commands.specs.FileReadings.{file_limit, file_place, file_reading, for_fault}
+use Rattle.desk_commands.specs.CommandStops.{StopsAt, IsNamed, halt_of}
 use Rattle.desk_commands.proofs.FilePlaces.{halts_at, serves_as}
 
 module _ {X : Type 0} (files : List File) (reads : List ℕ → Result X (ℕ × ℕ)) (name : List ℕ) where

@@ -13,8 +13,8 @@ use Rattle.diagnosis.specs.Texts.{at_name, value, by_rules}
 use Rattle.diagnosis.proofs.Halting.{text_halts, at_halt, comes_after}
 use Rattle.desk_commands.specs.declared.files.Stop.{Stop}
 use Rattle.desk_commands.specs.declared.files.Stop.TheVariants.{Refused, Fault, NoMemory}
-use Rattle.desk_commands.specs.Reading.{file_limit, file_place, for_fault}
-use Rattle.desk_commands.specs.Stops.{Follows, StopsAt, StopsFor, IsNamed, halt_of}
+use Rattle.desk_commands.specs.FileReadings.{file_limit, file_place, for_fault}
+use Rattle.desk_commands.specs.CommandStops.{Follows, StopsAt, StopsFor, IsNamed, halt_of}
 use Rattle.desk_commands.specs.Work.{in_place_of, log_file, logs_after, logs_reading, logs_report}
 use Rattle.desk_commands.specs.Logs.{GoesOn, AreRead, IsTaken, IsFileTaken, FileFollows, with_text}
 use Rattle.desk_commands.proofs.FilePlaces.{halts_at, serves_as}

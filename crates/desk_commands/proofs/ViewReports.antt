@@ -8,8 +8,8 @@ use Rattle.two_frame.specs.TwoFrame.{frame_report}
 use Rattle.chain_compactor.specs.Channels.{Compactor}
 use Rattle.chain_compactor.specs.CompactLog.{compact_frame}
 use Rattle.chain_compactor.specs.CompactReport.{compact_report}
-use Rattle.command_words.specs.Asked.{Request}
-use Rattle.desk_commands.specs.Reading.{Reading}
+use Rattle.command_words.specs.Invocations.{Request}
+use Rattle.desk_commands.specs.FileReadings.{Reading}
 use Rattle.desk_commands.specs.Work.{logs_report}
 use Rattle.desk_commands.specs.Logs.{read_logs}
 use Rattle.desk_commands.specs.Views.{with_compactor, with_launches}

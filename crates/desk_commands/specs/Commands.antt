@@ -3,8 +3,8 @@ use Rattle.std.specs.Prelude.{ℕ, List, [], Option, None, Some, codes}
 use Rattle.desk_outside.specs.declared.shelf.File.{File}
 use Rattle.command_words.specs.declared.table.Product.{Product}
 use Rattle.command_words.specs.declared.table.Product.TheVariants.{Summary, Bundle, Report, TransitionReport, CompactReport}
-use Rattle.command_words.specs.Asked.{Asked, making, trying, serving, Request, asked}
-use Rattle.desk_commands.specs.Reading.{Reading}
+use Rattle.command_words.specs.Invocations.{Invocation, making, trying, serving, Request, asked}
+use Rattle.desk_commands.specs.FileReadings.{Reading}
 use Rattle.desk_commands.specs.Work.{Output, output_of, check_reading, pack_reading, report_reading}
 use Rattle.desk_commands.specs.Views.{loc_reading, compact_reading}
 use Rattle.desk_commands.specs.Demo.{demo_output}
@@ -22,7 +22,7 @@ module _ (files : List File) where
   product_reading CompactReport request = compact_reading files request
 
   -- the status, the bytes to write and the files read of what words ask for; `serve` comes to no page
-  abbrev pub output_for : Option Asked → Output
+  abbrev pub output_for : Option Invocation → Output
   output_for None = misunderstood
   output_for (Some (making product request)) = output_of (product_reading product request)
   output_for (Some (trying seed blocks)) = demo_output seed blocks

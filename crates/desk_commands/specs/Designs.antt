@@ -3,11 +3,11 @@ use Rattle.std.specs.Prelude.{◌≡◌, ℕ, List, Option, Some}
 use Rattle.desk_outside.specs.declared.shelf.File.{File}
 use Rattle.diagnosis.specs.declared.texts.ReadDesign.{ReadDesign}
 use Rattle.diagnosis.specs.Texts.{ReadTexts, Source}
-use Rattle.diagnosis.specs.Shown as of_texts
+use Rattle.diagnosis.specs.ReadDesigns as of_texts
 use Rattle.desk_commands.specs.declared.design.FileSource.{FileSource}
 use Rattle.desk_commands.specs.declared.files.Refusal.{Refusal}
-use Rattle.desk_commands.specs.Reading.{files_source}
-use Rattle.command_words.specs.Shown.{shown_files}
+use Rattle.desk_commands.specs.FileReadings.{files_source}
+use Rattle.command_words.specs.CommandViews.{shown_files}
 
 abbrev pub shown_design : ReadDesign (List ℕ) → ReadTexts
 shown_design d = of_texts.shown_design (λ text. text) d

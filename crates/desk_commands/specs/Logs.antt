@@ -7,8 +7,8 @@ use Rattle.scan_model.specs.LogText.{LogFrame, log_reading}
 use Rattle.scan_model.specs.DieReport.{accepted, different}
 use Rattle.log_join.specs.Joining.{JoinedBits, StandsFor, IsJoinedOf}
 use Rattle.desk_commands.specs.declared.files.Stop.{Stop}
-use Rattle.desk_commands.specs.Reading.{Reading}
-use Rattle.desk_commands.specs.Stops.{Follows}
+use Rattle.desk_commands.specs.FileReadings.{Reading}
+use Rattle.desk_commands.specs.CommandStops.{Follows}
 use Rattle.desk_commands.specs.Work.{logs_after, logs_reading}
 
 -- what follows from the names that are left, after these texts, follows from all names

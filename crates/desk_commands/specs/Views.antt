@@ -16,8 +16,8 @@ use Rattle.chain_compactor.specs.ChannelText.{channel_reading}
 use Rattle.chain_compactor.specs.CompactLog.{compact_frame}
 use Rattle.chain_compactor.specs.CompactReport.{compact_report}
 use Rattle.diagnosis.specs.Texts.{value, and_then}
-use Rattle.command_words.specs.Asked.{DesignNames, Request}
-use Rattle.desk_commands.specs.Reading.{Reading, file_reading}
+use Rattle.command_words.specs.Invocations.{DesignNames, Request}
+use Rattle.desk_commands.specs.FileReadings.{Reading, file_reading}
 use Rattle.desk_commands.specs.Work.{design_reading, logs_report}
 use Rattle.desk_commands.specs.Logs.{read_logs}
 
@@ -56,7 +56,7 @@ module _ (files : List File) (r : Request) where
       let frame = compact_frame t c r.design r.die in
       logs_report files frame r.logs (λ texts. compact_report t c r.design r.die (read_logs frame (different texts)))
 
-  -- the same, after the channels of the compactor
+  -- that report, after the channels of the compactor
   abbrev pub with_channels : ScanTest → Reading (List ℕ)
   with_channels t = and_then (file_reading files (channel_reading t) r.channels) (with_compactor t)
 

@@ -9,8 +9,8 @@ use Rattle.diagnosis.specs.Texts.{ReadTexts, value, one_text, and_then, by_rules
 use Rattle.diagnosis.specs.Bundle.{bundle_text}
 use Rattle.desk_commands.specs.declared.files.Refusal.{Refusal}
 use Rattle.desk_commands.specs.declared.files.Refusal.TheVariants.{Absent, TooLong, Rule}
-use Rattle.command_words.specs.Asked.{DesignNames, Request}
-use Rattle.desk_commands.specs.Reading.{Reading, file_place, for_fault, files_source}
+use Rattle.command_words.specs.Invocations.{DesignNames, Request}
+use Rattle.desk_commands.specs.FileReadings.{Reading, file_place, for_fault, files_source}
 
 module _ (files : List File) (names : DesignNames) where
   -- the design of the four files, each read and judged before the next is read

@@ -9,11 +9,11 @@ pub mod pack;
 ghost use Rattle.std.specs.Prelude.{◌≡◌, ◌≤◌, List, Some, IfOk, true};
 ghost use Rattle.desk_outside.specs.declared.shelf.File.{File};
 ghost use Rattle.desk_outside.specs.Faults.{Rose};
-ghost use Rattle.command_words.specs.Asked.{IsSound, making};
-ghost use Rattle.command_words.specs.Shown.{shown, shown_order};
+ghost use Rattle.command_words.specs.Invocations.{IsSound, making};
+ghost use Rattle.command_words.specs.CommandViews.{shown, shown_order};
 ghost use Rattle.desk_commands.specs.Commands.{output_for, product_reading};
-ghost use Rattle.desk_commands.specs.Stops.{Follows, IsPageOfAnswer, ends_by_fault};
-ghost use Rattle.desk_commands.specs.Ending.{IsDueOf, is_one_of, page_statuses};
+ghost use Rattle.desk_commands.specs.CommandStops.{Follows, IsPageOfAnswer, ends_by_fault};
+ghost use Rattle.desk_commands.specs.CommandEnds.{IsDueOf, is_one_of, page_statuses};
 
 use crate::commands::check::summary_of;
 use crate::commands::compact::compact_report_of;

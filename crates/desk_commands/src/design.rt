@@ -3,12 +3,12 @@ ghost use Rattle.std.specs.Prelude.{◌≡◌, ◌≤◌, List, Some, Ok, IfOk, 
 ghost use Rattle.desk_outside.specs.declared.shelf.File.{File};
 ghost use Rattle.desk_outside.specs.Faults.{Rose};
 ghost use Rattle.diagnosis.specs.Bundle.{texts_reading};
-ghost use Rattle.diagnosis.specs.Reading.{four};
-ghost use Rattle.diagnosis.specs.Halts.{ComesTo};
+ghost use Rattle.diagnosis.specs.ReaderAnswers.{four};
+ghost use Rattle.diagnosis.specs.TextHalts.{ComesTo};
 ghost use Rattle.desk_commands.specs.Designs.{shown_design};
-ghost use Rattle.desk_commands.specs.Reading.{name_of};
-ghost use Rattle.command_words.specs.Shown.{shown_files};
-ghost use Rattle.desk_commands.specs.Stops.{halt_of, ends_by_fault};
+ghost use Rattle.desk_commands.specs.FileReadings.{name_of};
+ghost use Rattle.command_words.specs.CommandViews.{shown_files};
+ghost use Rattle.desk_commands.specs.CommandStops.{halt_of, ends_by_fault};
 ghost use Rattle.desk_commands.specs.Work.{design_reading};
 
 use crate::files::{Refusal, Stop, read_text};
@@ -44,12 +44,12 @@ impl<'a, F: Shelf> TextSource<F> for FileSource<'a> {
 
     type Name = Name;
 
-    type Why = Refusal;
+    type Cause = Refusal;
 
-    type Known = Option<Rows<File>>;
+    type Knowledge = Option<Rows<File>>;
 
     ghost use Rattle.desk_commands.specs.Designs.{AreFilesOf};
-    ghost use Rattle.desk_commands.specs.Stops.{halt_of};
+    ghost use Rattle.desk_commands.specs.CommandStops.{halt_of};
 
     ghost shows = { λ text. text };
 

@@ -3,8 +3,8 @@ ghost use Rattle.std.specs.Prelude.{◌≡◌, ◌≤◌, ℕ, List, length, Som
 ghost use Rattle.desk_outside.specs.declared.shelf.File.{File};
 ghost use Rattle.desk_outside.specs.Faults.{Rose};
 ghost use Rattle.desk_outside.specs.Files.{text_of};
-ghost use Rattle.desk_commands.specs.Reading.{file_limit};
-ghost use Rattle.desk_commands.specs.Stops.{StopsAt, StopsFor, IsNamed, is_fault, ends_by_fault};
+ghost use Rattle.desk_commands.specs.FileReadings.{file_limit};
+ghost use Rattle.desk_commands.specs.CommandStops.{StopsAt, StopsFor, IsNamed, is_fault, ends_by_fault};
 
 use desk_outside::{Shelf, ShelfAnswer};
 use scan_model::{Name, NoMemory, Rows};

@@ -8,9 +8,9 @@ ghost use Rattle.scan_model.specs.ScanText.{net_names, scan_reading};
 ghost use Rattle.scan_model.specs.PatternText.{pattern_reading};
 ghost use Rattle.two_frame.specs.TwoFrame.{launch_frame};
 ghost use Rattle.two_frame.specs.FrameRows.{AllCapture};
-ghost use Rattle.command_words.specs.Shown.{shown_files};
-ghost use Rattle.desk_commands.specs.Reading.{file_reading};
-ghost use Rattle.desk_commands.specs.Stops.{Follows, ends_by_fault};
+ghost use Rattle.command_words.specs.CommandViews.{shown_files};
+ghost use Rattle.desk_commands.specs.FileReadings.{file_reading};
+ghost use Rattle.desk_commands.specs.CommandStops.{Follows, ends_by_fault};
 ghost use Rattle.desk_commands.specs.Views.{launch_reading, no_pairs, over_circuit};
 
 use crate::files::{Stop, named, read_text};

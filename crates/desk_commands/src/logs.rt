@@ -5,7 +5,7 @@ ghost use Rattle.desk_outside.specs.Faults.{Rose};
 ghost use Rattle.scan_model.specs.LogText.{LogFrame, log_reading};
 ghost use Rattle.text_parts.specs.ReadResults.{Fails};
 ghost use Rattle.desk_commands.specs.Logs.{AreRead, FileFollows, IsTaken};
-ghost use Rattle.desk_commands.specs.Stops.{Follows, ends_by_fault};
+ghost use Rattle.desk_commands.specs.CommandStops.{Follows, ends_by_fault};
 ghost use Rattle.desk_commands.specs.Work.{log_file, logs_reading};
 
 use crate::files::{Stop, named, read_text};
@@ -25,7 +25,7 @@ pub trait DieLogs {
     /// The texts of its logs.
     ghost texts: { Self → List (List ℕ) };
 
-    /// The same die without logs.
+    /// This die without its logs.
     ghost bare: { Self → Self };
 
     /// Reads a log and adds it, unless one of equal text is there.

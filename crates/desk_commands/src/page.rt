@@ -1,8 +1,8 @@
 //! What a command comes to: a status and the bytes to write.
 ghost use Rattle.std.specs.Prelude.{◌≡◌, ◌≢◌, ◌++◌, codes, IfOk, string_bytes, true};
 ghost use Rattle.desk_commands.specs.Work.{refusal_status, refusal_line};
-ghost use Rattle.desk_commands.specs.Stops.{IsPageOf, is_fault};
-ghost use Rattle.desk_commands.specs.Ending.{is_one_of, page_statuses};
+ghost use Rattle.desk_commands.specs.CommandStops.{IsPageOf, is_fault};
+ghost use Rattle.desk_commands.specs.CommandEnds.{is_one_of, page_statuses};
 
 use crate::files::{Refusal, Stop};
 use scan_model::{NoMemory, Rows};

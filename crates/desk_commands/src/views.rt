@@ -10,7 +10,7 @@ ghost use Rattle.scan_model.specs.DieReport.{different};
 ghost use Rattle.text_parts.specs.ReadResults.{Gives};
 ghost use Rattle.log_join.specs.Joining.{StandsFor};
 ghost use Rattle.desk_commands.specs.Logs.{AreJoined, IsJoinedFor, StandsForSome, read_logs};
-ghost use Rattle.desk_commands.specs.Stops.{Follows, ends_by_fault};
+ghost use Rattle.desk_commands.specs.CommandStops.{Follows, ends_by_fault};
 ghost use Rattle.desk_commands.specs.Work.{logs_report};
 
 use crate::files::Stop;

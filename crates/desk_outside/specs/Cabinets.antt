@@ -1,12 +1,12 @@
 -- What a cabinet has handed out, and what came home.
 use Rattle.std.specs.Prelude.{ℕ, ◌+◌, ◌-◌, List, [], ◌∷◌, ◌++◌}
 use Rattle.desk_outside.specs.declared.deed.Deed.{Deed}
-use Rattle.desk_outside.specs.declared.cabinet.KeeperGiven.{KeeperGiven}
+use Rattle.desk_outside.specs.declared.cabinet.HandedKeeper.{HandedKeeper}
 use Rattle.desk_outside.specs.declared.cabinet.KeeperHome.{KeeperHome}
 
 -- the keepers in the order of handing out; those that are home, in the order of coming home; and how many are out
 pub record CabinetTold : Type 0 where
-  pub given : List KeeperGiven
+  pub given : List HandedKeeper
   pub home : List KeeperHome
   pub out : ℕ
 

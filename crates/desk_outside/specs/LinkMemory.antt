@@ -2,12 +2,12 @@
 use Rattle.std.specs.Prelude.{◌≡◌, ℕ, List, [], drop}
 use Rattle.desk_outside.specs.Schedule.{fresh_calls}
 use Rattle.desk_outside.specs.declared.calls.Calls.{Calls}
-use Rattle.desk_outside.specs.declared.memory.unread.Unread.{Unread}
+use Rattle.desk_outside.specs.declared.memory.unread.UnreadBytes.{UnreadBytes}
 use Rattle.desk_outside.specs.declared.memory.link.MemLink.{MemLink}
 use Rattle.desk_outside.specs.declared.memory.link.SureLink.{SureLink}
 
 -- the bytes that are left to read
-abbrev pub unread : Unread → List ℕ
+abbrev pub unread : UnreadBytes → List ℕ
 unread u = drop u.at u.bytes
 
 abbrev pub link_left : MemLink → List ℕ

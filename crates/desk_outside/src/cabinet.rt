@@ -11,7 +11,7 @@ use scan_model::{Name, Rows};
 
 /// A keeper as it was handed out: the name that it was asked for by, and its deeds.
 #[derive(Debug, Drop)]
-pub struct KeeperGiven {
+pub struct HandedKeeper {
     pub name: Name,
     pub rows: Rows<Deed>,
 }

@@ -15,7 +15,7 @@ mod shelf;
 mod sink;
 mod street;
 
-pub use cabinet::{Cabinet, KeeperGiven, KeeperHome};
+pub use cabinet::{Cabinet, HandedKeeper, KeeperHome};
 pub use calls::Failed;
 pub use deed::{Deed, DeedKind};
 pub use door::{Door, LinkHome};

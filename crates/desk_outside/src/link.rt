@@ -4,7 +4,7 @@ ghost use Rattle.std.specs.Io.KnownBytes.{append_known};
 ghost use Rattle.desk_outside.specs.declared.link.LinkRead.{LinkRead};
 ghost use Rattle.desk_outside.specs.Bytes.{AddsPart};
 ghost use Rattle.desk_outside.specs.Faults.{Rose};
-ghost use Rattle.desk_outside.specs.Reads.{HasRoomFor, Takes};
+ghost use Rattle.desk_outside.specs.LinkReads.{HasRoomFor, Takes};
 
 use crate::calls::Failed;
 

@@ -1,3 +1,4 @@
+-- The spec modules: statuses, bodies and answers of requests.
 pub mod Statuses
 pub mod Methods
 pub mod Replies

@@ -3,7 +3,7 @@ ghost use Rattle.std.specs.Prelude.{◌≡◌, ◌≤◌, length};
 ghost use Rattle.desk_replies.specs.Statuses.{refusal_status};
 ghost use Rattle.desk_replies.specs.Bodies as body;
 
-use crate::short::Short;
+use crate::short::ShortText;
 use crate::status::Status;
 use book::Section;
 use desk_heads::HeadFault;
@@ -87,56 +87,56 @@ impl TextKind {
 }
 
 // A line of words and a number.
-fn number_body(words: &[u8], number: u64) -> Short
+fn number_body(words: &[u8], number: u64) -> ShortText
     requires { length words.now ≤ 64 }
     ensures { result ≡ body.number_line words.now number }
 {
-    let mut text = Short::new();
+    let mut text = ShortText::new();
     text.add_number_line(words, number);
     text
 }
 
 // A line of words and a digest.
-fn digest_body(words: &[u8], digest: &Digest) -> Short
+fn digest_body(words: &[u8], digest: &Digest) -> ShortText
     requires { length words.now ≤ 64 }
     ensures { result ≡ body.digest_line words.now digest.now }
 {
-    let mut text = Short::new();
+    let mut text = ShortText::new();
     text.add_digest_line(words, digest);
     text
 }
 
 /// A design that was put, by its name, a tag, and the digest of its bundle.
-pub fn design_body(name: &[u8], digest: &Digest) -> Short
+pub fn design_body(name: &[u8], digest: &Digest) -> ShortText
     requires { length name.now ≤ 64 }
     ensures { result ≡ body.design_body name.now digest.now }
 {
-    let mut text = Short::new();
+    let mut text = ShortText::new();
     text.add(b"design ");
     text.add_digest_line(name, digest);
     text
 }
 
 /// A log that was put, by its number from 1 among those of its die.
-pub fn log_body(number: u64) -> Short
+pub fn log_body(number: u64) -> ShortText
     ensures { result ≡ body.log_body number }
 {
     number_body(b"log", number)
 }
 
 /// A sign-off that was put, by its number from 1 among those of its die.
-pub fn sign_off_line(number: u64) -> Short
+pub fn sign_off_line(number: u64) -> ShortText
     ensures { result ≡ body.sign_off_line number }
 {
     number_body(b"signoff", number)
 }
 
 /// A sign-off that is read: its number, the revision, who signed, by a tag, and the digest of the report.
-pub fn sign_off_body(number: u64, revision: u64, signer: &[u8], digest: &Digest) -> Short
+pub fn sign_off_body(number: u64, revision: u64, signer: &[u8], digest: &Digest) -> ShortText
     requires { length signer.now ≤ 64 }
     ensures { result ≡ body.sign_off_body number revision signer.now digest.now }
 {
-    let mut text = Short::new();
+    let mut text = ShortText::new();
     text.add_number_line(b"signoff", number);
     text.add_number_line(b"revision", revision);
     text.add_name_line(b"signer", signer);
@@ -145,78 +145,78 @@ pub fn sign_off_body(number: u64, revision: u64, signer: &[u8], digest: &Digest)
 }
 
 /// The lines before the summary of a design that is read: its name, a tag, and the digest of its bundle.
-pub fn design_head(name: &[u8], digest: &Digest) -> Short
+pub fn design_head(name: &[u8], digest: &Digest) -> ShortText
     requires { length name.now ≤ 64 }
     ensures { result ≡ body.design_head name.now digest.now }
 {
-    let mut text = Short::new();
+    let mut text = ShortText::new();
     text.add_name_line(b"design", name);
     text.add_digest_line(b"digest", digest);
     text
 }
 
 /// Rule 41: the design has so many faults, and none of the number.
-pub fn unknown_fault_body(faults: u64) -> Short
+pub fn unknown_fault_body(faults: u64) -> ShortText
     ensures { result ≡ body.unknown_fault_body faults }
 {
     number_body(b"rule 41 faults", faults)
 }
 
 /// Rule 71: the report has so many lines, and none of the number.
-pub fn unknown_line_body(lines: u64) -> Short
+pub fn unknown_line_body(lines: u64) -> ShortText
     ensures { result ≡ body.unknown_line_body lines }
 {
     number_body(b"rule 71 lines", lines)
 }
 
 /// Rule 72: single faults explain so many patterns, and the one of the number isn't among them.
-pub fn unknown_pattern_body(patterns: u64) -> Short
+pub fn unknown_pattern_body(patterns: u64) -> ShortText
     ensures { result ≡ body.unknown_pattern_body patterns }
 {
     number_body(b"rule 72 patterns", patterns)
 }
 
 /// Rule 82: the name has another text, with this digest.
-pub fn name_taken_body(kept: &Digest) -> Short
+pub fn name_taken_body(kept: &Digest) -> ShortText
     ensures { result ≡ body.name_taken_body kept.now }
 {
     digest_body(b"rule 82 kept", kept)
 }
 
 /// Rule 85: the die has so many revisions, and none of the number.
-pub fn unknown_revision_body(have: u64) -> Short
+pub fn unknown_revision_body(have: u64) -> ShortText
     ensures { result ≡ body.unknown_revision_body have }
 {
     number_body(b"rule 85 have", have)
 }
 
 /// Rule 86: the report has another digest, which is this one.
-pub fn digest_differs_body(right: &Digest) -> Short
+pub fn digest_differs_body(right: &Digest) -> ShortText
     ensures { result ≡ body.digest_differs_body right.now }
 {
     digest_body(b"rule 86 digest", right)
 }
 
 /// Rule 87: the die has so many sign-offs, and none of the number.
-pub fn unknown_sign_body(have: u64) -> Short
+pub fn unknown_sign_body(have: u64) -> ShortText
     ensures { result ≡ body.unknown_sign_body have }
 {
     number_body(b"rule 87 have", have)
 }
 
 /// Rule 88: the book has as many deeds as it may have, which is this many.
-pub fn full_body(limit: u64) -> Short
+pub fn full_body(limit: u64) -> ShortText
     ensures { result ≡ body.full_body limit }
 {
     number_body(b"rule 88 limit", limit)
 }
 
 /// The first fault of a text.
-pub fn text_fault_body(kind: TextKind, fault: TextFault) -> Short
+pub fn text_fault_body(kind: TextKind, fault: TextFault) -> ShortText
     ensures { result ≡ body.text_fault_body kind fault }
 {
     let TextFault { line, rule } = fault;
-    let mut text = Short::new();
+    let mut text = ShortText::new();
     text.add(b"section ");
     text.add(kind.word().as_bytes());
     text.add(b" line ");
@@ -228,14 +228,14 @@ pub fn text_fault_body(kind: TextKind, fault: TextFault) -> Short
 /// What is put, by the body of the reply: that of a design is known, those of a log and a sign-off tell its number.
 #[derive(Debug, Drop)]
 pub enum Entry {
-    Design(Short),
+    Design(ShortText),
     Log,
     SignOff,
 }
 
 impl Entry {
     // The body where it has this number.
-    pub(crate) fn body(self, number: u64) -> Short
+    pub(crate) fn body(self, number: u64) -> ShortText
         ensures { result ≡ body.entry_body self number }
     {
         match self {

@@ -16,5 +16,5 @@ pub use bodies::{
 pub use methods::Methods;
 pub use reply::{Reply, interim, keeper_fault, no_memory};
 pub use response::{Body, Response, Unanswered, put_response, refused_look};
-pub use short::Short;
+pub use short::ShortText;
 pub use status::Status;

@@ -4,7 +4,7 @@ ghost use Rattle.desk_replies.specs.declared.status.Status.TheVariants as status
 ghost use Rattle.desk_replies.specs.Replies.{status_line, length_line, allow_line, connection_line, reply_head, reply_text, interim_text};
 
 use crate::methods::Methods;
-use crate::short::Short;
+use crate::short::ShortText;
 use crate::status::Status;
 
 /// A final reply (RFC 9112, section 4), but for the bytes of its body.
@@ -20,7 +20,7 @@ pub struct Reply {
 }
 
 // Adds the line of the status, of 46 bytes at most.
-fn add_status(text: &mut Short, status: Status)
+fn add_status(text: &mut ShortText, status: Status)
     requires { length text.old + 46 ≤ 256 }
     ensures line { text.new ≡ text.old ++ status_line status }
     ensures grown { length text.new ≤ length text.old + 46 }
@@ -33,7 +33,7 @@ fn add_status(text: &mut Short, status: Status)
 }
 
 // Adds the line of the length of the body, of 38 bytes at most.
-fn add_length(text: &mut Short, size: usize)
+fn add_length(text: &mut ShortText, size: usize)
     requires { length text.old + 38 ≤ 256 }
     ensures line { text.new ≡ text.old ++ length_line size }
     ensures grown { length text.new ≤ length text.old + 38 }
@@ -44,7 +44,7 @@ fn add_length(text: &mut Short, size: usize)
 }
 
 // Adds the line of the methods, where they are given, of 17 bytes at most.
-fn add_allow(text: &mut Short, allow: Option<Methods>)
+fn add_allow(text: &mut ShortText, allow: Option<Methods>)
     requires { length text.old + 17 ≤ 256 }
     ensures line { text.new ≡ text.old ++ allow_line allow }
     ensures grown { length text.new ≤ length text.old + 17 }
@@ -58,7 +58,7 @@ fn add_allow(text: &mut Short, allow: Option<Methods>)
 }
 
 // Adds the line of a reply that closes.
-fn add_connection(text: &mut Short, closes: bool)
+fn add_connection(text: &mut ShortText, closes: bool)
     requires { length text.old + 19 ≤ 256 }
     ensures line { text.new ≡ text.old ++ connection_line closes }
     ensures grown { length text.new ≤ length text.old + 19 }
@@ -70,10 +70,10 @@ fn add_connection(text: &mut Short, closes: bool)
 
 impl Reply {
     /// The bytes before the body, with no memory taken.
-    pub fn head(&self) -> Short
+    pub fn head(&self) -> ShortText
         ensures { result ≡ reply_head self.now.status self.now.methods self.now.closes self.now.length }
     {
-        let mut text = Short::new();
+        let mut text = ShortText::new();
         add_status(&mut text, self.status);
         text.add(b"Content-Type: text/plain\r\n");
         add_length(&mut text, self.length);

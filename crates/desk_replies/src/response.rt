@@ -15,7 +15,7 @@ use crate::bodies::{
     unknown_revision_body, unknown_sign_body,
 };
 use crate::methods::Methods;
-use crate::short::Short;
+use crate::short::ShortText;
 use crate::status::Status;
 use book::{LookFault, Put, PutFault};
 use report_cache::WholeReport;
@@ -28,7 +28,7 @@ use text_parts::TextFault;
 #[derive(Drop)]
 enum Place {
     Fixed(&'static [u8]),
-    Short(Short),
+    Short(ShortText),
     Text(Name),
     Report(Arc<WholeReport>),
 }
@@ -57,7 +57,7 @@ impl Body {
         }
     }
 
-    pub(crate) fn short(text: Short) -> Body
+    pub(crate) fn short(text: ShortText) -> Body
         ensures { result ≡ text }
     {
         Body {
@@ -133,8 +133,8 @@ impl Response {
         }
     }
 
-    /// The same with a short body.
-    pub fn short(status: Status, body: Short) -> Response
+    /// A response of any method whose body is short.
+    pub fn short(status: Status, body: ShortText) -> Response
         ensures { result ≡ response_of (plain status body) }
     {
         Response::plain(status, Body::short(body))

@@ -11,11 +11,11 @@ use std::marker::Model;
 
 /// A text of at most 256 bytes: contracts see its bytes as a list.
 #[derive(Debug, Drop)]
-pub struct Short {
+pub struct ShortText {
     bytes: ArrayVec<u8, 256>,
 }
 
-impl Model for Short {
+impl Model for ShortText {
     ghost use Rattle.std.specs.Prelude.{List, ℕ};
 
     ghost Value = { List ℕ };
@@ -23,7 +23,7 @@ impl Model for Short {
     ghost view = { λ short. short.bytes.items };
 }
 
-impl Short {
+impl ShortText {
     /// The bytes.
     pub fn as_slice(&self) -> &[u8]
         ensures bytes { result.now ≡ self.now }
@@ -33,10 +33,10 @@ impl Short {
     }
 
     /// No bytes.
-    pub fn new() -> Short
+    pub fn new() -> ShortText
         ensures { result ≡ [] }
     {
-        Short {
+        ShortText {
             bytes: ArrayVec::new(),
         }
     }

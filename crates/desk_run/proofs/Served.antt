@@ -8,10 +8,10 @@ use Rattle.desk_serve.specs.Lines.{status_of}
 use Rattle.desk_serve.specs.Runs.{Asked, Outside, HasEnded, HasRun, IsWritten}
 use Rattle.command_words.specs.declared.command.Command.{Command}
 use Rattle.command_words.specs.declared.command.Command.TheVariants.{Make, Demo}
-use Rattle.command_words.specs.Asked as words
-use Rattle.command_words.specs.Shown.{shown}
-use Rattle.desk_commands.specs.Ending.{is_one_of, page_statuses}
-use Rattle.desk_run.specs.Ending.{Ends, statuses_of}
+use Rattle.command_words.specs.Invocations as words
+use Rattle.command_words.specs.CommandViews.{shown}
+use Rattle.desk_commands.specs.CommandEnds.{is_one_of, page_statuses}
+use Rattle.desk_run.specs.RunEnds.{Ends, statuses_of}
 use Rattle.desk_run.specs.Words.{are_right}
 
 -- the statuses of files and words are none of `serve`
@@ -92,14 +92,14 @@ module _ (asked : Asked) (old new : Outside) (untouched : Type 0) (status : ℕ)
 
 -- ---- which words are right
 
-right_of_serve : (a : Option words.Asked) → words.serves a ≡ true → is_some a ≡ true
+right_of_serve : (a : Option words.Invocation) → words.serves a ≡ true → is_some a ≡ true
 right_of_serve (Some a) e = refl
 right_of_serve None e = absurd (true≢false (sym e))
 
 pub serve_is_right : (ws : List (List ℕ)) → words.is_serve ws ≡ true → are_right ws ≡ true
 serve_is_right ws e = right_of_serve (words.asked ws) e
 
-right_of_page : (a : Option words.Asked) → words.serves a ≡ false → is_some a ≡ words.comes_to_page a
+right_of_page : (a : Option words.Invocation) → words.serves a ≡ false → is_some a ≡ words.comes_to_page a
 right_of_page None e = refl
 right_of_page (Some (words.making product request)) e = refl
 right_of_page (Some (words.trying seed blocks)) e = refl
@@ -110,19 +110,19 @@ page_is_right ws e = right_of_page (words.asked ws) e
 
 -- ---- what the words of `serve` ask for
 
-pub service_asked : (a : Option words.Asked) → words.serves a ≡ true → (s : words.Service) × (a ≡ Some (words.serving s))
+pub service_asked : (a : Option words.Invocation) → words.serves a ≡ true → (s : words.Service) × (a ≡ Some (words.serving s))
 service_asked None e = absurd (true≢false (sym e))
 service_asked (Some (words.making product request)) e = absurd (true≢false (sym e))
 service_asked (Some (words.trying seed blocks)) e = absurd (true≢false (sym e))
 service_asked (Some (words.serving s)) e = (s, refl)
 
-service_or : words.Service → Option words.Asked → words.Service
+service_or : words.Service → Option words.Invocation → words.Service
 service_or other (Some (words.serving s)) = s
 service_or other None = other
 service_or other (Some (words.making product request)) = other
 service_or other (Some (words.trying seed blocks)) = other
 
-pub same_service : (a : Option words.Asked) (s s' : words.Service) → a ≡ Some (words.serving s) → a ≡ Some (words.serving s') → s ≡ s'
+pub same_service : (a : Option words.Invocation) (s s' : words.Service) → a ≡ Some (words.serving s) → a ≡ Some (words.serving s') → s ≡ s'
 unfolding service_or
 same_service a s s' is is' = ap (service_or s) (sym is ∙ is')
 

@@ -1,2 +1,3 @@
+-- The spec modules: the words of a run, and its end.
 pub mod Words
-pub mod Ending
+pub mod RunEnds

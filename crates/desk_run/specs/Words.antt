@@ -1,7 +1,7 @@
 -- Which words are right, and what those of `serve` ask for.
 use Rattle.std.specs.Prelude.{ℕ, List, Bool, is_some}
 use Rattle.desk_serve.specs.Runs.{Asked}
-use Rattle.command_words.specs.Asked.{Service, asked}
+use Rattle.command_words.specs.Invocations.{Service, asked}
 
 -- they are those of a command
 abbrev pub are_right : List (List ℕ) → Bool

@@ -3,12 +3,12 @@ ghost use Rattle.std.specs.Prelude.{◌≡◌, ◌≤◌, ◌⊎◌, List, false
 ghost use Rattle.desk_outside.specs.declared.shelf.File.{File};
 ghost use Rattle.std.specs.Io.KnownBytes.{append_known};
 ghost use Rattle.desk_outside.specs.Faults.{Rose};
-ghost use Rattle.command_words.specs.Asked.{Service, asked, comes_to_page, is_serve, serving};
+ghost use Rattle.command_words.specs.Invocations.{Service, asked, comes_to_page, is_serve, serving};
 ghost use Rattle.desk_serve.specs.Runs.{HasRun};
 ghost use Rattle.desk_commands.specs.Commands.{work};
-ghost use Rattle.desk_commands.specs.Ending.{is_one_of};
+ghost use Rattle.desk_commands.specs.CommandEnds.{is_one_of};
 ghost use Rattle.desk_run.specs.Words.{are_right, run_for};
-ghost use Rattle.desk_run.specs.Ending.{Ends, Ran, statuses_of};
+ghost use Rattle.desk_run.specs.RunEnds.{Ends, IsRunEnd, statuses_of};
 
 use crate::words::serving_of;
 use command_words::{command_of, is_serve, service_of};
@@ -67,7 +67,7 @@ fn run_page<R: Threads + Sync, F: Shelf, O: Sink>(
     out: &mut O,
 ) -> u8
     ensures told { (held : List File) → F.files shelf.old ≡ Some held
-        → Ran (work (map string_bytes words.now) held) (Rose (F.faults shelf.old) (F.faults shelf.new)) (Rose (O.faults out.old) (O.faults out.new))
+        → IsRunEnd (work (map string_bytes words.now) held) (Rose (F.faults shelf.old) (F.faults shelf.new)) (Rose (O.faults out.old) (O.faults out.new))
         result (O.written out.old) (O.written out.new) }
     ensures wrong { comes_to_page (asked (map string_bytes words.now)) ≡ false → (result ≡ 2) ⊎ (result ≡ 6) }
     ensures right { result ≡ 2 → comes_to_page (asked (map string_bytes words.now)) ≡ false }
@@ -107,7 +107,7 @@ where
     // Where the shelf tells its files: the status and the bytes of the command, those for a fault of the shelf, or
     // those for want of memory; of these bytes a failing sink has a part.
     ensures told { is_serve (map string_bytes words.now) ≡ false → (held : List File) → F.files shelf.old ≡ Some held
-        → Ran (work (map string_bytes words.now) held) (Rose (F.faults shelf.old) (F.faults shelf.new)) (Rose (O.faults out.old) (O.faults out.new))
+        → IsRunEnd (work (map string_bytes words.now) held) (Rose (F.faults shelf.old) (F.faults shelf.new)) (Rose (O.faults out.old) (O.faults out.new))
         result (O.written out.old) (O.written out.new) }
 
     // How `serve` ends.

@@ -1,6 +1,6 @@
 //! What `serve` is asked for.
 ghost use Rattle.std.specs.Prelude.{◌≡◌};
-ghost use Rattle.command_words.specs.Shown.{shown_service};
+ghost use Rattle.command_words.specs.CommandViews.{shown_service};
 ghost use Rattle.desk_serve.specs.Runs.{asked_of};
 ghost use Rattle.desk_run.specs.Words.{run_for};
 

@@ -9,7 +9,7 @@ use Rattle.desk_outside.specs.Cabinets.{CabinetTold, keeper_handed, keeper_home}
 use Rattle.desk_outside.proofs.Parts.{append_known_twice}
 use Rattle.book.specs.declared.opening.StartFault.{StartFault}
 use Rattle.book.specs.declared.opening.StartFault.TheVariants as fault
-use Rattle.book.specs.Legal.{spoiled_row}
+use Rattle.book.specs.LegalDeeds.{spoiled_row}
 use Rattle.book.specs.Changes.{BookFacts}
 use Rattle.desk_serve.specs.declared.ending.Ending.{Ending}
 use Rattle.desk_serve.specs.declared.ending.Ending.TheVariants.{Done, SinkFault, StoreFault, NoMemory, Spoiled, StreetFault}

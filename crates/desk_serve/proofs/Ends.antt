@@ -11,7 +11,7 @@ use Rattle.shared_desk.specs.Seats.{DeskFacts, SeatFacts, failed}
 use Rattle.shared_desk.specs.Starting.{AreAllSeats, IsFinished}
 use Rattle.std.proofs.Math.Seq.{drop-length}
 use Rattle.std.proofs.lemmas.List.Elements.{All-nil}
-use Rattle.book.specs.Legal.{is_legal}
+use Rattle.book.specs.LegalDeeds.{is_legal}
 use Rattle.desk_http.specs.Seats.{IsPrefix}
 use Rattle.desk_http.proofs.SeatSteps.{prefix_same}
 use Rattle.desk_serve.specs.declared.ending.Ending.{Ending}

@@ -4,7 +4,7 @@ use Rattle.std.proofs.lemmas.List.{length-map}
 use Rattle.std.specs.Prelude.{All, None, option_map, slice_get}
 use Rattle.std.proofs.lemmas.List.Elements.{All-head, All-tail, All-cons, All-nil}
 use Rattle.desk_outside.specs.declared.deed.Deed.{Deed}
-use Rattle.book.specs.Legal.{is_legal}
+use Rattle.book.specs.LegalDeeds.{is_legal}
 use Rattle.book.specs.Changes.{BookFacts, IsBook}
 use Rattle.shared_desk.specs.Seats.{DeskFacts, SeatFacts}
 use Rattle.shared_desk.specs.Starting.{AreAllSeats, fresh_seat, HasOwn, IsFinished, IsStarted}

@@ -6,7 +6,7 @@ use Rattle.desk_outside.specs.declared.street.DoorHome.{DoorHome}
 use Rattle.desk_outside.specs.Bytes.{AddsPart}
 use Rattle.desk_outside.specs.Streets.{StreetTold}
 use Rattle.book.specs.Changes.{BookFacts}
-use Rattle.book.specs.Legal.{is_legal}
+use Rattle.book.specs.LegalDeeds.{is_legal}
 use Rattle.shared_desk.specs.Seats.{DeskFacts, SeatFacts}
 use Rattle.shared_desk.specs.Starting.{AreAllSeats, fresh_seat}
 use Rattle.desk_serve.specs.declared.ending.Ending.{Ending}

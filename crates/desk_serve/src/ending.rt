@@ -3,7 +3,7 @@ ghost use Rattle.std.specs.Prelude.{◌≡◌, ◌≤◌};
 ghost use Rattle.desk_outside.specs.Faults.{Rose};
 ghost use Rattle.desk_serve.specs.Lines.{Writes, line_of, status_of, first_line};
 
-use desk_http::Short;
+use desk_http::ShortText;
 use desk_outside::{Failed, Sink, write_all};
 
 /// How a run ended.
@@ -24,10 +24,10 @@ pub enum Ending {
 }
 
 /// The line that is written before the first connection.
-pub fn first_line(port: u16) -> Short
+pub fn first_line(port: u16) -> ShortText
     ensures { result ≡ first_line port }
 {
-    let mut line = Short::new();
+    let mut line = ShortText::new();
     line.add(b"serving ");
     line.add_number(u64::from(port));
     line.add(b"\n");
@@ -50,10 +50,10 @@ impl Ending {
     }
 
     // The last line, which is none where the sink failed.
-    fn line(self) -> Short
+    fn line(self) -> ShortText
         ensures { result ≡ line_of self }
     {
-        let mut line = Short::new();
+        let mut line = ShortText::new();
         match self {
             Ending::Done { sessions, deeds } => {
                 line.add(b"sessions ");

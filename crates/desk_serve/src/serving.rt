@@ -9,7 +9,7 @@ ghost use Rattle.desk_serve.specs.Runs.{HasEnded, asked_of};
 
 use crate::ending::{Ending, ended};
 use crate::sessions::serve_desk;
-use book::{NotStarted, StartFault};
+use book::{StartFault, UnopenedBook};
 use desk_outside::{Cabinet, KeepFault, Sink, Street};
 use shared_desk::start;
 use std::alloc::Global;
@@ -69,7 +69,7 @@ fn keeper_back<C: Cabinet>(cabinet: &mut C, keeper: Option<C::K>)
 fn turned_away<O: Sink, C: Cabinet>(
     out: &mut O,
     cabinet: &mut C,
-    refused: NotStarted<C::K>,
+    refused: UnopenedBook<C::K>,
 ) -> Ending
     requires out { (told : CabinetTold) → C.told cabinet.old ≡ Some told → 0 < told.out }
     ensures wrote { Writes (ending_of refused.fault) (line_of (ending_of refused.fault)) result (O.written out.old) (O.written out.new) (Rose (O.faults out.old) (O.faults out.new)) }
@@ -78,7 +78,7 @@ fn turned_away<O: Sink, C: Cabinet>(
     ensures cabinet_later { C.faults cabinet.old ≤ C.faults cabinet.new }
     ensures sink_later { O.faults out.old ≤ O.faults out.new }
 {
-    let NotStarted { fault, keeper } = refused;
+    let UnopenedBook { fault, keeper } = refused;
     keeper_back(cabinet, keeper);
     ended(out, start_refusal(fault))
 }

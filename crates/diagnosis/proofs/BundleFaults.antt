@@ -8,7 +8,7 @@ use Rattle.scan_model.specs.declared.fault.Profile.{Profile}
 use Rattle.scan_model.specs.Lines.{text_lines, line_at}
 use Rattle.scan_model.specs.TextFaults.{fault_from, or_else}
 use Rattle.diagnosis.specs.Bundle.{is_mark, marker_after, bundle_rule, marks_fault, has_wrong_mark, sections, section_at, texts_in}
-use Rattle.diagnosis.specs.Reading.{four}
+use Rattle.diagnosis.specs.ReaderAnswers.{four}
 use Rattle.diagnosis.specs.BundleRest.{marker, is_wrong, fault_after}
 
 -- the markers in these lines

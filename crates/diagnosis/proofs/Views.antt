@@ -9,7 +9,7 @@ use Rattle.scan_model.specs.Words.{is_tag}
 use Rattle.diagnosis.specs.declared.put.Put.{Put}
 use Rattle.diagnosis.specs.declared.put.Put.TheVariants.{Created, Same}
 use Rattle.diagnosis.specs.Designs.{DesignFacts, IsDesign, ReadLogFacts, ViewFacts, IsView, IsLogOf}
-use Rattle.diagnosis.specs.Adding.{Added}
+use Rattle.diagnosis.specs.LogAddition.{Added}
 use Rattle.diagnosis.specs.Cases.{IsCase, IsLogOver, AddedAmong, case_of}
 use Rattle.diagnosis.proofs.Cases.{case_with, same_case, case_after}
 

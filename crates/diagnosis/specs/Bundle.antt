@@ -31,7 +31,7 @@ marker_after lines = slice_index_or markers (length (filter is_mark lines)) []
 abbrev pub has_wrong_mark : List (List ℕ) → ℕ → Bool
 has_wrong_mark lines i = (is_mark (line_at lines i) || (i == 0)) && not (bytes_eq (line_at lines i) (marker_after (take i lines)))
 
--- the same, at the line after the last: a marker is missing
+-- rule 81 at the line after the last: a marker is missing
 abbrev pub misses_a_marker : List (List ℕ) → Bool
 misses_a_marker lines = nat_lt (length (filter is_mark lines)) 4
 

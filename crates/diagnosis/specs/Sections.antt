@@ -8,7 +8,7 @@ use Rattle.diagnosis.specs.declared.section.DesignText.TheVariants.{Netlist, Sca
 use Rattle.diagnosis.specs.declared.section.BundleFault.{BundleFault}
 use Rattle.diagnosis.specs.declared.section.BundleFault.TheVariants as fault
 use Rattle.diagnosis.specs.Texts.{FourTexts}
-use Rattle.diagnosis.specs.Halts.{Halt, refused, no_memory}
+use Rattle.diagnosis.specs.TextHalts.{Halt, refused, no_memory}
 
 abbrev pub four_texts : Sections → FourTexts
 four_texts texts = record { profile = texts.profile; netlist = texts.netlist.now; scan = texts.scan.now; patterns = texts.patterns.now; neighbours = texts.neighbours.now }

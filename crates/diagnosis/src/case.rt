@@ -87,12 +87,12 @@ fn simulated(alloc: Global, parts: &Parts) -> Result<Simulation, NoMemory>
 
 // What a case keeps beside the parts of its design and its logs.
 #[derive(Drop)]
-struct Prepared {
+struct CaseSetup {
     names: CaseNames,
     simulation: Simulation,
 }
 
-fn prepare(alloc: Global, design: &[u8], die: &[u8], parts: &Parts) -> Result<Prepared, NoMemory>
+fn prepare(alloc: Global, design: &[u8], die: &[u8], parts: &Parts) -> Result<CaseSetup, NoMemory>
     ensures design { IfOk result (λ made. made.names.design ≡ design.now) }
     ensures die { IfOk result (λ made. made.names.die ≡ die.now) }
     ensures good { IfOk result (λ made. BelongsTo parts.now made.simulation.good) }
@@ -100,19 +100,19 @@ fn prepare(alloc: Global, design: &[u8], die: &[u8], parts: &Parts) -> Result<Pr
 {
     let names = case_names(alloc, design, die)?;
     let simulation = simulated(alloc, parts)?;
-    Ok(Prepared { names, simulation })
+    Ok(CaseSetup { names, simulation })
 }
 
 impl Case {
     // A case of what was prepared over the parts, without logs.
-    fn whole(alloc: Global, parts: Parts, made: Prepared) -> Case
+    fn whole(alloc: Global, parts: Parts, made: CaseSetup) -> Case
         requires design { is_tag made.names.design ≡ true }
         requires die { is_tag made.names.die ≡ true }
         requires good { BelongsTo parts made.simulation.good }
         requires expected { made.simulation.expected ≡ expected_rows parts }
         ensures { result ≡ record { design = made.names.design; die = made.names.die; test = parts; logs = [] } }
     {
-        let Prepared { names, simulation } = made;
+        let CaseSetup { names, simulation } = made;
         Case {
             design: names.design,
             die: names.die,

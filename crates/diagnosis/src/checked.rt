@@ -61,12 +61,12 @@ pub fn make_report<R: Threads + Sync>(
 
 /// A die with the SHA-256 digest (FIPS 180-4) of its report's bytes, at the revision that is its number of logs.
 #[derive(Drop)]
-pub struct Checked {
+pub struct CheckedView {
     view: DieView,
     digest: Digest,
 }
 
-impl Model for Checked {
+impl Model for CheckedView {
     ghost use Rattle.std.specs.Prelude.{◌≡◌, ◌<◌, length};
     ghost use Rattle.sha2.specs.Sha256.{sha256};
     ghost use Rattle.diagnosis.specs.Designs.{ViewFacts, view_report};
@@ -78,14 +78,14 @@ impl Model for Checked {
     ghost invariant = { λ c. (c.digest ≡ sha256 (view_report c.view)) × (0 < length c.view.logs) };
 }
 
-impl Checked {
+impl CheckedView {
     /// A die with the digest of its report, which was made before.
-    pub fn by_digest(view: DieView, digest: Digest) -> Checked
+    pub fn by_digest(view: DieView, digest: Digest) -> CheckedView
         requires some { 0 < length view.logs }
         requires digest { digest ≡ sha256 (view_report view) }
         ensures { result ≡ view }
     {
-        Checked { view, digest }
+        CheckedView { view, digest }
     }
 
     /// The digest of the report.
@@ -115,12 +115,12 @@ pub fn check_report<R: Threads + Sync>(
     rt: &R,
     alloc: Global,
     view: &DieView,
-) -> Result<Checked, NoMemory>
+) -> Result<CheckedView, NoMemory>
     requires { 0 < length view.now.logs }
     ensures { IfOk result (λ checked. checked ≡ view.now) }
 {
     let report = make_report(rt, alloc, view)?;
     let digest = digest_of(&report);
     let view = view.copy(alloc)?;
-    Ok(Checked::by_digest(view, digest))
+    Ok(CheckedView::by_digest(view, digest))
 }

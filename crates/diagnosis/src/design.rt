@@ -7,7 +7,7 @@ ghost use Rattle.diagnosis.specs.declared.section.BundleFault.{BundleFault};
 ghost use Rattle.diagnosis.specs.Bundle.{bundle_text, bundle_reading, texts_reading};
 ghost use Rattle.diagnosis.specs.Designs.{IsDesign};
 ghost use Rattle.diagnosis.specs.Sections.{four_texts};
-ghost use Rattle.diagnosis.specs.Reading.{four, RefusedBy};
+ghost use Rattle.diagnosis.specs.ReaderAnswers.{four, RefusedBy};
 ghost use Rattle.diag_report.specs.PredictedLog.{HasWordNames};
 
 use crate::bundle::{Sections, bundle_text, split};
@@ -43,24 +43,24 @@ impl Model for Design {
 
 /// What a bundle stands for, with its fault-free responses.
 #[derive(Drop)]
-struct Simulated {
+struct SimulatedParts {
     parts: Parts,
     expected: Expected,
 }
 
 /// The parts with their fault-free responses.
-fn with_responses(alloc: Global, parts: Parts) -> Result<Simulated, NoMemory>
+fn with_responses(alloc: Global, parts: Parts) -> Result<SimulatedParts, NoMemory>
     ensures parts { IfOk result (λ made. made.parts ≡ parts) }
     ensures expected { IfOk result (λ made. made.expected ≡ expected_rows parts) }
 {
     let rows = GoodRows::make(alloc, &parts)?;
     let expected = expected_at_points(alloc, &parts, &rows)?;
-    Ok(Simulated { parts, expected })
+    Ok(SimulatedParts { parts, expected })
 }
 
 impl Design {
     // The design of a bundle that stands for the parts.
-    fn whole(name: Name, text: Name, made: Simulated) -> Self
+    fn whole(name: Name, text: Name, made: SimulatedParts) -> Self
         requires name { is_tag name ≡ true }
         requires stands { bundle_reading text ≡ Ok made.parts }
         requires expected { made.expected ≡ expected_rows made.parts }
@@ -160,8 +160,7 @@ pub fn design_of(
     Ok(design)
 }
 
-/// The same design, of four texts that were read and stand for the parts. Its profile is that of
-/// the parts.
+/// The design of four texts that were read and stand for the parts, in the profile of the parts.
 pub fn design_with(
     alloc: Global,
     name: &[u8],

@@ -17,7 +17,7 @@ mod view;
 
 pub use bundle::{Sections, bundle_text};
 pub use case::{Case, case_diagnosis, case_report};
-pub use checked::{Checked, check_report, make_diagnosis, make_report};
+pub use checked::{CheckedView, check_report, make_diagnosis, make_report};
 pub use design::{Design, design_of, design_with, read_bundle};
 pub use diagnosed::{Diagnosis, joined_of};
 pub use log::{ReadLog, log_of, log_over};

@@ -2,7 +2,7 @@
 ghost use Rattle.std.specs.Prelude.{◌≡◌, ◌≤◌, ℕ, List, true, false};
 ghost use Rattle.desk_outside.specs.Faults.{Rose};
 ghost use Rattle.diagnosis.specs.Texts.{Source};
-ghost use Rattle.diagnosis.specs.Halts.{Halt, IsHad, place_of, refused, no_memory, is_failure, ends_by_failure};
+ghost use Rattle.diagnosis.specs.TextHalts.{Halt, IsHad, place_of, refused, no_memory, is_failure, ends_by_failure};
 ghost use Rattle.diagnosis.specs.Bundle.{texts_source};
 ghost use Rattle.diagnosis.specs.Sections.{four_texts, section_of, halt_of};
 
@@ -23,29 +23,29 @@ pub trait TextSource<O> {
     // What names a text, why a text is refused, and what is known of the outside: contracts alone speak of them.
     type Name;
 
-    type Why;
+    type Cause;
 
-    type Known;
+    type Knowledge;
 
     ghost use Rattle.diagnosis.specs.Texts.{Source};
-    ghost use Rattle.diagnosis.specs.Halts.{Halt};
+    ghost use Rattle.diagnosis.specs.TextHalts.{Halt};
 
     /// The bytes of a text.
     ghost shows: { Self.Text → List ℕ };
 
-    ghost halt: { Self.Stop → Halt Self.Name Self.Why };
+    ghost halt: { Self.Stop → Halt Self.Name Self.Cause };
 
-    ghost known: { O → Self.Known };
+    ghost known: { O → Self.Knowledge };
 
     /// How often the outside has failed.
     ghost faults: { O → ℕ };
 
     /// The texts, where they are known.
-    ghost tells: { Self → Self.Known → Source Self.Name Self.Why → Type 0 };
+    ghost tells: { Self → Self.Knowledge → Source Self.Name Self.Cause → Type 0 };
 
     /// The profile of the design.
     fn profile(&self) -> Profile
-        ensures { (seen : Self.Known) (source : Source Self.Name Self.Why) → tells self.now seen source → result ≡ source.profile };
+        ensures { (seen : Self.Knowledge) (source : Source Self.Name Self.Cause) → tells self.now seen source → result ≡ source.profile };
 
     /// One of the texts.
     fn text(
@@ -54,7 +54,7 @@ pub trait TextSource<O> {
         outside: &mut O,
         part: DesignText,
     ) -> Result<Self::Text, Self::Stop>
-        ensures had { (source : Source Self.Name Self.Why) → tells self.now (known outside.old) source → IsHad shows halt (place_of source part) result }
+        ensures had { (source : Source Self.Name Self.Cause) → tells self.now (known outside.old) source → IsHad shows halt (place_of source part) result }
         ensures fault { ends_by_failure halt result ≡ true → Rose (faults outside.old) (faults outside.new) }
         ensures same { known outside.new ≡ known outside.old }
         ensures later { faults outside.old ≤ faults outside.new };
@@ -64,7 +64,7 @@ pub trait TextSource<O> {
 
     /// The stop for the first fault of a text.
     fn stop(&self, part: DesignText, fault: TextFault) -> Self::Stop
-        ensures told { (seen : Self.Known) (source : Source Self.Name Self.Why) → tells self.now seen source
+        ensures told { (seen : Self.Knowledge) (source : Source Self.Name Self.Cause) → tells self.now seen source
             → halt result ≡ refused (place_of source part).name (source.rule (fault.line, fault.rule)) }
         ensures sure { is_failure (halt result) ≡ false };
 
@@ -92,9 +92,9 @@ impl<'a> TextSource<()> for Sections<'a> {
 
     type Name = Section;
 
-    type Why = (u64, u64);
+    type Cause = (u64, u64);
 
-    type Known = ();
+    type Knowledge = ();
 
     ghost use Rattle.std.specs.Prelude.{◌≡◌};
     ghost use Rattle.diagnosis.specs.Bundle.{texts_source};

@@ -9,11 +9,11 @@ ghost use Rattle.scan_model.specs.PatternText.{pattern_frame, pattern_reading};
 ghost use Rattle.bridge_pairs.specs.PairText.{pairs_reading};
 ghost use Rattle.diag_report.specs.PredictedLog.{HasWordNames};
 ghost use Rattle.diagnosis.specs.Texts.{Source, netlist_text, scan_text, pattern_text, neighbour_text, with_circuit, source_reading};
-ghost use Rattle.diagnosis.specs.Halts.{ComesTo, halt_at, place_of, is_failure, ends_by_failure};
-ghost use Rattle.diagnosis.specs.Shown.{IsReading, shown_text, shown_over, shown_design};
+ghost use Rattle.diagnosis.specs.TextHalts.{ComesTo, halt_at, place_of, is_failure, ends_by_failure};
+ghost use Rattle.diagnosis.specs.ReadDesigns.{IsReading, shown_text, shown_over, shown_design};
 ghost use Rattle.diagnosis.specs.Bundle.{texts_reading};
 ghost use Rattle.diagnosis.specs.Sections.{four_texts};
-ghost use Rattle.diagnosis.specs.Reading.{four, RefusedBy};
+ghost use Rattle.diagnosis.specs.ReaderAnswers.{four, RefusedBy};
 
 use crate::bundle::Sections;
 use crate::section::{BundleFault, DesignText};
@@ -59,7 +59,7 @@ impl<T: Drop> ReadDesign<T> {
 }
 
 fn stop_for<O, S: TextSource<O>>(source: &S, part: DesignText, fault: ReadFault) -> S::Stop
-    ensures told { (seen : S.Known) (t : Source S.Name S.Why) → S.tells source.now seen t → S.halt result ≡ halt_at (place_of t part) t.rule fault }
+    ensures told { (seen : S.Knowledge) (t : Source S.Name S.Cause) → S.tells source.now seen t → S.halt result ≡ halt_at (place_of t part) t.rule fault }
     ensures sure { is_failure (S.halt result) ≡ false }
 {
     match fault {
@@ -75,7 +75,7 @@ fn judge<O, S: TextSource<O>, X: Drop>(
     text: S::Text,
     answer: Result<X, ReadFault>,
 ) -> Result<TextReading<S::Text, X>, S::Stop>
-    ensures judged { (seen : S.Known) (t : Source S.Name S.Why) → S.tells source.now seen t → IsReading S.halt (halt_at (place_of t part) t.rule) text answer result }
+    ensures judged { (seen : S.Knowledge) (t : Source S.Name S.Cause) → S.tells source.now seen t → IsReading S.halt (halt_at (place_of t part) t.rule) text answer result }
     ensures value { IfOk result (λ j. (j.text ≡ text) × (answer ≡ Ok j.value)) }
     ensures sure { ends_by_failure S.halt result ≡ false }
 {
@@ -93,7 +93,7 @@ fn read_chains<O, S: TextSource<O>>(
     names: &Names<'_>,
 ) -> Result<TextReading<S::Text, Rows<Chain>>, S::Stop>
     requires { names.now ≡ net_names circuit.now.nets }
-    ensures told { (t : Source S.Name S.Why) → S.tells source.now (S.known outside.old) t → ComesTo S.halt (shown_text S.shows) result (scan_text t circuit.now) }
+    ensures told { (t : Source S.Name S.Cause) → S.tells source.now (S.known outside.old) t → ComesTo S.halt (shown_text S.shows) result (scan_text t circuit.now) }
     ensures stands { IfOk result (λ j. scan_reading circuit.now.nets (S.shows j.text) ≡ Ok j.value) }
     ensures fits { IfOk result (λ j. AreChains circuit.now j.value) }
     ensures fault { ends_by_failure S.halt result ≡ true → Rose (S.faults outside.old) (S.faults outside.new) }
@@ -112,7 +112,7 @@ fn read_patterns<O, S: TextSource<O>>(
     circuit: &Circuit,
     chains: &Rows<Chain>,
 ) -> Result<TextReading<S::Text, Rows<Pattern>>, S::Stop>
-    ensures told { (t : Source S.Name S.Why) → S.tells source.now (S.known outside.old) t → ComesTo S.halt (shown_text S.shows) result (pattern_text t circuit.now chains.now) }
+    ensures told { (t : Source S.Name S.Cause) → S.tells source.now (S.known outside.old) t → ComesTo S.halt (shown_text S.shows) result (pattern_text t circuit.now chains.now) }
     ensures stands { IfOk result (λ j. pattern_reading (pattern_frame circuit.now chains.now) (S.shows j.text) ≡ Ok j.value) }
     ensures fits { IfOk result (λ j. ArePatterns circuit.now chains.now j.value) }
     ensures fault { ends_by_failure S.halt result ≡ true → Rose (S.faults outside.old) (S.faults outside.new) }
@@ -132,7 +132,7 @@ fn read_neighbours<O, S: TextSource<O>>(
     names: &Names<'_>,
 ) -> Result<TextReading<S::Text, Pairs>, S::Stop>
     requires { names.now ≡ net_names circuit.now.nets }
-    ensures told { (t : Source S.Name S.Why) → S.tells source.now (S.known outside.old) t → ComesTo S.halt (shown_text S.shows) result (neighbour_text t circuit.now) }
+    ensures told { (t : Source S.Name S.Cause) → S.tells source.now (S.known outside.old) t → ComesTo S.halt (shown_text S.shows) result (neighbour_text t circuit.now) }
     ensures stands { IfOk result (λ j. pairs_reading circuit.now (S.shows j.text) ≡ Ok j.value) }
     ensures fits { IfOk result (λ j. ArePairs circuit.now j.value) }
     ensures fault { ends_by_failure S.halt result ≡ true → Rose (S.faults outside.old) (S.faults outside.new) }
@@ -154,7 +154,7 @@ fn read_behind<O, S: TextSource<O>>(
     names: &Names<'_>,
 ) -> Result<TestReadings<S::Text>, S::Stop>
     requires { names.now ≡ net_names circuit.now.nets }
-    ensures told { (t : Source S.Name S.Why) → S.tells source.now (S.known outside.old) t
+    ensures told { (t : Source S.Name S.Cause) → S.tells source.now (S.known outside.old) t
         → ComesTo S.halt (shown_over t.profile S.shows (S.shows netlist.now, circuit.now)) result (with_circuit t (S.shows netlist.now, circuit.now)) }
     ensures chains { IfOk result (λ over. (scan_reading circuit.now.nets (S.shows over.chains.text) ≡ Ok over.chains.value) × AreChains circuit.now over.chains.value) }
     ensures patterns { IfOk result (λ over. (pattern_reading (pattern_frame circuit.now over.chains.value) (S.shows over.patterns.text) ≡ Ok over.patterns.value)
@@ -190,7 +190,7 @@ fn read_with<O, S: TextSource<O>>(
     named: NamedCircuit<'_>,
 ) -> Result<DesignReadings<S::Text>, S::Stop>
     requires { named.names ≡ net_names named.circuit.nets }
-    ensures told { (t : Source S.Name S.Why) → S.tells source.now (S.known outside.old) t
+    ensures told { (t : Source S.Name S.Cause) → S.tells source.now (S.known outside.old) t
         → ComesTo S.halt (λ r. shown_over t.profile S.shows (S.shows netlist.now, r.circuit) r.over) result (with_circuit t (S.shows netlist.now, named.entry.circuit)) }
     ensures circuit { IfOk result (λ r. r.circuit ≡ named.entry.circuit) }
     ensures chains { IfOk result (λ r. (scan_reading r.circuit.nets (S.shows r.over.chains.text) ≡ Ok r.over.chains.value) × AreChains r.circuit r.over.chains.value) }
@@ -215,7 +215,7 @@ fn read_over<O, S: TextSource<O>>(
     outside: &mut O,
     netlist: &S::Text,
 ) -> Result<DesignReadings<S::Text>, S::Stop>
-    ensures told { (t : Source S.Name S.Why) → S.tells source.now (S.known outside.old) t → t.netlist.text ≡ Ok (S.shows netlist.now)
+    ensures told { (t : Source S.Name S.Cause) → S.tells source.now (S.known outside.old) t → t.netlist.text ≡ Ok (S.shows netlist.now)
         → ComesTo S.halt (λ r. shown_over t.profile S.shows (S.shows netlist.now, r.circuit) r.over) result (source_reading t) }
     ensures stands { IfOk result (λ r. netlist_reading (S.shows netlist.now) ≡ Ok r.circuit) }
     ensures fits { IfOk result (λ r. IsCircuit r.circuit) }
@@ -277,7 +277,7 @@ pub fn read_from<O, S: TextSource<O>>(
     source: &S,
     outside: &mut O,
 ) -> Result<ReadDesign<S::Text>, S::Stop>
-    ensures told { (t : Source S.Name S.Why) → S.tells source.now (S.known outside.old) t → ComesTo S.halt (shown_design S.shows) result (source_reading t) }
+    ensures told { (t : Source S.Name S.Cause) → S.tells source.now (S.known outside.old) t → ComesTo S.halt (shown_design S.shows) result (source_reading t) }
     ensures stands { IfOk result (λ d. texts_reading (shown_design S.shows d).texts ≡ Ok d.parts) }
     ensures fault { ends_by_failure S.halt result ≡ true → Rose (S.faults outside.old) (S.faults outside.new) }
     ensures same { S.known outside.new ≡ S.known outside.old }
@@ -300,8 +300,8 @@ pub fn read_texts(alloc: Global, texts: &Sections<'_>) -> Result<Parts, BundleFa
     Ok(design.into_parts())
 }
 
-/// The same, of a profile and four texts one by one. The nets and the chains of the parts have
-/// names that a log can name.
+/// The parts that a profile and four texts, given one by one, stand for, or their first fault. The nets and the chains of the
+/// parts have names that a log can name.
 pub fn parts_of(
     alloc: Global,
     profile: Profile,

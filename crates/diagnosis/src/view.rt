@@ -3,7 +3,7 @@ ghost use Rattle.std.specs.Prelude.{◌≡◌, [], true, length, map, IfOk, OnEr
 ghost use Rattle.std.specs.Arc.{arc_value};
 ghost use Rattle.scan_model.specs.Words.{is_tag};
 ghost use Rattle.diagnosis.specs.Designs.{IsLogOf, IsView};
-ghost use Rattle.diagnosis.specs.Adding.{Added};
+ghost use Rattle.diagnosis.specs.LogAddition.{Added};
 
 use crate::design::Design;
 use crate::log::ReadLog;
@@ -55,7 +55,7 @@ impl DieView {
         push_log(&mut self.logs, log)
     }
 
-    // The same die with the same logs once more.
+    // A copy, which holds the design and the logs jointly with this view.
     pub(crate) fn copy(&self, alloc: Global) -> Result<DieView, NoMemory>
         ensures { IfOk result (λ copy. copy ≡ self.now) }
     {

@@ -12,7 +12,7 @@ use Rattle.scan_model.specs.ReportText.{spaced, line, joined, fault_words}
 use Rattle.diag_report.specs.PredictedLog.{fault_of, predicted_bits}
 use Rattle.diag_report.specs.Summary.{count_line}
 use Rattle.made_designs.specs.Demo.{drawn_place, injected_from, own_candidates, own_report, rank_lines, injected_lines}
-use Rattle.made_designs.specs.Injected.{IsDrawn, IsText, head_lines}
+use Rattle.made_designs.specs.InjectedFaults.{IsDrawn, IsText, head_lines}
 
 joined_both : (ls ms : List (List ℕ)) → joined (ls ++ ms) ≡ joined ls ++ joined ms
 joined_both ls ms = flat_map-append (λ piece. piece) ls ms

@@ -7,7 +7,7 @@ use Rattle.diag_report.specs.PredictedLog.{fault_of, predicted_log, predicted_fa
 use Rattle.diagnosis.specs.Designs.{ReadLogFacts}
 use Rattle.diagnosis.specs.Cases.{CaseFacts, IsLogOver}
 use Rattle.made_designs.specs.Demo.{demo_name}
-use Rattle.made_designs.specs.Injected.{IsDemoCase, IsOwnLog}
+use Rattle.made_designs.specs.InjectedFaults.{IsDemoCase, IsOwnLog}
 
 same_value : {X E : Type 0} (r : Result X E) (x y : X) → r ≡ Ok x → r ≡ Ok y → x ≡ y
 same_value r x y a b = cc

@@ -4,9 +4,9 @@ use Rattle.scan_model.specs.ScanTest.{ScanTest}
 use Rattle.diagnosis.specs.declared.section.Section.{Section}
 use Rattle.diagnosis.specs.Texts.{FourTexts}
 use Rattle.diagnosis.specs.Bundle.{texts_reading}
-use Rattle.made_designs.specs.Made.{BreakNoRule, made_texts}
+use Rattle.made_designs.specs.MadeTexts.{BreakNoRule, made_texts}
 use Rattle.made_designs.specs.Demo.{demo_written, text_over}
-use Rattle.made_designs.specs.Injected.{IsText}
+use Rattle.made_designs.specs.InjectedFaults.{IsText}
 
 -- texts that break no rule aren't refused
 pub not_refused : (texts : FourTexts) → BreakNoRule texts → (refused : Section × (ℕ × ℕ)) → texts_reading texts ≡ Err refused → ⊥

@@ -7,9 +7,9 @@ use Rattle.scan_model.specs.ScanTest.{ScanTest}
 use Rattle.scan_model.specs.Universe.{universe}
 use Rattle.diagnosis.specs.Designs.{ReadLogFacts}
 use Rattle.made_laws.specs.Draws.{next_state, state_after, upper, draw}
-use Rattle.made_designs.specs.Made.{text_draws}
+use Rattle.made_designs.specs.MadeTexts.{text_draws}
 use Rattle.made_designs.specs.Demo.{tried_places, predicts_some, injected_from, drawn_place}
-use Rattle.made_designs.specs.Injected.{IsOwnLog, IsFirst, IsAfterTexts, IsDrawn}
+use Rattle.made_designs.specs.InjectedFaults.{IsOwnLog, IsFirst, IsAfterTexts, IsDrawn}
 use Rattle.made_designs.proofs.FirstPlace.{found_first, found_none}
 
 some_or_none : (n : ℕ) → ltb 0 n ≡ not (eqb n 0)

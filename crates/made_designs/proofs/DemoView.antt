@@ -10,7 +10,7 @@ use Rattle.diagnosis.specs.declared.put.Put.TheVariants.{Created, Same}
 use Rattle.diagnosis.specs.Designs.{ReadLogFacts, facts_of}
 use Rattle.diagnosis.specs.Cases.{CaseFacts, IsLogOver, AddedAmong, with_logs, case_report}
 use Rattle.made_designs.specs.Demo.{demo_name, own_candidates, own_report}
-use Rattle.made_designs.specs.Injected.{IsDemoCase, IsOwnLog, demo_case}
+use Rattle.made_designs.specs.InjectedFaults.{IsDemoCase, IsOwnLog, demo_case}
 
 pub is_demo_case : (t : ScanTest) (k : CaseFacts) → k ≡ demo_case t [] → IsDemoCase k
 is_demo_case t k is = record { is = is ∙ ap (λ (t : ScanTest). demo_case t []) (sym (ap (λ (k : CaseFacts). k.test) is)) }

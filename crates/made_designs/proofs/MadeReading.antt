@@ -17,7 +17,7 @@ use Rattle.diagnosis.proofs.AreRead.{read_whole}
 use Rattle.scan_model.specs.declared.fault.Profile.TheVariants.{One}
 use Rattle.made_laws.specs.MadeScan.{chain_count}
 use Rattle.made_laws.specs.MadeNetlist.{gate_name, made_netlist}
-use Rattle.made_designs.specs.Made.{BreakNoRule, made_texts}
+use Rattle.made_designs.specs.MadeTexts.{BreakNoRule, made_texts}
 use Rattle.made_laws.proofs.MadeCircuit.{made_circuit, netlist_stands, input_count, cell_is_net, cell_is_flop, gate_is_net, gate_number}
 use Rattle.made_laws.proofs.MadeChains.{made_chain, scan_stands, chain_lengths}
 use Rattle.made_laws.proofs.MadeLoads.{made_frame, patterns_stand}

@@ -16,7 +16,7 @@ use Rattle.diag_report.specs.Summary.{count_line}
 use Rattle.diagnosis.specs.declared.section.Section.{Section}
 use Rattle.diagnosis.specs.Bundle.{texts_reading}
 use Rattle.made_laws.specs.Draws.{draw}
-use Rattle.made_designs.specs.Made.{made_texts, text_draws}
+use Rattle.made_designs.specs.MadeTexts.{made_texts, text_draws}
 
 -- the name of the design and of the die
 abbrev pub demo_name : List ℕ

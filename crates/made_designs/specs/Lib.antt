@@ -1,3 +1,4 @@
-pub mod Made
+-- The spec modules: the texts of a made design, and the text of `demo`.
+pub mod MadeTexts
 pub mod Demo
-pub mod Injected
+pub mod InjectedFaults

@@ -11,15 +11,15 @@ ghost use Rattle.scan_model.specs.ReportText as text_of;
 ghost use Rattle.diag_report.specs.PredictedLog.{HasWordNames, fault_of};
 ghost use Rattle.diag_report.specs.Summary.{count_line};
 ghost use Rattle.diagnosis.specs.Bundle.{texts_reading};
-ghost use Rattle.diagnosis.specs.Reading.{RefusedBy};
+ghost use Rattle.diagnosis.specs.ReaderAnswers.{RefusedBy};
 ghost use Rattle.made_designs.specs.Demo.{demo_written, injected_lines, rank_lines};
-ghost use Rattle.made_designs.specs.Made.{BreakNoRule};
-ghost use Rattle.made_designs.specs.Injected.{IsDemoCase, IsFound, IsAfterTexts, IsText, place_of, texts_of};
+ghost use Rattle.made_designs.specs.MadeTexts.{BreakNoRule};
+ghost use Rattle.made_designs.specs.InjectedFaults.{IsDemoCase, IsFound, IsAfterTexts, IsText, place_of, texts_of};
 
 use crate::demo::diagnosed::diagnosis_of;
-use crate::demo::injected::{Injected, inject};
+use crate::demo::injected::{InjectedFault, inject};
 use crate::demo::lines::{add_count, add_digest, add_head, add_injected, add_rank};
-use crate::design::{Made, made_design};
+use crate::design::{MadeDesign, made_design};
 use crate::draws::Draws;
 use diagnosis::{BundleFault, Case, Diagnosis, parts_of};
 use scan_model::{Name, NoMemory, Parts, Profile, Rows};
@@ -39,7 +39,7 @@ fn add_fault(
     alloc: Global,
     text: &mut Name,
     parts: &Parts,
-    injected: &Injected,
+    injected: &InjectedFault,
 ) -> Result<(), NoMemory>
     requires { injected.now.place < length (universe parts.now) }
     ensures { OnOk result (text.new ≡ (text.old ++ text_of.line (codes "injected" ∷ decimal injected.now.place ∷ text_of.fault_words parts.now (fault_of parts.now injected.now.place)))
@@ -77,7 +77,7 @@ fn add_diagnosis<R: Threads + Sync>(
     alloc: Global,
     text: &mut Name,
     case: &mut Case,
-    injected: Injected,
+    injected: InjectedFault,
 ) -> Result<(), NoMemory>
     requires case { IsDemoCase case.old }
     requires found { IsFound case.old.test injected }
@@ -95,7 +95,7 @@ fn add_found<R: Threads + Sync>(
     alloc: Global,
     text: &mut Name,
     case: &mut Case,
-    injected: Option<Injected>,
+    injected: Option<InjectedFault>,
 ) -> Result<(), NoMemory>
     requires case { IsDemoCase case.old }
     requires found { IfSome injected (IsFound case.old.test) }
@@ -144,7 +144,7 @@ fn text_of_design<R: Threads + Sync>(
 }
 
 // The scan test of the texts that were made.
-fn read_made(alloc: Global, made: &Made) -> Result<Parts, BundleFault>
+fn read_made(alloc: Global, made: &MadeDesign) -> Result<Parts, BundleFault>
     ensures stands { IfOk result (λ parts. texts_reading (texts_of made.now) ≡ Ok parts) }
     ensures names { IfOk result HasWordNames }
     ensures fault { IfErr result (RefusedBy (texts_reading (texts_of made.now))) }
@@ -159,8 +159,8 @@ fn read_made(alloc: Global, made: &Made) -> Result<Parts, BundleFault>
     )
 }
 
-// The same of texts that break no rule.
-fn parts_of_made(alloc: Global, made: &Made) -> Result<Parts, NoMemory>
+// The scan test of the texts that were made, where they break no rule.
+fn parts_of_made(alloc: Global, made: &MadeDesign) -> Result<Parts, NoMemory>
     requires { BreakNoRule (texts_of made.now) }
     ensures stands { IfOk result (λ parts. texts_reading (texts_of made.now) ≡ Ok parts) }
     ensures names { IfOk result HasWordNames }

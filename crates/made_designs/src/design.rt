@@ -1,8 +1,8 @@
 //! The generator: the four texts of a design of so many blocks, drawn from a seed.
 ghost use Rattle.std.specs.Prelude.{◌≡◌, ◌≤◌, IfOk};
 ghost use Rattle.made_laws.specs.Draws.{state_after};
-ghost use Rattle.made_designs.specs.Made.{BreakNoRule, made_texts, text_draws};
-ghost use Rattle.diagnosis.specs.Reading.{four};
+ghost use Rattle.made_designs.specs.MadeTexts.{BreakNoRule, made_texts, text_draws};
+ghost use Rattle.diagnosis.specs.ReaderAnswers.{four};
 ghost use Rattle.scan_model.specs.declared.fault.Profile.TheVariants as profile;
 
 use crate::draws::Draws;
@@ -15,7 +15,7 @@ use std::alloc::Global;
 
 /// A design that is made: its texts, and the draws that come after them.
 #[derive(Drop)]
-pub struct Made {
+pub struct MadeDesign {
     pub netlist: Name,
     pub scan: Name,
     pub patterns: Name,
@@ -24,7 +24,7 @@ pub struct Made {
 }
 
 /// The design of a seed and so many blocks. With one block or more its texts break no rule.
-pub fn made_design(alloc: Global, seed: u32, blocks: u32) -> Result<Made, NoMemory>
+pub fn made_design(alloc: Global, seed: u32, blocks: u32) -> Result<MadeDesign, NoMemory>
     requires { blocks ≤ 200 }
     ensures texts { IfOk result (λ made. four profile.One made.netlist made.scan made.patterns made.neighbours ≡ made_texts seed blocks) }
     ensures draws { IfOk result (λ made. made.draws.state ≡ state_after seed (text_draws blocks)) }
@@ -35,7 +35,7 @@ pub fn made_design(alloc: Global, seed: u32, blocks: u32) -> Result<Made, NoMemo
     let scan = made_scan(alloc, blocks)?;
     let patterns = made_patterns(alloc, blocks, &mut draws)?;
     let neighbours = made_pairs(alloc, blocks)?;
-    Ok(Made {
+    Ok(MadeDesign {
         netlist,
         scan,
         patterns,

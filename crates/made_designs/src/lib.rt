@@ -12,5 +12,5 @@ mod patterns;
 mod scan;
 
 pub use demo::{Demo, demo_text};
-pub use design::{Made, made_design};
+pub use design::{MadeDesign, made_design};
 pub use draws::Draws;

@@ -1,1 +1,2 @@
+-- The spec modules: kept reports beside the deeds that they are of.
 pub mod Truth

@@ -1,3 +1,4 @@
+//! A connection over a shared desk, beside the bytes that it is sent and the marks of its calls.
 ghost use Rattle.std.specs.Prelude.{◌<◌};
 ghost use Rattle.desk_outside.specs.LinkMemory.{IsUnusedLink};
 

@@ -7,7 +7,7 @@ use mathlib.Core.Option as found
 use lib.ListN.{get_elem?}
 use Rattle.atomic_table.specs.Table.{State, Me, keeps, takes, Allows}
 use Rattle.atomic_table.proofs.Lists.{set_again}
-use Rattle.book.specs.Legal.{is_legal}
+use Rattle.book.specs.LegalDeeds.{is_legal}
 use Rattle.shared_desk.specs.declared.turns.About.{About}
 use Rattle.shared_desk.specs.declared.turns.View.{View}
 use Rattle.shared_desk.specs.Entries.{mine_of}

@@ -10,7 +10,7 @@ use Rattle.diagnosis.specs.declared.put.Put.{Put}
 use Rattle.diagnosis.specs.declared.put.Put.TheVariants.{Created, Same}
 use Rattle.book.specs.declared.answers.PutFault.{PutFault}
 use Rattle.book.specs.declared.answers.PutFault.TheVariants.{NameTaken, UnknownDesign, DigestDiffers, Full, Failed, NoMemory}
-use Rattle.book.specs.Legal.{is_legal}
+use Rattle.book.specs.LegalDeeds.{is_legal}
 use Rattle.diagnosis.specs.Designs.{ReadLogFacts, ViewFacts}
 use Rattle.book.specs.Deeds.{design_text}
 use Rattle.book.specs.Changes.{BookFacts, IsBook, Answered, Changed, after, StandsIn, IsViewIn}

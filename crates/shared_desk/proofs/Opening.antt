@@ -9,7 +9,7 @@ use mathlib.Core.Option.{some-injective, some-ne-none}
 use lib.ListN.{get_elem?}
 use Rattle.atomic_table.specs.Table.{opening}
 use Rattle.desk_outside.specs.declared.deed.Deed.{Deed}
-use Rattle.book.specs.Legal.{is_legal}
+use Rattle.book.specs.LegalDeeds.{is_legal}
 use Rattle.shared_desk.specs.declared.turns.View.{View}
 use Rattle.shared_desk.specs.OpenBooks.{OpenBookFacts}
 use Rattle.shared_desk.specs.Turns.{Kept, IsSpent, IsSeat, IsFirst, IsNoted, about_of, first_view}

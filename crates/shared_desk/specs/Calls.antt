@@ -5,7 +5,7 @@ use Rattle.desk_outside.specs.declared.deed.Deed.{Deed}
 use Rattle.diagnosis.specs.declared.put.Put.{Put}
 use Rattle.book.specs.declared.answers.PutFault.{PutFault}
 use Rattle.book.specs.Changes.{Answered, after}
-use Rattle.book.specs.Legal.{is_legal}
+use Rattle.book.specs.LegalDeeds.{is_legal}
 use Rattle.shared_desk.specs.OpenBooks.{faults_after}
 use Rattle.shared_desk.specs.Seats.{SeatFacts, mine, failed}
 

@@ -8,7 +8,7 @@ use mathlib.Core.List.{IsPrefix}
 use lib.ListN.{get_elem?}
 use Rattle.atomic_table.specs.Table.{State, Me, rest}
 use Rattle.desk_outside.specs.declared.deed.Deed.{Deed}
-use Rattle.book.specs.Legal.{is_legal}
+use Rattle.book.specs.LegalDeeds.{is_legal}
 use Rattle.shared_desk.specs.declared.turns.About.{About}
 use Rattle.shared_desk.specs.declared.turns.Note.{Note}
 use Rattle.shared_desk.specs.declared.turns.View.{View}

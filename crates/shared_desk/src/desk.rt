@@ -15,7 +15,7 @@ use crate::seat::DeskSeat;
 use crate::steps::{give_book, take_book};
 use crate::turns::DeskTable;
 use atomic_table::Badge;
-use book::{Checked, Design, Put, PutFault, ReadLog};
+use book::{CheckedView, Design, Put, PutFault, ReadLog};
 use desk_outside::Keeper;
 use scan_model::{Digest, Name};
 use std::marker::Model;
@@ -105,7 +105,7 @@ impl<K: Keeper> Desk<K> {
         &self,
         rt: &R,
         seat: &mut DeskSeat,
-        checked: &Checked,
+        checked: &CheckedView,
         signer: &Name,
         digest: &Digest,
     ) -> Marked<Result<Put, PutFault>>

@@ -9,7 +9,7 @@ ghost use Rattle.book.specs.Changes.{IsBook, Changed, Looked, StandsIn, IsViewIn
 ghost use Rattle.book.specs.Kinds.{design_deed, log_deed, sign_deed, text_behind};
 ghost use Rattle.shared_desk.specs.OpenBooks.{OpenBookFacts, AreCounted, faults_after};
 
-use book::{Book, Checked, Design, DieView, LookFault, Put, PutFault, ReadLog, Sign};
+use book::{Book, CheckedView, Design, DieView, LookFault, Put, PutFault, ReadLog, Sign};
 use desk_outside::Keeper;
 use scan_model::{Digest, Name};
 use std::alloc::Global;
@@ -120,7 +120,7 @@ impl<K: Keeper> OpenBook<K> {
     pub fn sign(
         &mut self,
         by: u32,
-        checked: &Checked,
+        checked: &CheckedView,
         signer: &Name,
         digest: &Digest,
     ) -> Result<Put, PutFault>

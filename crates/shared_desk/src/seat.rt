@@ -1,6 +1,6 @@
 //! A seat of a desk.
 ghost use Rattle.std.specs.Prelude.{◌≡◌, ◌≤◌, true, length};
-ghost use Rattle.book.specs.Legal.{is_legal};
+ghost use Rattle.book.specs.LegalDeeds.{is_legal};
 
 use crate::turns::View;
 use atomic_table::Badge;

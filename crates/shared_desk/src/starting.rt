@@ -3,7 +3,7 @@ ghost use Rattle.std.specs.Prelude.{◌≡◌, ◌≤◌, ◌<◌, ◌+◌, ℕ,
 ghost use Rattle.desk_outside.specs.declared.deed.Deed.{Deed};
 ghost use Rattle.desk_outside.specs.Faults.{Rose};
 ghost use Rattle.book.specs.declared.opening.StartFault.{StartFault};
-ghost use Rattle.book.specs.Legal.{is_legal, spoiled_row};
+ghost use Rattle.book.specs.LegalDeeds.{is_legal, spoiled_row};
 ghost use Rattle.shared_desk.specs.Turns.{about_of, fresh_view};
 ghost use Rattle.shared_desk.specs.Stages.{IsAt};
 ghost use Rattle.shared_desk.specs.Seats.{SeatFacts, desk_facts, IsOpening};
@@ -15,7 +15,7 @@ use crate::seat::DeskSeat;
 use crate::steps::make_seat;
 use crate::turns::{Opening, Place, PlaceSeat};
 use atomic_table::Table;
-use book::{Book, NotStarted, StartFault};
+use book::{Book, StartFault, UnopenedBook};
 use desk_outside::Keeper;
 use scan_model::Rows;
 use std::alloc::Global;
@@ -23,12 +23,12 @@ use std::snapshot::Snapshot;
 use std::thread::Threads;
 
 // Want of memory, with the keeper of a book that was opened.
-fn without_memory<K: Keeper>(slot: Option<OpenBook<K>>) -> NotStarted<K>
+fn without_memory<K: Keeper>(slot: Option<OpenBook<K>>) -> UnopenedBook<K>
     ensures fault { result.fault ≡ StartFault.NoMemory }
     ensures keeper { IfSome result.keeper (λ k. IfSome slot (λ b. (K.rows k ≡ b.book.rows) × (K.faults k ≡ b.book.faults))) }
     ensures home { IsSome slot → IsSome result.keeper }
 {
-    NotStarted {
+    UnopenedBook {
         fault: StartFault::NoMemory,
         keeper: slot.map(|open| open.into_book().close()),
     }
@@ -143,7 +143,7 @@ pub fn start<R: Threads + Sync, K: Keeper>(
     keeper: K,
     max_deeds: u32,
     seats: u32,
-) -> Result<(Desk<K>, Rows<DeskSeat>), NotStarted<K>>
+) -> Result<(Desk<K>, Rows<DeskSeat>), UnopenedBook<K>>
     requires some { 0 < seats }
     requires few { seats ≤ 64 }
     ensures started { IfOk result (λ r. IsStarted (K.rows keeper) max_deeds seats (K.faults keeper) r.0 r.1) }
@@ -154,7 +154,7 @@ pub fn start<R: Threads + Sync, K: Keeper>(
     ensures failed { IfErr result (λ refused. refused.fault ≡ StartFault.Failed → IfSome refused.keeper (λ k. Rose (K.faults keeper) (K.faults k))) }
 {
     let Ok(list) = Vec::with_capacity(alloc, seats as usize) else {
-        return Err(NotStarted {
+        return Err(UnopenedBook {
             fault: StartFault::NoMemory,
             keeper: Some(keeper),
         });

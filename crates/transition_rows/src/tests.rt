@@ -1,3 +1,4 @@
+//! The tests: frames, slow nets and counts, beside the definition written out.
 mod cases;
 mod counted;
 mod frames;

@@ -1,3 +1,4 @@
+//! The tests, by what they call.
 mod counts;
 mod designs;
 mod faults;

@@ -1,3 +1,4 @@
+//! A sink in memory that takes a page byte by byte.
 ghost use Rattle.std.specs.Prelude.{◌≡◌};
 
 use desk_outside::{Failed, Sink};
@@ -9,7 +10,7 @@ pub(super) struct ByteSink<O: Sink> {
 }
 
 impl<O: Sink> ByteSink<O> {
-    // The same sink, byte by byte.
+    // This sink, which now takes one byte at each write.
     pub(super) fn over(sink: O) -> ByteSink<O>
         ensures { result.sink ≡ sink }
     {

@@ -1,6 +1,6 @@
 //! A shelf and a sink that fail once, at each of their calls in turn.
 use super::byte_sink::ByteSink;
-use super::runs::{Outside, cabinet, shelf, sink, status, street};
+use super::runs::{MemOutside, cabinet, shelf, sink, status, street};
 use scan_model::Rows;
 use std::alloc::Global;
 use std::process::Abort;
@@ -50,8 +50,8 @@ const REPORTS: &[(u64, u64, u8, &[u8])] = &[
 ];
 
 // A street and a cabinet that are empty, and a shelf whose read with this number fails.
-fn outside(rt: &impl Abort, alloc: Global, read: u64) -> Outside {
-    Outside {
+fn outside(rt: &impl Abort, alloc: Global, read: u64) -> MemOutside {
+    MemOutside {
         shelf: shelf(rt, alloc, read),
         street: street(rt, alloc, Rows::new(alloc), 0),
         cabinet: cabinet(rt, alloc, Rows::new(alloc), 0),

@@ -64,7 +64,7 @@ pub fn strings(rt: &impl Abort, alloc: Global, words: &[&str]) -> Vec<String> {
 
 /// What a run is over, beside its sink.
 #[derive(Drop)]
-pub struct Outside {
+pub struct MemOutside {
     pub shelf: MemShelf,
     pub street: MemStreet,
     pub cabinet: MemCabinet,
@@ -75,11 +75,11 @@ pub fn status<R: Abort + Threads + Wait + Sync, O: Sink>(
     rt: &R,
     alloc: Global,
     words: &[&str],
-    outside: &mut Outside,
+    outside: &mut MemOutside,
     sink: &mut O,
 ) -> u8 {
     let words = strings(rt, alloc, words);
-    let Outside {
+    let MemOutside {
         shelf,
         street,
         cabinet,

@@ -3,7 +3,7 @@ ghost use Rattle.std.specs.Prelude.{◌≡◌, ◌∷◌, [], All};
 ghost use Rattle.desk_outside.specs.DoorMemory.{IsUnusedDoor};
 ghost use Rattle.desk_outside.specs.KeeperMemory.{HasNotFailed};
 
-use super::runs::{Outside, cabinet, only, shelf, sink, status, street};
+use super::runs::{MemOutside, cabinet, only, shelf, sink, status, street};
 use desk_outside::{DoorHome, MemDoor, MemKeeper, MemLink};
 use scan_model::{Name, Rows};
 use std::alloc::Global;
@@ -18,7 +18,7 @@ const TWO_WORKERS: &[&str] = &["serve", "8080", "2", "1", "desk"];
 // The numbers of the calls that fail, none where a number is 0: of the street, its first door, the
 // cabinet, the keeper and the sink.
 #[derive(Clone, Copy)]
-struct Failing {
+struct FailingCalls {
     street: u64,
     door: u64,
     cabinet: u64,
@@ -26,7 +26,7 @@ struct Failing {
     sink: u64,
 }
 
-const NOTHING: Failing = Failing {
+const NOTHING: FailingCalls = FailingCalls {
     street: 0,
     door: 0,
     cabinet: 0,
@@ -39,7 +39,7 @@ const NOTHING: Failing = Failing {
 #[derive(Clone, Copy)]
 struct Row {
     words: &'static [&'static str],
-    failing: Failing,
+    failing: FailingCalls,
     status: u8,
     text: &'static [u8],
     doors: &'static [(bool, usize)],
@@ -49,7 +49,7 @@ struct Row {
 const ROWS: [Row; 7] = [
     Row {
         words: ONE_WORKER,
-        failing: Failing {
+        failing: FailingCalls {
             keeper: 1,
             ..NOTHING
         },
@@ -61,7 +61,7 @@ const ROWS: [Row; 7] = [
     // No keeper is handed out.
     Row {
         words: ONE_WORKER,
-        failing: Failing {
+        failing: FailingCalls {
             cabinet: 1,
             ..NOTHING
         },
@@ -72,7 +72,7 @@ const ROWS: [Row; 7] = [
     },
     Row {
         words: ONE_WORKER,
-        failing: Failing {
+        failing: FailingCalls {
             street: 1,
             ..NOTHING
         },
@@ -84,7 +84,7 @@ const ROWS: [Row; 7] = [
     // The other worker goes on.
     Row {
         words: TWO_WORKERS,
-        failing: Failing { door: 1, ..NOTHING },
+        failing: FailingCalls { door: 1, ..NOTHING },
         status: 10,
         text: b"serving 8080\nstreet fault\n",
         doors: &[(true, 0), (false, 1)],
@@ -93,7 +93,7 @@ const ROWS: [Row; 7] = [
     // Each write fails in turn.
     Row {
         words: ONE_WORKER,
-        failing: Failing { sink: 1, ..NOTHING },
+        failing: FailingCalls { sink: 1, ..NOTHING },
         status: 6,
         text: b"",
         doors: &[(false, 0)],
@@ -101,7 +101,7 @@ const ROWS: [Row; 7] = [
     },
     Row {
         words: ONE_WORKER,
-        failing: Failing { sink: 2, ..NOTHING },
+        failing: FailingCalls { sink: 2, ..NOTHING },
         status: 6,
         text: b"serving 8080\n",
         doors: &[(false, 1)],
@@ -109,7 +109,7 @@ const ROWS: [Row; 7] = [
     },
     Row {
         words: ONE_WORKER,
-        failing: Failing { sink: 3, ..NOTHING },
+        failing: FailingCalls { sink: 3, ..NOTHING },
         status: 0,
         text: b"serving 8080\nsessions 1 deeds 0\n",
         doors: &[(false, 1)],
@@ -141,10 +141,10 @@ fn keeper(rt: &impl Abort, alloc: Global, fails: u64) -> MemKeeper
     MemKeeper::make_failing(alloc, Rows::new(alloc), only(rt, alloc, fails)).expect(rt, "memory")
 }
 
-fn outside(rt: &impl Abort, alloc: Global, failing: &Failing) -> Outside {
+fn outside(rt: &impl Abort, alloc: Global, failing: &FailingCalls) -> MemOutside {
     let doors = two_doors(rt, alloc, failing.door);
     let keepers = only(rt, alloc, keeper(rt, alloc, failing.keeper));
-    Outside {
+    MemOutside {
         shelf: shelf(rt, alloc, 0),
         street: street(rt, alloc, doors, failing.street),
         cabinet: cabinet(rt, alloc, keepers, failing.cabinet),
@@ -161,7 +161,7 @@ fn are_home(doors: &[DoorHome], due: &[(bool, usize)]) -> bool {
 }
 
 // All that was handed out is home again, and each door was one of the port.
-fn is_over(outside: &Outside, row: &Row) -> bool {
+fn is_over(outside: &MemOutside, row: &Row) -> bool {
     let ports = &[8080, 8080][..];
     ports.get(..row.doors.len()) == Some(outside.street.ports())
         && are_home(outside.street.home(), row.doors)

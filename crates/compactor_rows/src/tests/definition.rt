@@ -93,7 +93,7 @@ fn is_seen(alloc: Global, case: Case<'_>, pattern: u32) -> Result<bool, NoMemory
     Ok(true)
 }
 
-/// The same of all patterns.
+/// Whether the expected values of all patterns are those that a tester sees without a fault.
 pub(crate) fn are_seen(alloc: Global, case: Case<'_>) -> Result<bool, NoMemory>
     requires test { IsJoinedOf (length case.parts.now.patterns) (length case.compact.now.points) case.joined.now }
     requires fits { FitsExpected case.expected.now case.joined.now }

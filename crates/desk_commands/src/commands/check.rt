@@ -5,8 +5,8 @@ ghost use Rattle.desk_outside.specs.Faults.{Rose};
 ghost use Rattle.diag_report.specs.Summary.{summary_text};
 ghost use Rattle.diagnosis.specs.Texts.{value};
 ghost use Rattle.desk_commands.specs.Work.{check_reading};
-ghost use Rattle.command_words.specs.Shown.{shown_files};
-ghost use Rattle.desk_commands.specs.Stops.{Follows, ends_by_fault};
+ghost use Rattle.command_words.specs.CommandViews.{shown_files};
+ghost use Rattle.desk_commands.specs.CommandStops.{Follows, ends_by_fault};
 
 use crate::design::read_design;
 use crate::files::Stop;

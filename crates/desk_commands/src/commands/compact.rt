@@ -9,10 +9,10 @@ ghost use Rattle.chain_compactor.specs.Channels.{IsCompactorOf};
 ghost use Rattle.chain_compactor.specs.ChannelText.{channel_reading};
 ghost use Rattle.chain_compactor.specs.Compaction.{compact_candidates, compact_rows};
 ghost use Rattle.chain_compactor.specs.CompactReport.{compact_report};
-ghost use Rattle.command_words.specs.Shown.{shown_order};
-ghost use Rattle.desk_commands.specs.Reading.{file_reading};
+ghost use Rattle.command_words.specs.CommandViews.{shown_order};
+ghost use Rattle.desk_commands.specs.FileReadings.{file_reading};
 ghost use Rattle.desk_commands.specs.Logs.{StandsForSome};
-ghost use Rattle.desk_commands.specs.Stops.{Follows, ends_by_fault};
+ghost use Rattle.desk_commands.specs.CommandStops.{Follows, ends_by_fault};
 ghost use Rattle.desk_commands.specs.Views.{compact_reading, with_channels};
 
 use crate::design::read_design;
@@ -34,7 +34,7 @@ use text_parts::ReadFault;
 
 // A die that a tester saw through a compactor.
 #[derive(Clone, Copy)]
-struct Compacted<'v> {
+struct CompactorView<'v> {
     parts: &'v Parts,
     compact: &'v Compact,
     design: &'v [u8],
@@ -103,7 +103,7 @@ fn text_over(
     compact_text(alloc, parts, compact, head, &expected, joined, &rows)
 }
 
-impl<'v> View for Compacted<'v> {
+impl<'v> View for CompactorView<'v> {
     ghost use Rattle.chain_compactor.specs.Channels.{IsCompactorOf};
     ghost use Rattle.chain_compactor.specs.CompactLog.{compact_frame};
     ghost use Rattle.chain_compactor.specs.CompactReport.{compact_report};
@@ -170,7 +170,7 @@ fn report_over<'a, F: Shelf>(
     ensures later { F.faults shelf.old ≤ F.faults shelf.new }
 {
     let compact = read_compactor(alloc, shelf, order.channels, parts)?;
-    let view = Compacted {
+    let view = CompactorView {
         parts,
         compact: &compact,
         design: order.design.as_bytes(),

@@ -1,7 +1,7 @@
 //! `demo`: a design that is made, a fault that is put into it, and its diagnosis.
 ghost use Rattle.std.specs.Prelude.{◌≡◌, ◌≢◌, ◌≤◌, IfOk, true};
 ghost use Rattle.desk_commands.specs.Demo.{demo_output};
-ghost use Rattle.desk_commands.specs.Ending.{is_one_of, page_statuses};
+ghost use Rattle.desk_commands.specs.CommandEnds.{is_one_of, page_statuses};
 
 use crate::page::Page;
 use command_words::Demo;

@@ -5,10 +5,10 @@ ghost use Rattle.desk_outside.specs.Faults.{Rose};
 ghost use Rattle.scan_model.specs.Words.{is_tag};
 ghost use Rattle.diagnosis.specs.Texts.{ReadTexts};
 ghost use Rattle.desk_commands.specs.Designs.{shown_design};
-ghost use Rattle.command_words.specs.Asked.{Request};
+ghost use Rattle.command_words.specs.Invocations.{Request};
 ghost use Rattle.desk_commands.specs.Work.{with_design, report_reading};
-ghost use Rattle.command_words.specs.Shown.{shown_order};
-ghost use Rattle.desk_commands.specs.Stops.{Follows, ends_by_fault};
+ghost use Rattle.command_words.specs.CommandViews.{shown_order};
+ghost use Rattle.desk_commands.specs.CommandStops.{Follows, ends_by_fault};
 
 use crate::design::read_design;
 use crate::files::Stop;

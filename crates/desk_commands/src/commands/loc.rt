@@ -7,9 +7,9 @@ ghost use Rattle.scan_model.specs.ScanTest.{points_of};
 ghost use Rattle.log_join.specs.Joining.{StandsFor, IsJoinedOf};
 ghost use Rattle.two_frame.specs.TwoFrame.{frame_report};
 ghost use Rattle.two_frame.specs.FrameRows.{AllCapture};
-ghost use Rattle.command_words.specs.Shown.{shown_order};
+ghost use Rattle.command_words.specs.CommandViews.{shown_order};
 ghost use Rattle.desk_commands.specs.Logs.{StandsForSome};
-ghost use Rattle.desk_commands.specs.Stops.{Follows, ends_by_fault};
+ghost use Rattle.desk_commands.specs.CommandStops.{Follows, ends_by_fault};
 ghost use Rattle.desk_commands.specs.Views.{loc_reading};
 
 use crate::files::Stop;
@@ -27,7 +27,7 @@ use two_frame::{FrameGood, counts_over, expected_over, frame_text};
 
 // A die that was tested with two-frame patterns.
 #[derive(Clone, Copy)]
-struct Launched<'v> {
+struct LaunchView<'v> {
     parts: &'v Parts,
     design: &'v [u8],
     die: &'v [u8],
@@ -47,7 +47,7 @@ fn text_over(alloc: Global, parts: &Parts, head: &Head, joined: &Joined) -> Resu
     frame_text(alloc, parts, head, &expected, joined, &rows)
 }
 
-impl<'v> View for Launched<'v> {
+impl<'v> View for LaunchView<'v> {
     ghost use Rattle.scan_model.specs.LogText.{log_frame};
     ghost use Rattle.two_frame.specs.TwoFrame.{frame_report};
     ghost use Rattle.two_frame.specs.FrameRows.{AllCapture};
@@ -89,7 +89,7 @@ pub fn transition_report_of<'a, F: Shelf>(
     ensures later { F.faults shelf.old ≤ F.faults shelf.new }
 {
     let parts = read_launch_design(alloc, shelf, &order.files)?;
-    let view = Launched {
+    let view = LaunchView {
         parts: &parts,
         design: order.design.as_bytes(),
         die: order.die.as_bytes(),

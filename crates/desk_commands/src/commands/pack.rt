@@ -6,8 +6,8 @@ ghost use Rattle.diagnosis.specs.Texts.{value};
 ghost use Rattle.diagnosis.specs.Bundle.{bundle_text};
 ghost use Rattle.desk_commands.specs.Designs.{shown_design};
 ghost use Rattle.desk_commands.specs.Work.{pack_reading};
-ghost use Rattle.command_words.specs.Shown.{shown_files};
-ghost use Rattle.desk_commands.specs.Stops.{Follows, ends_by_fault};
+ghost use Rattle.command_words.specs.CommandViews.{shown_files};
+ghost use Rattle.desk_commands.specs.CommandStops.{Follows, ends_by_fault};
 
 use crate::design::read_design;
 use crate::files::Stop;

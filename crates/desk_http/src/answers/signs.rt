@@ -11,7 +11,7 @@ ghost use Rattle.desk_replies.specs.Responses.{response_of};
 
 use crate::answers::signoff::{BodyFault, sign_body};
 use crate::sessions::seat::SeatAt;
-use book::{Checked, Sign};
+use book::{CheckedView, Sign};
 use desk_outside::Gate;
 use desk_replies::{
     Entry, Response, Status, TextKind, Unanswered, put_response, refused_look, sign_off_body,
@@ -78,7 +78,7 @@ fn put_sign<R: Threads + Sync, D, S: SeatAt<R, D>, G: Gate>(
     // The report's digest is the die's by what the view says of itself.
     let _revision = view.revision();
     let report = cache.report(rt, alloc, &view)?;
-    let checked = Checked::by_digest(view, *report.digest());
+    let checked = CheckedView::by_digest(view, *report.digest());
     gate.pass();
     put_response(
         Entry::SignOff,

@@ -2,7 +2,7 @@
 ghost use Rattle.desk_http.specs.DeskSeats.{of_desk, IsSeatOf};
 
 use crate::sessions::seat::SeatAt;
-use book::{Checked, Design, DieView, LookFault, Put, PutFault, ReadLog, Sign};
+use book::{CheckedView, Design, DieView, LookFault, Put, PutFault, ReadLog, Sign};
 use desk_outside::Keeper;
 use scan_model::{Digest, Name};
 use shared_desk::{Desk, DeskSeat};
@@ -38,7 +38,7 @@ impl<R: Wait, K: Keeper> SeatAt<R, Desk<K>> for DeskSeat {
         &mut self,
         rt: &R,
         desk: &Desk<K>,
-        checked: &Checked,
+        checked: &CheckedView,
         signer: &Name,
         digest: &Digest,
     ) -> Result<Put, PutFault> {

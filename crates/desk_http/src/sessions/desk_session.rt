@@ -2,7 +2,7 @@
 ghost use Rattle.std.specs.Prelude.{◌≡◌, ◌≤◌, ◌⊎◌, length, true, Some};
 ghost use Rattle.desk_outside.specs.Doors.{DoorTold};
 ghost use Rattle.desk_outside.specs.Faults.{Rose};
-ghost use Rattle.book.specs.Legal.{is_legal};
+ghost use Rattle.book.specs.LegalDeeds.{is_legal};
 ghost use Rattle.report_cache.specs.Truth.{IsTrueFor};
 ghost use Rattle.desk_http.specs.declared.sessions.requests.SessionEnd.{SessionEnd};
 ghost use Rattle.desk_http.specs.Sessions.{IsSession, Rise};

@@ -2,7 +2,7 @@
 ghost use Rattle.std.specs.Prelude.{◌≡◌, ◌+◌, ◌<◌, ◌≤◌, ◌==◌, ◌||◌, ◌++◌, [], ℕ, List, Bool, true, false, length, drop, slice_range, Option, Some, None, OnOk, OnErr, IfOk, vec_len};
 ghost use Rattle.std.specs.Io.KnownBytes.{prepend_known, append_known};
 ghost use Rattle.std.specs.Str.{IsAscii};
-ghost use Rattle.book.specs.Legal.{is_legal};
+ghost use Rattle.book.specs.LegalDeeds.{is_legal};
 ghost use Rattle.desk_outside.specs.declared.deed.Deed.{Deed};
 ghost use Rattle.desk_outside.specs.Faults.{Rose};
 ghost use Rattle.desk_outside.specs.Bytes.{AddsPart};

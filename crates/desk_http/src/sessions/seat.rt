@@ -7,10 +7,10 @@ ghost use Rattle.diagnosis.specs.Designs.{view_report, texts_of};
 ghost use Rattle.book.specs.Answers.{design_answer, log_answer, sign_answer, design_look, die_look, sign_look};
 ghost use Rattle.book.specs.Changes.{IsViewIn, Looked};
 ghost use Rattle.book.specs.Kinds.{design_deed, log_deed, sign_deed, text_behind};
-ghost use Rattle.book.specs.Legal.{is_legal};
+ghost use Rattle.book.specs.LegalDeeds.{is_legal};
 ghost use Rattle.desk_http.specs.Seats.{SeatFacts, SeatChanged, Did, IsLogIn};
 
-use book::{Checked, Design, DieView, LookFault, Put, PutFault, ReadLog, Sign};
+use book::{CheckedView, Design, DieView, LookFault, Put, PutFault, ReadLog, Sign};
 use scan_model::{Digest, Name};
 use std::sync::Arc;
 
@@ -51,7 +51,7 @@ pub trait SeatAt<R, D> {
         &mut self,
         rt: &R,
         desk: &D,
-        checked: &Checked,
+        checked: &CheckedView,
         signer: &Name,
         digest: &Digest,
     ) -> Result<Put, PutFault>

@@ -7,7 +7,7 @@ ghost use Rattle.desk_outside.specs.Schedule.{fresh_calls, fails_next, after_cal
 ghost use Rattle.desk_outside.specs.declared.deed.Deed.{Deed};
 ghost use Rattle.desk_outside.specs.declared.keeper.KeepFault.{KeepFault};
 
-use crate::cabinet::{Cabinet, KeeperGiven, KeeperHome};
+use crate::cabinet::{Cabinet, HandedKeeper, KeeperHome};
 use crate::calls::Calls;
 use crate::deed::Deed;
 use crate::keeper::{KeepFault, MemKeeper};
@@ -20,7 +20,7 @@ use std::alloc::Global;
 pub struct MemCabinet {
     alloc: Global,
     keepers: Vec<MemKeeper>,
-    given: Vec<KeeperGiven>,
+    given: Vec<HandedKeeper>,
     home: Vec<KeeperHome>,
     out: usize,
     calls: Calls,
@@ -33,13 +33,13 @@ fn note(
     alloc: Global,
     name: &str,
     rows: Rows<Deed>,
-    given: &mut Vec<KeeperGiven>,
+    given: &mut Vec<HandedKeeper>,
 ) -> Result<(), NoMemory>
     ensures ok { OnOk result (given.new.items ≡ given.old.items ++ record { name = name.now; rows = rows } ∷ []) }
     ensures err { OnErr result (given.new.items ≡ given.old.items) }
 {
     let name = Name::copy_of(alloc, name.as_bytes())?;
-    given.push(KeeperGiven { name, rows })?;
+    given.push(HandedKeeper { name, rows })?;
     Ok(())
 }
 
@@ -48,7 +48,7 @@ fn next_keeper(
     alloc: Global,
     name: &str,
     keepers: &mut Vec<MemKeeper>,
-    given: &mut Vec<KeeperGiven>,
+    given: &mut Vec<HandedKeeper>,
 ) -> Result<MemKeeper, NoMemory>
     requires unfailed { All HasNotFailed keepers.old.items }
     ensures unfailed { IfOk result HasNotFailed }
@@ -73,7 +73,7 @@ fn hand_out(
     alloc: Global,
     name: &str,
     keepers: &mut Vec<MemKeeper>,
-    given: &mut Vec<KeeperGiven>,
+    given: &mut Vec<HandedKeeper>,
     home: &mut Vec<KeeperHome>,
     out: usize,
 ) -> Result<MemKeeper, NoMemory>
@@ -139,7 +139,7 @@ impl MemCabinet {
     }
 
     /// The keepers as they were handed out, in that order.
-    pub fn given(&self) -> &[KeeperGiven]
+    pub fn given(&self) -> &[HandedKeeper]
         ensures { result.now ≡ (cabinet_told self.now).given }
     {
         &self.given

@@ -4,10 +4,10 @@ ghost use Rattle.std.specs.Io.KnownBytes.{append_known};
 ghost use Rattle.desk_outside.specs.declared.link.LinkRead.{LinkRead};
 ghost use Rattle.desk_outside.specs.Faults.{Rose};
 ghost use Rattle.desk_outside.specs.LinkMemory.{unread, link_left, link_sent, link_calls, sure_left};
-ghost use Rattle.desk_outside.specs.Reads.{HasRoomFor, Takes};
+ghost use Rattle.desk_outside.specs.LinkReads.{HasRoomFor, Takes};
 ghost use Rattle.desk_outside.specs.Schedule.{fresh_calls, fails_next, after_call, after_failure};
 
-use super::unread::Unread;
+use super::unread::UnreadBytes;
 use crate::calls::{Calls, Failed};
 use crate::door::LinkHome;
 use crate::link::{Link, LinkRead};
@@ -18,7 +18,7 @@ use std::alloc::Global;
 /// no memory.
 #[derive(Debug, Drop)]
 pub struct MemLink {
-    left: Unread,
+    left: UnreadBytes,
     sent: Rows<u8>,
     calls: Calls,
 }
@@ -34,7 +34,7 @@ impl MemLink {
         ensures calls { IfOk result (λ l. link_calls l ≡ fresh_calls []) }
     {
         Ok(MemLink {
-            left: Unread::new(left),
+            left: UnreadBytes::new(left),
             sent: Rows::new(alloc),
             calls: Calls::sure(alloc),
         })
@@ -52,7 +52,7 @@ impl MemLink {
         ensures calls { IfOk result (λ l. link_calls l ≡ fresh_calls calls) }
     {
         Ok(MemLink {
-            left: Unread::new(left),
+            left: UnreadBytes::new(left),
             sent: Rows::new(alloc),
             calls: Calls::failing(calls),
         })
@@ -74,7 +74,7 @@ impl MemLink {
         ensures { IsEmptyLink result }
     {
         MemLink {
-            left: Unread::new(Rows::new(alloc)),
+            left: UnreadBytes::new(Rows::new(alloc)),
             sent: Rows::new(alloc),
             calls: Calls::sure(alloc),
         }
@@ -158,7 +158,7 @@ impl Link for MemLink {
 /// A connection in memory that keeps no bytes that are sent. No call fails.
 #[derive(Debug, Drop)]
 pub struct SureLink {
-    left: Unread,
+    left: UnreadBytes,
 }
 
 impl SureLink {
@@ -170,7 +170,7 @@ impl SureLink {
         ensures left { IfOk result (λ l. sure_left l ≡ left) }
     {
         Ok(SureLink {
-            left: Unread::new(left),
+            left: UnreadBytes::new(left),
         })
     }
 }

@@ -1,27 +1,27 @@
 //! Bytes in memory that are read from the front.
 ghost use Rattle.std.specs.Prelude.{◌≡◌, ◌≢◌, ◌≤◌, ℕ, Some, length, take, min};
 ghost use Rattle.desk_outside.specs.declared.link.LinkRead.{LinkRead};
-ghost use Rattle.desk_outside.specs.Reads.{HasRoomFor, Takes};
+ghost use Rattle.desk_outside.specs.LinkReads.{HasRoomFor, Takes};
 
 use crate::link::LinkRead;
 use scan_model::Rows;
 
 // Bytes, those before `at` already read.
 #[derive(Debug, Drop)]
-pub struct Unread {
+pub struct UnreadBytes {
     bytes: Rows<u8>,
     at: usize,
     ghost in_range: { at ≤ length bytes },
 }
 
-impl Unread {
+impl UnreadBytes {
     ghost use Rattle.desk_outside.specs.LinkMemory.{unread};
 
     /// Bytes of which none is read.
     pub fn new(bytes: Rows<u8>) -> Self
         ensures { unread result ≡ bytes }
     {
-        Unread { bytes, at: 0 }
+        UnreadBytes { bytes, at: 0 }
     }
 
     /// The bytes that are left.

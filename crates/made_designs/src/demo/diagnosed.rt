@@ -3,9 +3,9 @@ ghost use Rattle.std.specs.Prelude.{◌≡◌, IfOk};
 ghost use Rattle.scan_model.specs.ReportText as text_of;
 ghost use Rattle.diag_report.specs.PredictedLog.{fault_of};
 ghost use Rattle.made_designs.specs.Demo.{own_candidates, own_report};
-ghost use Rattle.made_designs.specs.Injected.{IsDemoCase, IsFound};
+ghost use Rattle.made_designs.specs.InjectedFaults.{IsDemoCase, IsFound};
 
-use crate::demo::injected::Injected;
+use crate::demo::injected::InjectedFault;
 use diagnosis::{Case, Diagnosis, case_diagnosis};
 use scan_model::NoMemory;
 use std::alloc::Global;
@@ -16,7 +16,7 @@ pub fn diagnosis_of<R: Threads + Sync>(
     rt: &R,
     alloc: Global,
     case: &mut Case,
-    injected: Injected,
+    injected: InjectedFault,
 ) -> Result<Diagnosis, NoMemory>
     requires case { IsDemoCase case.old }
     requires found { IsFound case.old.test injected }

@@ -2,7 +2,7 @@
 ghost use Rattle.std.specs.Prelude.{◌≡◌, ◌<◌, ℕ, length, IfOk, IfSome};
 ghost use Rattle.scan_model.specs.Universe.{universe};
 ghost use Rattle.diag_report.specs.PredictedLog.{HasWordNames};
-ghost use Rattle.made_designs.specs.Injected.{IsDemoCase, IsOwnLog, IsFound, IsFirst, IsAfterTexts, IsDrawn, place_of};
+ghost use Rattle.made_designs.specs.InjectedFaults.{IsDemoCase, IsOwnLog, IsFound, IsFirst, IsAfterTexts, IsDrawn, place_of};
 
 use crate::draws::Draws;
 use diagnosis::{Case, ReadLog, log_over};
@@ -16,7 +16,7 @@ const TRIES: u64 = 256;
 
 /// The place of a fault that predicts a fail, with the log that it predicts.
 #[derive(Drop)]
-pub struct Injected {
+pub struct InjectedFault {
     pub place: u32,
     pub log: ReadLog,
 }
@@ -42,7 +42,7 @@ fn first_failing(
     case: &Case,
     first: u32,
     count: u32,
-) -> Result<Option<Injected>, NoMemory>
+) -> Result<Option<InjectedFault>, NoMemory>
     requires case { IsDemoCase case.now }
     requires names { HasWordNames case.now.test }
     requires count { count ≡ length (universe case.now.test) }
@@ -54,14 +54,18 @@ fn first_failing(
         let place = ((u64::from(first) + i) % u64::from(count)) as u32;
         let log = own_log(alloc, case, place)?;
         if !log.facts().fails.is_empty() {
-            return Ok(Some(Injected { place, log }));
+            return Ok(Some(InjectedFault { place, log }));
         }
     }
     Ok(None)
 }
 
 /// The first fault from a drawn place on, round the end, that predicts a fail; none where none of those that are tried does.
-pub fn inject(alloc: Global, case: &Case, draws: &mut Draws) -> Result<Option<Injected>, NoMemory>
+pub fn inject(
+    alloc: Global,
+    case: &Case,
+    draws: &mut Draws,
+) -> Result<Option<InjectedFault>, NoMemory>
     requires case { IsDemoCase case.now }
     requires names { HasWordNames case.now.test }
     ensures found { IfOk result (λ injected. IfSome injected (IsFound case.now.test)) }

@@ -7,7 +7,7 @@ ghost use Rattle.scan_model.specs.ReportText as text_of;
 ghost use Rattle.diag_report.specs.PredictedLog.{fault_of};
 ghost use Rattle.diag_report.specs.Summary.{count_line};
 ghost use Rattle.made_designs.specs.Demo.{rank_line, rank_lines};
-ghost use Rattle.made_designs.specs.Injected.{head_lines};
+ghost use Rattle.made_designs.specs.InjectedFaults.{head_lines};
 
 use crate::demo::Demo;
 use fault_universe::{fault_at, push_fault, universe_len};

@@ -34,7 +34,7 @@ fn has_its_deeds(outcome: &Outcome, end: SessionEnd) -> bool {
 
 // Connections that fail in the call with a number from the first to before the second, and how
 // their sessions end.
-struct Fails {
+struct FailingCalls {
     calls: (u64, u64),
     by_bytes: bool,
     end: SessionEnd,
@@ -42,23 +42,23 @@ struct Fails {
 
 // At once there are two reads, and seven writes: the interim reply, and the heads and bodies of
 // three others. Byte by byte there is a read for each of 441 bytes, and one at the end.
-const FAILS: [Fails; 4] = [
-    Fails {
+const FAILS: [FailingCalls; 4] = [
+    FailingCalls {
         calls: (1, 10),
         by_bytes: false,
         end: SessionEnd::LinkFault,
     },
-    Fails {
+    FailingCalls {
         calls: (10, 451),
         by_bytes: false,
         end: SessionEnd::Ended,
     },
-    Fails {
+    FailingCalls {
         calls: (1, 450),
         by_bytes: true,
         end: SessionEnd::LinkFault,
     },
-    Fails {
+    FailingCalls {
         calls: (450, 451),
         by_bytes: true,
         end: SessionEnd::Ended,
@@ -71,7 +71,7 @@ fn sends_front<R: Abort + Threads + Wait + Sync>(
     rt: &R,
     alloc: Global,
     call: u64,
-    fails: &Fails,
+    fails: &FailingCalls,
     due: &[u8],
 ) -> bool {
     let mut link = failing(rt, alloc, call, fails.by_bytes);

@@ -4,7 +4,7 @@ ghost use Rattle.std.specs.Prelude.{◌<◌};
 
 use super::texts::*;
 use super::*;
-use book::{NotStarted, StartFault};
+use book::{StartFault, UnopenedBook};
 use shared_desk::start;
 
 const ASKED: [&[u8]; 5] = [PUT_C17, PUT_OTHER, POST_FAILS, POST_PASSES, POST_OTHER];
@@ -101,7 +101,7 @@ fn refused<R: Abort + Threads + Wait + Sync>(
     alloc: Global,
     max_deeds: u32,
     call: u64,
-) -> NotStarted<MemKeeper> {
+) -> UnopenedBook<MemKeeper> {
     let keeper = keeper_of(rt, alloc, deeds(rt, alloc), call);
     match start(rt, alloc, keeper, max_deeds, 1) {
         Ok(_) => rt.panic("the start is refused"),

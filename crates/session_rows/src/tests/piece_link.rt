@@ -1,8 +1,9 @@
+//! A connection that may be read byte by byte.
 ghost use Rattle.std.specs.Prelude.{◌≡◌, ◌≤◌};
 
 use desk_outside::{Failed, Link, LinkRead};
 
-// A connection whose reads may each bring one byte.
+// A connection, and whether each read brings one byte at most.
 #[derive(Drop)]
 pub(super) struct PieceLink<L: Link> {
     link: L,
@@ -10,7 +11,7 @@ pub(super) struct PieceLink<L: Link> {
 }
 
 impl<L: Link> PieceLink<L> {
-    // The same connection, byte by byte or not.
+    // This connection, read byte by byte or not.
     pub(super) fn over(link: L, by_bytes: bool) -> PieceLink<L>
         ensures { result.link ≡ link }
     {

@@ -1,3 +1,4 @@
+//! The designs c17 and s27, and an odd one of which no benchmark is like.
 use diagnosis::{BundleFault, Design, design_of};
 use scan_model::{NoMemory, Profile};
 use std::alloc::Global;

@@ -27,7 +27,7 @@ fn with_read_log(alloc: Global, mut view: DieView, log: ReadLog) -> Result<DieVi
     Ok(view)
 }
 
-/// The same die with one log more, which must be one of it.
+/// This die with one log more, which must be a log of it.
 pub(crate) fn with_log(alloc: Global, view: DieView, text: &[u8]) -> Result<DieView, NoMemory> {
     let _ = view.revision();
     match log_of(alloc, view.design(), view.die(), text) {

@@ -178,7 +178,7 @@ fn view_of(alloc: Global, row: &Row) -> Result<DieView, NoMemory> {
 
 /// What both logs say of a bit.
 #[derive(Clone, Copy, PartialEq, Eq)]
-enum Said {
+enum Verdict {
     Failing,
     Passing,
     Neither,
@@ -186,20 +186,20 @@ enum Said {
 
 /// A bit that both list failed, and one that both cover and don't list passed. Where the fault-free value isn't known, where
 /// the logs differ and behind the tested patterns nothing is said.
-fn said_of(trial: &Trial, k: usize) -> Said {
+fn verdict_of(trial: &Trial, k: usize) -> Verdict {
     if trial.pattern > LAST || value(trial.good.as_slice(), k) == Tri::Unknown {
-        return Said::Neither;
+        return Verdict::Neither;
     }
     match (lists(trial, k, false), lists(trial, k, true)) {
-        (true, true) => Said::Failing,
-        (false, false) => Said::Passing,
-        _ => Said::Neither,
+        (true, true) => Verdict::Failing,
+        (false, false) => Verdict::Passing,
+        _ => Verdict::Neither,
     }
 }
 
 fn is_failing(trial: &Trial, points: usize) -> bool {
     for k in 0..points {
-        if said_of(trial, k) == Said::Failing {
+        if verdict_of(trial, k) == Verdict::Failing {
             return true;
         }
     }
@@ -210,10 +210,10 @@ fn is_failing(trial: &Trial, points: usize) -> bool {
 fn fits(trial: &Trial, bad: &[Tri], points: usize) -> bool {
     for k in 0..points {
         let predicted = fails(trial.good.as_slice(), bad, k);
-        let is_against = match said_of(trial, k) {
-            Said::Failing => !predicted,
-            Said::Passing => predicted,
-            Said::Neither => false,
+        let is_against = match verdict_of(trial, k) {
+            Verdict::Failing => !predicted,
+            Verdict::Passing => predicted,
+            Verdict::Neither => false,
         };
         if is_against {
             return false;

@@ -6,9 +6,9 @@ ghost use Rattle.log_join.specs.Joining.{IsJoinedOf};
 ghost use Rattle.two_frame.specs.TwoFrame.{transitions};
 ghost use Rattle.two_frame.specs.FrameRows.{AllCapture};
 
-use super::counted::{Told, are_counts, is_other};
+use super::counted::{LogBits, are_counts, is_other};
 use super::frames::{first_frame, shown};
-use super::slow::Slow;
+use super::slow::SlowFault;
 use bench_reader::read_netlist;
 use bridge_pairs::read_pairs;
 use fail_logs::read_log;
@@ -37,7 +37,7 @@ const PATTERNS: &str =
 const LOG: &str =
     "FAILLOG 1\ndie D1\ndesign d\ntested 0 6\nfail 0 out y\nfail 1 cell c 1\nfail 2 out z\nfail 2 cell c 0\nfail 3 out z\nfail 4 out z\nfail 5 out y\nfail 6 out y\nend\n";
 
-const TOLD: Told<'_> = Told {
+const LOG_BITS: LogBits<'_> = LogBits {
     tested: 7,
     fails: &[
         (0, 0),
@@ -165,7 +165,7 @@ fn is_by_definition(
     requires pattern { pattern < length parts.now.patterns }
 {
     let fault = fault_at(parts, place);
-    let values = shown(alloc, parts, Slow { fault, first })?;
+    let values = shown(alloc, parts, SlowFault { fault, first })?;
     let out = fails::<Brand>(alloc, parts, place, pattern, Blank::new(1))?;
     Ok(are_fails(&out, expected, &values))
 }
@@ -180,7 +180,7 @@ fn are_by_definition(
     requires captures { AllCapture parts.now }
     requires pattern { pattern < length parts.now.patterns }
 {
-    let expected = shown(alloc, parts, Slow { fault: None, first })?;
+    let expected = shown(alloc, parts, SlowFault { fault: None, first })?;
     for place in 0..slow_len(parts) {
         if !is_by_definition(alloc, parts, place, pattern, first, &expected)? {
             return Ok(false);
@@ -189,7 +189,7 @@ fn are_by_definition(
     Ok(true)
 }
 
-/// The same of the pattern of this number, which there must be.
+/// Whether all faults fail by the definition in the pattern of this number, which there must be.
 fn fails_by_definition(
     alloc: Global,
     parts: &Result<Parts, ReadFault>,
@@ -250,7 +250,7 @@ fn counts_by_definition(alloc: Global, parts: &Result<Parts, ReadFault>) -> Resu
     match parts {
         Ok(parts) => {
             let rows = candidates(alloc, parts)?;
-            Ok(rows.len() > 4 && are_counts(alloc, parts, TOLD, rows.as_slice())?)
+            Ok(rows.len() > 4 && are_counts(alloc, parts, LOG_BITS, rows.as_slice())?)
         }
         Err(_) => Ok(false),
     }

@@ -1,6 +1,6 @@
 //! Counts of transition faults over one log, by their definition.
 use super::frames::{first_frame, shown};
-use super::slow::Slow;
+use super::slow::SlowFault;
 use fault_universe::fault_at;
 use scan_model::{Counts, NoMemory, Parts, Scored, Tri};
 use std::alloc::Global;
@@ -8,7 +8,7 @@ use two_frame::slow_len;
 
 /// What a log says: how many of the first patterns it tested, and which bits it lists, by pattern and point.
 #[derive(Clone, Copy)]
-pub(crate) struct Told<'a> {
+pub(crate) struct LogBits<'a> {
     pub(crate) tested: usize,
     pub(crate) fails: &'a [(usize, usize)],
 }
@@ -37,7 +37,7 @@ fn counted(counts: Counts, listed: bool, expected: Tri, value: Tri) -> Counts {
 
 /// The counts with the bits of one pattern more, whose points are expected to show values and show others.
 fn with_bits(
-    told: Told<'_>,
+    told: LogBits<'_>,
     pattern: usize,
     expected: &[Tri],
     values: &[Tri],
@@ -55,7 +55,7 @@ fn with_bits(
 fn with_pattern(
     alloc: Global,
     parts: &Parts,
-    told: Told<'_>,
+    told: LogBits<'_>,
     place: u32,
     pattern: usize,
     counts: Counts,
@@ -63,13 +63,18 @@ fn with_pattern(
     let first = first_frame(alloc, parts, pattern)?;
     let fault = fault_at(parts, place);
     let first = first.as_slice();
-    let expected = shown(alloc, parts, Slow { fault: None, first })?;
-    let values = shown(alloc, parts, Slow { fault, first })?;
+    let expected = shown(alloc, parts, SlowFault { fault: None, first })?;
+    let values = shown(alloc, parts, SlowFault { fault, first })?;
     Ok(with_bits(told, pattern, &expected, &values, counts))
 }
 
 /// The counts of a fault.
-fn counts_of(alloc: Global, parts: &Parts, told: Told<'_>, place: u32) -> Result<Counts, NoMemory> {
+fn counts_of(
+    alloc: Global,
+    parts: &Parts,
+    told: LogBits<'_>,
+    place: u32,
+) -> Result<Counts, NoMemory> {
     let mut counts = Counts {
         tfsf: 0,
         tfsp: 0,
@@ -85,7 +90,7 @@ fn counts_of(alloc: Global, parts: &Parts, told: Told<'_>, place: u32) -> Result
 pub(crate) fn are_counts(
     alloc: Global,
     parts: &Parts,
-    told: Told<'_>,
+    told: LogBits<'_>,
     rows: &[Scored],
 ) -> Result<bool, NoMemory> {
     let mut left = rows.iter();

@@ -1,5 +1,5 @@
 //! Two frames, net by net: what each point shows, with a slow stem or pin or without one.
-use super::slow::{Slow, value_of};
+use super::slow::{SlowFault, value_of};
 use scan_model::{
     Circuit, Driver, GateKind, NoMemory, Parts, PinPlace, Point, Tri, tri_and, tri_not, tri_or,
     tri_xor,
@@ -7,7 +7,7 @@ use scan_model::{
 use std::alloc::Global;
 
 /// What a pin sees, of the values that nets have so far.
-fn seen(circuit: &Circuit, values: &[Tri], slow: Slow<'_>, pin: u32) -> Tri {
+fn seen(circuit: &Circuit, values: &[Tri], slow: SlowFault<'_>, pin: u32) -> Tri {
     match circuit.pins().as_slice().get(pin as usize) {
         Some(at) => slow.at_pin(pin, at.net, value_of(values, at.net)),
         None => Tri::Unknown,
@@ -41,7 +41,7 @@ fn operand_pins(circuit: &Circuit, net: u32) -> (u32, u32) {
 }
 
 /// What a gate drives.
-fn driven(circuit: &Circuit, values: &[Tri], slow: Slow<'_>, kind: GateKind, net: u32) -> Tri {
+fn driven(circuit: &Circuit, values: &[Tri], slow: SlowFault<'_>, kind: GateKind, net: u32) -> Tri {
     let (first, end) = operand_pins(circuit, net);
     let mut value = match kind {
         GateKind::And | GateKind::Nand => Tri::One,
@@ -60,7 +60,7 @@ fn set(values: &mut [Tri], net: u32, value: Tri) {
 }
 
 /// The value of a gate, of a circuit whose nets have these values otherwise.
-fn settle(circuit: &Circuit, values: &mut [Tri], slow: Slow<'_>, net: u32) {
+fn settle(circuit: &Circuit, values: &mut [Tri], slow: SlowFault<'_>, net: u32) {
     let Some(at) = circuit.nets().as_slice().get(net as usize) else {
         return;
     };
@@ -75,7 +75,7 @@ fn settled(
     alloc: Global,
     circuit: &Circuit,
     sources: &[Tri],
-    slow: Slow<'_>,
+    slow: SlowFault<'_>,
 ) -> Result<Vec<Tri>, NoMemory> {
     let mut values = Vec::new(alloc);
     for (net, source) in (0..).zip(sources) {
@@ -112,7 +112,7 @@ pub(crate) fn first_frame(
             set_all(&mut sources, chain.cells.as_slice(), load.as_slice());
         }
     }
-    let none = Slow {
+    let none = SlowFault {
         fault: None,
         first: &[],
     };
@@ -121,7 +121,7 @@ pub(crate) fn first_frame(
 
 /// What drives the second frame: inputs hold, and each flop has what its data pin saw in the first.
 fn next_sources(alloc: Global, circuit: &Circuit, first: &[Tri]) -> Result<Vec<Tri>, NoMemory> {
-    let none = Slow { fault: None, first };
+    let none = SlowFault { fault: None, first };
     let mut sources = Vec::new(alloc);
     for (number, net) in (0..).zip(circuit.nets().as_slice()) {
         sources.push(match net.driver {
@@ -157,7 +157,11 @@ fn pin_of(parts: &Parts, point: Point) -> u32 {
 }
 
 /// What each point shows in the second frame.
-pub(crate) fn shown(alloc: Global, parts: &Parts, slow: Slow<'_>) -> Result<Vec<Tri>, NoMemory> {
+pub(crate) fn shown(
+    alloc: Global,
+    parts: &Parts,
+    slow: SlowFault<'_>,
+) -> Result<Vec<Tri>, NoMemory> {
     let circuit = parts.circuit();
     let sources = next_sources(alloc, circuit, slow.first)?;
     let values = settled(alloc, circuit, &sources, slow)?;

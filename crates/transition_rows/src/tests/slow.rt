@@ -11,12 +11,12 @@ pub(crate) fn value_of(values: &[Tri], net: u32) -> Tri {
 
 /// A slow fault or none, and the fault-free values of the first frame.
 #[derive(Clone, Copy)]
-pub(crate) struct Slow<'a> {
+pub(crate) struct SlowFault<'a> {
     pub(crate) fault: Option<Fault>,
     pub(crate) first: &'a [Tri],
 }
 
-impl Slow<'_> {
+impl SlowFault<'_> {
     /// What a site of a net has, to which a value comes.
     fn held(&self, net: u32, value: Stuck, now: Tri) -> Tri {
         let first = value_of(self.first, net);

@@ -1,5 +1,5 @@
-//! The same counts as by plain simulation of all faults. Others are among the examples
-//! (examples/rows), beside those of an independent model.
+//! Counts of all faults, beside those by plain simulation. Others are among the examples (examples/rows), beside those of an
+//! independent model.
 ghost use Rattle.std.specs.Prelude.{◌≡◌, length};
 ghost use Rattle.scan_model.specs.ScanTest.{points_of};
 ghost use Rattle.scan_model.specs.Response.{expected_rows};
@@ -55,7 +55,7 @@ fn are_equal<R: Threads + Sync>(
     Ok(packed.as_slice() == plain.as_slice() && packed.len() > 0)
 }
 
-/// The same of a log of the design.
+/// Whether both counts over a log of the design list the same rows, and some.
 fn are_equal_over<R: Threads + Sync>(
     rt: &R,
     alloc: Global,

@@ -1,3 +1,4 @@
+//! The designs c17 and s27, with logs of a die of s27.
 use diagnosis::{BundleFault, Design, design_of};
 use scan_model::Profile;
 use std::alloc::Global;
@@ -31,7 +32,7 @@ pub(crate) fn design_of_bytes(
     design_of(alloc, b"d", Profile::One, netlist, scan, patterns, pairs)
 }
 
-/// The same of c17, which has no chains.
+/// The design d of c17, which has no chains, in profile 1.
 pub(crate) fn c17(rt: &impl Abort, alloc: Global, patterns: &str, pairs: &str) -> Design {
     design_of_bytes(
         alloc,
@@ -43,7 +44,7 @@ pub(crate) fn c17(rt: &impl Abort, alloc: Global, patterns: &str, pairs: &str) -
     .expect(rt, "c17")
 }
 
-/// The same of s27 with its chain.
+/// The design d of s27 with its chain, in profile 1.
 pub(crate) fn s27(rt: &impl Abort, alloc: Global, patterns: &str) -> Design {
     design_of_bytes(
         alloc,

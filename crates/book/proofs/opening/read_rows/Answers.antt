@@ -2,7 +2,7 @@ use Rattle.std.proofs.Common.{◌≡◌, ◌≤◌, ◌+◌, ℕ, List, [], ◌�
 use Rattle.std.proofs.lemmas.List.{length-append}
 use Rattle.std.specs.Prelude.{slice_get}
 use Rattle.desk_outside.specs.declared.deed.Deed.{Deed}
-use Rattle.book.specs.Legal.{each_fits}
+use Rattle.book.specs.LegalDeeds.{each_fits}
 use Rattle.book.specs.Rows.{added_if}
 use Rattle.book.proofs.OneMore.{each_fits-push}
 use Rattle.book.proofs.Spoiling.{row_spoiled, kept_more, kept_all, no_fit, on_ok_then, past_end, no_room}

@@ -1,6 +1,6 @@
 use Rattle.std.proofs.Common.{◌≡◌, ◌≤◌, List, [], length, take, true, Some}
 use Rattle.desk_outside.specs.declared.deed.Deed.{Deed}
-use Rattle.book.specs.Legal.{each_fits}
+use Rattle.book.specs.LegalDeeds.{each_fits}
 use Rattle.book.proofs.opening.read_rows.Given as goal
 
 abbrev pub invariant-loop-row : goal.invariant-loop-row

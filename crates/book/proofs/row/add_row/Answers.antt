@@ -1,7 +1,7 @@
 use Rattle.std.proofs.Common.{◌≡◌, Bool, IfOk, sym, subst}
 use Rattle.desk_outside.specs.declared.deed.DeedKind.{DeedKind}
 use Rattle.desk_outside.specs.declared.deed.DeedKind.TheVariants as deed_kind
-use Rattle.book.specs.Legal.{fits}
+use Rattle.book.specs.LegalDeeds.{fits}
 use Rattle.book.proofs.row.add_row.Goals as goal
 
 -- The texts of a row are those that are judged.

@@ -1,7 +1,7 @@
 use Rattle.std.proofs.Common.{◌<◌, ◌≤◌, length, take, refl, sym, ap, ◌∙◌, subst, rules}
 use Rattle.std.specs.Arc.{arc_value}
 use Rattle.diagnosis.specs.Designs.{DesignFacts}
-use Rattle.book.specs.Finding.{IsDieIn}
+use Rattle.book.specs.Lookups.{IsDieIn}
 use Rattle.book.specs.Kinds.{arc_values}
 use Rattle.book.proofs.Showing.{is_shown, some_is, showable}
 use Rattle.book.proofs.RowSigns.{none_within, known_right, take_own, part_some, shown_right}

@@ -1,7 +1,7 @@
 use Rattle.std.proofs.Common.{◌≡◌, Some, map, rules, string_bytes}
 use Rattle.std.proofs.lemmas.Result.{IfOk-weaker}
-use Rattle.command_words.specs.Right.{form_named}
-use Rattle.command_words.specs.Shown.{shown_form}
+use Rattle.command_words.specs.RightWords.{form_named}
+use Rattle.command_words.specs.CommandViews.{shown_form}
 use Rattle.command_words.proofs.Taken.{command_taken}
 use Rattle.command_words.proofs.asked.command_of.Goals as goal
 

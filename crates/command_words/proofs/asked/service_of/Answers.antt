@@ -1,8 +1,8 @@
 use Rattle.std.proofs.Common.{◌≡◌, Some, map, rules, string_bytes}
 use Rattle.std.proofs.lemmas.Result.{IfOk-weaker}
 use Rattle.clap.specs.Words.{found_of, rows_of}
-use Rattle.command_words.specs.Right.{form_named}
-use Rattle.command_words.specs.Shown.{shown_form, shown_service}
+use Rattle.command_words.specs.RightWords.{form_named}
+use Rattle.command_words.specs.CommandViews.{shown_form, shown_service}
 use Rattle.command_words.proofs.Taken.{service_sound}
 use Rattle.command_words.proofs.asked.service_of.Goals as goal
 

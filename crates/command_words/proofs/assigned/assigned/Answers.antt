@@ -1,8 +1,8 @@
 use Rattle.std.proofs.Common.{◌≡◌, ◌∙◌, ap, map, string_bytes, true}
 use Rattle.std.proofs.lemmas.Result.{IfOk-weaker}
 use Rattle.clap.specs.Words.{App, app_of, is_simple, matches_of}
-use Rattle.command_words.specs.Assigned.{asked_in}
-use Rattle.command_words.specs.Shown.{shown_form}
+use Rattle.command_words.specs.ClapCommands.{asked_in}
+use Rattle.command_words.specs.CommandViews.{shown_form}
 use Rattle.command_words.proofs.Assignment.{all_assigned, app_is_simple}
 use Rattle.command_words.proofs.assigned.assigned.Goals as goal
 

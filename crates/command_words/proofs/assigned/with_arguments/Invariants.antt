@@ -1,6 +1,6 @@
 use Rattle.std.proofs.Common.{◌≡◌, drop}
 use Rattle.clap.specs.Words.{app_of}
-use Rattle.command_words.specs.Assigned.{with_arguments}
+use Rattle.command_words.specs.ClapCommands.{with_arguments}
 use Rattle.command_words.proofs.assigned.with_arguments.Given as goal
 
 abbrev pub invariant-loop-argument : goal.invariant-loop-argument

@@ -1,5 +1,5 @@
 use Rattle.std.proofs.Common.{◌≡◌, ◌+◌, drop, map, string_bytes}
-use Rattle.command_words.specs.Right.{are_right}
+use Rattle.command_words.specs.RightWords.{are_right}
 use Rattle.command_words.proofs.right.are_right.Given as goal
 
 abbrev pub invariant-loop-place : goal.invariant-loop-place

@@ -1,7 +1,7 @@
 use Rattle.std.proofs.Common.{◌∙◌, ap, map, string_bytes}
 use Rattle.std.specs.Prelude.{option_map}
-use Rattle.command_words.specs.Right.{fits}
-use Rattle.command_words.specs.Shown.{shown_form}
+use Rattle.command_words.specs.RightWords.{fits}
+use Rattle.command_words.specs.CommandViews.{shown_form}
 use Rattle.command_words.proofs.Taken.{find_shown}
 use Rattle.command_words.proofs.right.named_among.Goals as goal
 

@@ -1,4 +1,4 @@
-use Rattle.command_words.specs.Shown.{shown_order}
+use Rattle.command_words.specs.CommandViews.{shown_order}
 use Rattle.desk_commands.specs.Commands.{product_reading}
 use Rattle.desk_commands.specs.Demo.{demo_output}
 use Rattle.desk_commands.proofs.Pages.{page_is_due, output_is_due}

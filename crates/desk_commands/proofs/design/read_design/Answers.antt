@@ -1,6 +1,6 @@
 use Rattle.std.proofs.Common.{refl}
-use Rattle.desk_commands.specs.Reading.{files_source}
-use Rattle.command_words.specs.Shown.{shown_files}
+use Rattle.desk_commands.specs.FileReadings.{files_source}
+use Rattle.command_words.specs.CommandViews.{shown_files}
 use Rattle.desk_commands.proofs.design.read_design.Goals as goal
 
 pub returns-clause-told : goal.returns-clause-told

@@ -6,9 +6,9 @@ use Rattle.scan_model.specs.PatternText.{pattern_reading}
 use Rattle.two_frame.specs.TwoFrame.{launch_frame}
 use Rattle.diagnosis.specs.Texts.{value}
 use Rattle.diagnosis.proofs.Halting.{at_halt, halts_after}
-use Rattle.command_words.specs.Shown.{shown_files}
-use Rattle.desk_commands.specs.Reading.{file_reading}
-use Rattle.desk_commands.specs.Stops.{halt_of}
+use Rattle.command_words.specs.CommandViews.{shown_files}
+use Rattle.desk_commands.specs.FileReadings.{file_reading}
+use Rattle.desk_commands.specs.CommandStops.{halt_of}
 use Rattle.desk_commands.specs.Views.{no_pairs, over_chains}
 use Rattle.desk_commands.proofs.NoPairs.{no_pairs_fit}
 use Rattle.desk_commands.proofs.launches.parts_behind.Goals as goal

@@ -2,9 +2,9 @@ use Rattle.std.proofs.Common.{◌∙◌, ℕ, List, Ok, subst}
 use Rattle.text_parts.specs.ReadResults.{Gives}
 use Rattle.scan_model.specs.NetlistText.{netlist_reading}
 use Rattle.diagnosis.proofs.Halting.{comes_after}
-use Rattle.command_words.specs.Shown.{shown_files}
-use Rattle.desk_commands.specs.Reading.{file_reading}
-use Rattle.desk_commands.specs.Stops.{halt_of}
+use Rattle.command_words.specs.CommandViews.{shown_files}
+use Rattle.desk_commands.specs.FileReadings.{file_reading}
+use Rattle.desk_commands.specs.CommandStops.{halt_of}
 use Rattle.desk_commands.specs.Views.{over_circuit}
 use Rattle.desk_commands.proofs.ReadFiles.{reading_comes}
 use Rattle.desk_commands.proofs.launches.read_launch_design.Goals as goal

@@ -1,7 +1,7 @@
 use Rattle.std.proofs.Common.{◌≡◌, ◌≤◌, ◌+◌, ◌∙◌, ℕ, List, [], Err, Bor, get_or, map, length, drop, sym, refl, subst, rules, arith}
 use Rattle.std.proofs.lemmas.List.{drop_all, length-map}
 use Rattle.scan_model.specs.LogText.{LogFrame}
-use Rattle.desk_commands.specs.Stops.{Follows}
+use Rattle.desk_commands.specs.CommandStops.{Follows}
 use Rattle.desk_commands.specs.Work.{log_file}
 use Rattle.desk_commands.specs.Logs.{IsFileTaken}
 use Rattle.desk_commands.proofs.ReadLogs.{AreReadBefore, next_name, none_before, one_more, one_stops, none_left}

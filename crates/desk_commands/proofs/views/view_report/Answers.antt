@@ -3,7 +3,7 @@ use Rattle.std.proofs.lemmas.Result.{err_from_is_err_and}
 use Rattle.scan_model.specs.LogText.{LogFrame}
 use Rattle.scan_model.specs.DieReport.{different}
 use Rattle.desk_commands.specs.Logs.{AreRead, JoinedTexts, read_logs}
-use Rattle.desk_commands.specs.Stops.{Follows}
+use Rattle.desk_commands.specs.CommandStops.{Follows}
 use Rattle.desk_commands.specs.Work.{logs_reading}
 use Rattle.desk_commands.proofs.ReadLogs.{no_report, report_follows}
 use Rattle.desk_commands.proofs.views.view_report.Goals as goal

@@ -1,7 +1,7 @@
 use Rattle.std.proofs.Common.{◌≡◌, ◌∙◌, map, string_bytes, true, false, refl, sym, ap, true≢false}
-use Rattle.command_words.specs.Asked.{asked, is_serve, serves}
-use Rattle.desk_commands.specs.Ending.{is_one_of}
-use Rattle.desk_run.specs.Ending.{statuses_of}
+use Rattle.command_words.specs.Invocations.{asked, is_serve, serves}
+use Rattle.desk_commands.specs.CommandEnds.{is_one_of}
+use Rattle.desk_run.specs.RunEnds.{statuses_of}
 use Rattle.desk_run.proofs.Served.{never_2, never_5, not_among, sink_rose, store_rose, spoiled_alone, street_rose, serve_is_right, page_is_right, serve_listed, service_asked}
 use Rattle.desk_run.proofs.top.run.Goals as goal
 

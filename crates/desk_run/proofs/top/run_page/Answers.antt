@@ -1,7 +1,7 @@
 use Rattle.std.proofs.Common.{◌∙◌, map, string_bytes, codes, inl, inr, refl, sym, ap, arith, true≢false}
-use Rattle.command_words.specs.Asked.{comes_to_page}
-use Rattle.command_words.specs.Shown.{shown}
-use Rattle.desk_commands.specs.Ending.{page_statuses}
+use Rattle.command_words.specs.Invocations.{comes_to_page}
+use Rattle.command_words.specs.CommandViews.{shown}
+use Rattle.desk_commands.specs.CommandEnds.{page_statuses}
 use Rattle.desk_commands.proofs.NoPage.{no_page}
 use Rattle.desk_run.proofs.Runs.{asked_due}
 use Rattle.desk_run.proofs.Served.{ends_listed, ends_never, not_among, page_asked, page_listed, sink_failed}

@@ -1,6 +1,6 @@
 use Rattle.std.proofs.Common.{◌≡◌, ◌∙◌, map, string_bytes, refl, ap, subst, inl, inr, arith}
-use Rattle.command_words.specs.Asked.{asked}
-use Rattle.command_words.specs.Shown.{shown_service}
+use Rattle.command_words.specs.Invocations.{asked}
+use Rattle.command_words.specs.CommandViews.{shown_service}
 use Rattle.desk_serve.specs.declared.ending.Ending.TheVariants.{NoMemory}
 use Rattle.desk_serve.specs.Runs.{Asked, HasEnded}
 use Rattle.desk_serve.proofs.Closing.{no_keeper}

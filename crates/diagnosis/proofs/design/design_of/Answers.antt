@@ -1,6 +1,6 @@
 use Rattle.std.proofs.Common.{ap, ◌∙◌}
 use Rattle.diagnosis.specs.Bundle.{bundle_text, texts_reading}
-use Rattle.diagnosis.specs.Reading.{four}
+use Rattle.diagnosis.specs.ReaderAnswers.{four}
 use Rattle.diagnosis.proofs.AreRead.{profile_read}
 use Rattle.diagnosis.proofs.design.design_of.Goals as goal
 

@@ -1,6 +1,6 @@
 use Rattle.std.proofs.Common.{◌≡◌, Ok, sym, ap, ◌∙◌}
 use Rattle.diagnosis.specs.Bundle.{bundle_text, bundle_reading}
-use Rattle.diagnosis.specs.Reading.{four}
+use Rattle.diagnosis.specs.ReaderAnswers.{four}
 use Rattle.diagnosis.proofs.PackedReads.{packed_reads}
 use Rattle.diagnosis.proofs.design.design_with.Goals as goal
 

@@ -1,5 +1,5 @@
 use Rattle.std.proofs.Common.{rules, ◌≡◌, Err}
-use Rattle.diagnosis.specs.Shown.{shown_text}
+use Rattle.diagnosis.specs.ReadDesigns.{shown_text}
 use Rattle.diagnosis.proofs.Halting.{halts_at_patterns, halts_at_neighbours}
 use Rattle.diagnosis.proofs.texts.read_behind.Goals as goal
 

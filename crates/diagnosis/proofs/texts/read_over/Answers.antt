@@ -2,7 +2,7 @@ use Rattle.std.proofs.Common.{◌≡◌, Ok, subst}
 use Rattle.text_parts.specs.ReadResults.{Fails}
 use Rattle.scan_model.specs.NetlistText.{netlist_reading}
 use Rattle.diagnosis.specs.Texts.{netlist_text, with_circuit}
-use Rattle.diagnosis.specs.Shown.{shown_over}
+use Rattle.diagnosis.specs.ReadDesigns.{shown_over}
 use Rattle.diagnosis.proofs.Halting.{at_halt, comes_after, text_serves, fault_halts}
 use Rattle.diagnosis.proofs.texts.read_over.Goals as goal
 

@@ -1,5 +1,5 @@
 use Rattle.std.proofs.Common.{rules, ◌≡◌, Err, refl}
-use Rattle.diagnosis.specs.Shown.{shown_design}
+use Rattle.diagnosis.specs.ReadDesigns.{shown_design}
 use Rattle.diagnosis.specs.Bundle.{texts_source}
 use Rattle.diagnosis.specs.Sections.{four_texts}
 use Rattle.diagnosis.proofs.Halting.{test_stands, is_refused}

@@ -1,7 +1,7 @@
 use Rattle.std.proofs.Common.{◌≡◌}
 use Rattle.std.proofs.lemmas.Result.{IfOk-weaker}
 use Rattle.made_designs.specs.Demo.{demo_written}
-use Rattle.made_designs.specs.Injected.{IsText, texts_of}
+use Rattle.made_designs.specs.InjectedFaults.{IsText, texts_of}
 use Rattle.made_designs.proofs.DemoOutput.{text_read}
 use Rattle.made_designs.proofs.demo.demo_text.Goals as goal
 

@@ -1,4 +1,4 @@
-use Rattle.made_designs.specs.Injected.{texts_of}
+use Rattle.made_designs.specs.InjectedFaults.{texts_of}
 use Rattle.made_designs.proofs.DemoOutput.{not_refused}
 use Rattle.made_designs.proofs.demo.parts_of_made.Goals as goal
 

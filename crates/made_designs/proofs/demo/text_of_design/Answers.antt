@@ -2,7 +2,7 @@ use Rattle.std.proofs.Common.{◌≡◌, ap, subst}
 use Rattle.std.proofs.lemmas.Result.{IfOk-weaker}
 use Rattle.scan_model.specs.ScanTest.{ScanTest}
 use Rattle.diagnosis.specs.Cases.{CaseFacts}
-use Rattle.made_designs.specs.Injected.{IsText}
+use Rattle.made_designs.specs.InjectedFaults.{IsText}
 use Rattle.made_designs.proofs.DemoView.{is_demo_case}
 use Rattle.made_designs.proofs.demo.text_of_design.Goals as goal
 

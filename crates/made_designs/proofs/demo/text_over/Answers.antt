@@ -1,7 +1,7 @@
 use Rattle.std.proofs.Common.{◌++◌, ap, ◌∙◌}
 use Rattle.scan_model.specs.ScanTest.{ScanTest}
 use Rattle.scan_model.specs.ReportText.{joined}
-use Rattle.made_designs.specs.Injected.{head_lines, place_of}
+use Rattle.made_designs.specs.InjectedFaults.{head_lines, place_of}
 use Rattle.made_designs.proofs.DemoLines.{text_is}
 use Rattle.made_designs.proofs.demo.text_over.Goals as goal
 

@@ -1,11 +1,11 @@
 use Rattle.std.proofs.Common.{◌≡◌, ℕ, List, sym, subst}
-use Rattle.diagnosis.specs.Reading.{four}
+use Rattle.diagnosis.specs.ReaderAnswers.{four}
 use Rattle.scan_model.specs.declared.fault.Profile.TheVariants.{One}
 use Rattle.made_laws.specs.MadeNetlist.{made_netlist}
 use Rattle.made_laws.specs.MadeScan.{made_scan}
 use Rattle.made_laws.specs.MadePatterns.{made_patterns}
 use Rattle.made_laws.specs.MadePairs.{made_pairs}
-use Rattle.made_designs.specs.Made.{BreakNoRule}
+use Rattle.made_designs.specs.MadeTexts.{BreakNoRule}
 use Rattle.made_designs.proofs.MadeReading.{made_legal}
 use Rattle.made_designs.proofs.design.made_design.Goals as goal
 

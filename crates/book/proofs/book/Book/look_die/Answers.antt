@@ -3,7 +3,7 @@ use Rattle.std.specs.Arc.{arc_value}
 use Rattle.diagnosis.specs.Designs.{ViewFacts, texts_of}
 use Rattle.book.specs.Answers.{die_look, up_to}
 use Rattle.book.specs.Changes.{BookFacts, IsBook, IsViewIn}
-use Rattle.book.specs.Finding.{IsDieIn}
+use Rattle.book.specs.Lookups.{IsDieIn}
 use Rattle.book.specs.Kinds.{arc_values}
 use Rattle.book.proofs.LegalLists.{both}
 use Rattle.book.proofs.Looking.{design_there, die_looked, view_in, revision_stays}

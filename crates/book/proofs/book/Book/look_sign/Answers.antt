@@ -6,7 +6,7 @@ use Rattle.diagnosis.specs.Designs.{DesignFacts}
 use Rattle.book.specs.Deeds.{report_at}
 use Rattle.book.specs.Answers.{sign_look, sign_numbered}
 use Rattle.book.specs.Changes.{BookFacts, IsBook, Looked}
-use Rattle.book.specs.Finding.{IsDieIn}
+use Rattle.book.specs.Lookups.{IsDieIn}
 use Rattle.book.proofs.LegalLists.{both}
 use Rattle.book.proofs.Looking.{if_looked, sign_is_right, sign_stays, sign_looked, design_there}
 use Rattle.book.proofs.Showing.{some_is, die_as_named}

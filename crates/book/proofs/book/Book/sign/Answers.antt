@@ -3,7 +3,7 @@ use Rattle.sha2.specs.Sha256.{sha256}
 use Rattle.std.specs.Str.{bytes_eq}
 use Rattle.diagnosis.specs.Designs.{ViewFacts, view_report, IsDesign}
 use Rattle.desk_outside.specs.declared.deed.DeedKind.TheVariants.{Sign}
-use Rattle.book.specs.Legal.{fits}
+use Rattle.book.specs.LegalDeeds.{fits}
 use Rattle.book.specs.Changes.{BookFacts, IsBook}
 use Rattle.book.specs.Kinds.{sign_deed}
 use Rattle.book.proofs.Changing.{book_after, unchanged, digest_differs}

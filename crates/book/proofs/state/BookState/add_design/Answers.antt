@@ -1,6 +1,6 @@
 use Rattle.std.proofs.Common.{◌<◌, ap, sym, subst, ◌∙◌}
 use Rattle.book.specs.State.{StateFacts}
-use Rattle.book.specs.Ready.{IsReadyDesign}
+use Rattle.book.specs.ReadyChanges.{IsReadyDesign}
 use Rattle.book.proofs.Readying.{design_is_new, design_added}
 use Rattle.book.proofs.state.BookState.add_design.Goals as goal
 

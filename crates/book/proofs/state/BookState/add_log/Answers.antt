@@ -1,6 +1,6 @@
 use Rattle.std.proofs.Common.{◌<◌, sym, subst}
 use Rattle.book.specs.State.{StateFacts}
-use Rattle.book.specs.Ready.{IsReadyLog}
+use Rattle.book.specs.ReadyChanges.{IsReadyLog}
 use Rattle.book.proofs.Readying.{log_within, log_added}
 use Rattle.book.proofs.state.BookState.add_log.Goals as goal
 

@@ -1,6 +1,6 @@
 use Rattle.std.proofs.Common.{◌<◌, sym, subst}
 use Rattle.book.specs.State.{StateFacts}
-use Rattle.book.specs.Ready.{IsReadySign}
+use Rattle.book.specs.ReadyChanges.{IsReadySign}
 use Rattle.book.proofs.Readying.{sign_within, sign_added}
 use Rattle.book.proofs.state.BookState.add_sign.Goals as goal
 

@@ -3,7 +3,7 @@ use Rattle.std.specs.List.{position}
 use Rattle.std.specs.Str.{bytes_eq}
 use Rattle.std.specs.Arc.{arc_value}
 use Rattle.book.specs.Deeds.{design_text}
-use Rattle.book.specs.Finding.{IsFound}
+use Rattle.book.specs.Lookups.{IsFound}
 use Rattle.book.proofs.NumberedDesign.{found_design, found_none}
 use Rattle.book.specs.State.{StateFacts}
 use Rattle.book.proofs.state.BookState.design.Goals as goal

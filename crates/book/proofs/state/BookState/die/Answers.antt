@@ -5,7 +5,7 @@ use Rattle.std.proofs.lemmas.Bool.Decides.{nat_tests}
 use Rattle.std.proofs.lemmas.List.{length-map}
 use Rattle.book.specs.Deeds.{die_logs, die_signs}
 use Rattle.book.specs.Dies.{is_die}
-use Rattle.book.specs.Finding.{IsDieIn}
+use Rattle.book.specs.Lookups.{IsDieIn}
 use Rattle.book.proofs.FoundDie.{empty_die, no_die, of_found, no_values, is_die_in}
 use Rattle.book.specs.State.{StateFacts}
 use Rattle.book.proofs.state.BookState.die.Goals as goal

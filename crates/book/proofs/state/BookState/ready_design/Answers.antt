@@ -1,6 +1,6 @@
 use Rattle.std.proofs.Common.{◌≡◌, ◌∙◌, sym, ap, subst, true}
 use Rattle.std.specs.Arc.{arc_value}
-use Rattle.book.specs.Legal.{fits}
+use Rattle.book.specs.LegalDeeds.{fits}
 use Rattle.book.specs.Kinds.{design_deed}
 use Rattle.book.specs.State.{StateFacts}
 use Rattle.book.proofs.NewName.{name_is_new}

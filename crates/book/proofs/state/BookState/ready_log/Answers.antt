@@ -1,7 +1,7 @@
 use Rattle.std.proofs.Common.{◌≡◌, ◌<◌, ◌∙◌, sym, ap, subst, true, Some, length}
 use Rattle.std.specs.List.{position}
 use Rattle.std.specs.Arc.{arc_value}
-use Rattle.book.specs.Legal.{fits}
+use Rattle.book.specs.LegalDeeds.{fits}
 use Rattle.book.specs.Kinds.{log_deed}
 use Rattle.book.specs.Dies.{is_die}
 use Rattle.book.specs.State.{StateFacts, IsState}

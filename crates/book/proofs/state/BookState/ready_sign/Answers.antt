@@ -1,6 +1,6 @@
 use Rattle.std.proofs.Common.{◌≡◌, ◌≤◌, ◌∙◌, sym, ap, subst, true, Some, None, refl, length, arith}
 use Rattle.std.specs.List.{position}
-use Rattle.book.specs.Legal.{fits}
+use Rattle.book.specs.LegalDeeds.{fits}
 use Rattle.book.specs.Kinds.{sign_deed}
 use Rattle.book.specs.Deeds.{die_logs}
 use Rattle.book.specs.Dies.{is_die}

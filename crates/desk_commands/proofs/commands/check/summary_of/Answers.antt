@@ -2,9 +2,9 @@ use Rattle.diagnosis.specs.Texts.{value}
 use Rattle.diagnosis.proofs.Halting.{comes_after}
 use Rattle.diag_report.specs.Summary.{summary_text}
 use Rattle.desk_commands.specs.Designs.{shown_design}
-use Rattle.command_words.specs.Shown.{shown_files}
+use Rattle.command_words.specs.CommandViews.{shown_files}
 use Rattle.desk_commands.specs.Work.{design_reading}
-use Rattle.desk_commands.specs.Stops.{halt_of}
+use Rattle.desk_commands.specs.CommandStops.{halt_of}
 use Rattle.desk_commands.proofs.commands.check.summary_of.Goals as goal
 
 pub returns-clause-told : goal.returns-clause-told

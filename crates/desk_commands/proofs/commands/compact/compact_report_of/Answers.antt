@@ -1,9 +1,9 @@
 use Rattle.std.proofs.Common.{◌≡◌, ◌∙◌, Err, rules, subst}
 use Rattle.scan_model.specs.ScanTest.{ScanTest}
 use Rattle.diagnosis.proofs.Halting.{at_halt, comes_after}
-use Rattle.command_words.specs.Shown.{shown_order}
+use Rattle.command_words.specs.CommandViews.{shown_order}
 use Rattle.desk_commands.specs.Designs.{shown_design}
-use Rattle.desk_commands.specs.Stops.{Follows, halt_of}
+use Rattle.desk_commands.specs.CommandStops.{Follows, halt_of}
 use Rattle.desk_commands.specs.Views.{with_channels}
 use Rattle.desk_commands.specs.Work.{design_reading}
 use Rattle.desk_commands.proofs.commands.compact.compact_report_of.Goals as goal

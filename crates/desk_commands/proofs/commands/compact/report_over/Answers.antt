@@ -1,9 +1,9 @@
 use Rattle.std.proofs.Common.{◌∙◌, ℕ, List, ap, map, subst}
 use Rattle.chain_compactor.specs.ChannelText.{channel_reading}
 use Rattle.diagnosis.proofs.Halting.{comes_after}
-use Rattle.command_words.specs.Shown.{shown_order}
-use Rattle.desk_commands.specs.Reading.{Reading, file_reading}
-use Rattle.desk_commands.specs.Stops.{Follows, halt_of}
+use Rattle.command_words.specs.CommandViews.{shown_order}
+use Rattle.desk_commands.specs.FileReadings.{Reading, file_reading}
+use Rattle.desk_commands.specs.CommandStops.{Follows, halt_of}
 use Rattle.desk_commands.specs.Views.{with_compactor}
 use Rattle.desk_commands.proofs.ViewReports.{same_compactor}
 use Rattle.desk_commands.proofs.commands.compact.report_over.Goals as goal

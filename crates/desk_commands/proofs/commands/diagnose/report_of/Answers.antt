@@ -1,8 +1,8 @@
 use Rattle.std.proofs.Common.{◌≡◌, ◌∙◌, Err, rules}
 use Rattle.desk_commands.specs.Designs.{shown_design}
-use Rattle.command_words.specs.Shown.{shown_order}
+use Rattle.command_words.specs.CommandViews.{shown_order}
 use Rattle.desk_commands.specs.Work.{design_reading, with_design}
-use Rattle.desk_commands.specs.Stops.{halt_of}
+use Rattle.desk_commands.specs.CommandStops.{halt_of}
 use Rattle.diagnosis.proofs.Halting.{at_halt, comes_after}
 use Rattle.desk_commands.proofs.commands.diagnose.report_of.Goals as goal
 

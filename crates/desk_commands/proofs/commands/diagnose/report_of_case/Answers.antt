@@ -3,8 +3,8 @@ use Rattle.std.proofs.lemmas.Result.{err_from_is_err_and}
 use Rattle.scan_model.specs.LogText.{log_frame}
 use Rattle.scan_model.specs.DieReport.{die_report}
 use Rattle.diagnosis.specs.Designs.{texts_of}
-use Rattle.desk_commands.specs.Reading.{Reading}
-use Rattle.desk_commands.specs.Stops.{Follows}
+use Rattle.desk_commands.specs.FileReadings.{Reading}
+use Rattle.desk_commands.specs.CommandStops.{Follows}
 use Rattle.desk_commands.proofs.ReadLogs.{no_report, report_follows}
 use Rattle.desk_commands.proofs.CaseLogs.{report_is, same_reading}
 use Rattle.desk_commands.proofs.commands.diagnose.report_of_case.Goals as goal

@@ -1,7 +1,7 @@
 use Rattle.std.proofs.Common.{◌∙◌, map, ap}
 use Rattle.diagnosis.specs.Cases.{CaseFacts}
 use Rattle.desk_commands.specs.Designs.{shown_design}
-use Rattle.command_words.specs.Shown.{shown_order}
+use Rattle.command_words.specs.CommandViews.{shown_order}
 use Rattle.desk_commands.proofs.commands.diagnose.report_over.Goals as goal
 
 pub returns-clause-told : goal.returns-clause-told

@@ -1,8 +1,8 @@
 use Rattle.std.proofs.Common.{◌∙◌, ℕ, List, ap, map, subst}
 use Rattle.diagnosis.proofs.Halting.{comes_after}
-use Rattle.command_words.specs.Shown.{shown_order}
-use Rattle.desk_commands.specs.Reading.{Reading}
-use Rattle.desk_commands.specs.Stops.{Follows, halt_of}
+use Rattle.command_words.specs.CommandViews.{shown_order}
+use Rattle.desk_commands.specs.FileReadings.{Reading}
+use Rattle.desk_commands.specs.CommandStops.{Follows, halt_of}
 use Rattle.desk_commands.specs.Views.{launch_reading, with_launches}
 use Rattle.desk_commands.proofs.ViewReports.{same_launches}
 use Rattle.desk_commands.proofs.commands.loc.transition_report_of.Goals as goal

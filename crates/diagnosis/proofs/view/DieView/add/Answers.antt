@@ -5,7 +5,7 @@ use Rattle.std.proofs.lemmas.Result.{IfOk-weaker, on_err_weaker}
 use Rattle.diagnosis.specs.declared.put.Put.{Put}
 use Rattle.diagnosis.specs.declared.log.ReadLog.{ReadLog}
 use Rattle.diagnosis.specs.Designs.{ReadLogFacts, ViewFacts, IsLogOf}
-use Rattle.diagnosis.specs.Adding.{Added}
+use Rattle.diagnosis.specs.LogAddition.{Added}
 use Rattle.diagnosis.specs.Cases.{AddedAmong}
 use Rattle.diagnosis.proofs.Views.{view_with, view_after, view_added}
 use Rattle.diagnosis.proofs.view.DieView.add.Goals as goal

@@ -8,7 +8,7 @@ use Rattle.diagnosis.specs.declared.diagnosed.Diagnosis.{Diagnosis}
 use Rattle.diagnosis.specs.Designs.{facts_of}
 use Rattle.diagnosis.specs.Cases.{case_report}
 use Rattle.made_designs.specs.Demo.{own_candidates, own_report}
-use Rattle.made_designs.specs.Injected.{demo_case}
+use Rattle.made_designs.specs.InjectedFaults.{demo_case}
 use Rattle.made_designs.proofs.DemoView.{is_log_of_case, with_one, report_is, candidates_are}
 use Rattle.made_designs.proofs.demo.diagnosed.diagnosis_of.Goals as goal
 

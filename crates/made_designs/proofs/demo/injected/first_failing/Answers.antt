@@ -1,6 +1,6 @@
 use Rattle.std.proofs.Common.{◌≡◌, ℕ, ◌+◌, ◌%◌, true, false, not, eqb, length, Some, sym, ap, subst, ◌∙◌, below_more, arith, rules}
 use Rattle.made_designs.specs.Demo.{predicts_some}
-use Rattle.made_designs.specs.Injected.{IsOwnLog, IsFirst}
+use Rattle.made_designs.specs.InjectedFaults.{IsOwnLog, IsFirst}
 use Rattle.made_designs.proofs.DemoPlaces.{first_place, no_place, predicts_as_read}
 use Rattle.made_designs.proofs.demo.injected.first_failing.Goals as goal
 

@@ -1,7 +1,7 @@
 use Rattle.std.proofs.Common.{ap, Some}
 use Rattle.std.proofs.lemmas.List.{take_rest}
 use Rattle.desk_outside.proofs.Parts.{cut_left}
-use Rattle.desk_outside.proofs.memory.unread.Unread.read.Goals as goal
+use Rattle.desk_outside.proofs.memory.unread.UnreadBytes.read.Goals as goal
 
 pub returns-clause-taken : goal.returns-clause-taken
 returns-clause-taken c =

@@ -5,7 +5,7 @@ use Rattle.command_words.specs.declared.argument.Argument.{Argument}
 use Rattle.command_words.specs.declared.table.Task.{Task}
 use Rattle.command_words.specs.Arguments.{name_of}
 use Rattle.command_words.specs.Table.{Form}
-use Rattle.command_words.specs.Asked.{Asked, asked_by}
+use Rattle.command_words.specs.Invocations.{Invocation, asked_by}
 
 -- an argument of one word
 abbrev pub argument : Text → Rule
@@ -37,5 +37,5 @@ module _ (rows : List Row) where
   found_logs = unwrap_or (all_of (codes "log") rows) []
 
   -- what is asked for by these words
-  abbrev pub asked_in : Task → Asked
+  abbrev pub asked_in : Task → Invocation
   asked_in = asked_by found_word found_logs

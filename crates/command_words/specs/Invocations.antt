@@ -12,7 +12,7 @@ use Rattle.command_words.specs.declared.table.Task.TheVariants as task
 use Rattle.command_words.specs.Words.{word_at}
 use Rattle.command_words.specs.Arguments.{name_of}
 use Rattle.command_words.specs.Table.{Form}
-use Rattle.command_words.specs.Right.{form_named}
+use Rattle.command_words.specs.RightWords.{form_named}
 
 -- the files of a design, by their names, and the profile in which they are read
 pub record DesignNames : Type 0 where
@@ -37,11 +37,12 @@ pub record Service : Type 0 where
   pub sessions : ℕ
   pub store : List ℕ
 
-pub data Asked : Type 0 where
-  making : Product → Request → Asked
+-- a product of a request, the demonstration, or a service
+pub data Invocation : Type 0 where
+  making : Product → Request → Invocation
   -- a seed and a number of blocks
-  trying : ℕ → ℕ → Asked
-  serving : Service → Asked
+  trying : ℕ → ℕ → Invocation
+  serving : Service → Invocation
 
 -- ---- the word of each argument, and those that are left for logs
 
@@ -90,29 +91,29 @@ module _ (word_of : Argument → List ℕ) (logs : List (List ℕ)) where
     store = word_of argument.Store;
   }
 
-  abbrev pub asked_by : Task → Asked
+  abbrev pub asked_by : Task → Invocation
   asked_by (task.Make product profile) = making product (request_by profile)
   asked_by task.Demo = trying (number_for word_of argument.Seed) (number_for word_of argument.Blocks)
   asked_by task.Serve = serving service_by
 
 -- the words of this command
-abbrev pub asked_of : List (List ℕ) → Form → Asked
+abbrev pub asked_of : List (List ℕ) → Form → Invocation
 asked_of words form = asked_by (word_for form words) (log_words form words) form.task
 
 -- what words ask for, nothing where they are no command's
-abbrev pub asked : List (List ℕ) → Option Asked
+abbrev pub asked : List (List ℕ) → Option Invocation
 asked words = option_map (asked_of words) (form_named words)
 
 -- ---- which of the commands
 
-abbrev pub serves : Option Asked → Bool
+abbrev pub serves : Option Invocation → Bool
 serves None = false
 serves (Some (making product request)) = false
 serves (Some (trying seed blocks)) = false
 serves (Some (serving service)) = true
 
 -- one of the commands that come to a page
-abbrev pub comes_to_page : Option Asked → Bool
+abbrev pub comes_to_page : Option Invocation → Bool
 comes_to_page None = false
 comes_to_page (Some (making product request)) = true
 comes_to_page (Some (trying seed blocks)) = true
@@ -130,7 +131,7 @@ is_of_die Summary = false
 is_of_die Bundle = false
 is_of_die _ = true
 
-abbrev pub IsSound : Asked → Type 0
+abbrev pub IsSound : Invocation → Type 0
 IsSound (making product request) = is_of_die product ≡ true → (is_tag request.design ≡ true) × (is_tag request.die ≡ true)
 IsSound (trying seed blocks) = (1 ≤ blocks) × (blocks ≤ 200)
 IsSound (serving service) = (1 ≤ service.workers) × (service.workers ≤ 64)

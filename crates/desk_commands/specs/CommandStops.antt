@@ -3,12 +3,12 @@ use Rattle.std.specs.Prelude.{◌≡◌, ◌<◌, ℕ, Bool, List, ◌++◌, cod
 use Rattle.text_parts.specs.declared.fault.ReadFault.{ReadFault}
 use Rattle.text_parts.specs.declared.fault.ReadFault.TheVariants as answer
 use Rattle.text_parts.specs.declared.fault.TextFault.{TextFault}
-use Rattle.diagnosis.specs.Halts.{Halt, refused, failed, no_memory, is_failure, ends_by_failure, ComesTo}
+use Rattle.diagnosis.specs.TextHalts.{Halt, refused, failed, no_memory, is_failure, ends_by_failure, ComesTo}
 use Rattle.desk_commands.specs.declared.files.Refusal.{Refusal}
 use Rattle.desk_commands.specs.declared.files.Refusal.TheVariants.{Absent, TooLong, Rule}
 use Rattle.desk_commands.specs.declared.files.Stop.{Stop}
 use Rattle.desk_commands.specs.declared.files.Stop.TheVariants.{Refused, Fault, NoMemory}
-use Rattle.desk_commands.specs.Reading.{Reading, file_limit}
+use Rattle.desk_commands.specs.FileReadings.{Reading, file_limit}
 use Rattle.desk_commands.specs.Work.{refusal_status, refusal_line}
 
 -- the refusal holds of a file's text, or of there being none, whatever the text stands for

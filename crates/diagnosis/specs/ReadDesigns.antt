@@ -8,8 +8,8 @@ use Rattle.diagnosis.specs.declared.texts.TextReading.{TextReading}
 use Rattle.diagnosis.specs.declared.texts.TestReadings.{TestReadings}
 use Rattle.diagnosis.specs.declared.texts.ReadDesign.{ReadDesign}
 use Rattle.diagnosis.specs.Texts.{ReadTexts}
-use Rattle.diagnosis.specs.Halts.{Halt}
-use Rattle.diagnosis.specs.Reading.{four}
+use Rattle.diagnosis.specs.TextHalts.{Halt}
+use Rattle.diagnosis.specs.ReaderAnswers.{four}
 
 abbrev pub shown_text : {T X : Type 0} → (T → List ℕ) → TextReading T X → List ℕ × X
 shown_text shows j = (shows j.text, j.value)

@@ -8,13 +8,13 @@ use Rattle.diag_report.specs.PredictedLog.{fault_of, predicted_log, predicted_fa
 use Rattle.diag_report.specs.Summary.{count_line}
 use Rattle.diagnosis.specs.Texts.{FourTexts}
 use Rattle.scan_model.specs.declared.fault.Profile.TheVariants.{One}
-use Rattle.diagnosis.specs.Reading.{four}
+use Rattle.diagnosis.specs.ReaderAnswers.{four}
 use Rattle.diagnosis.specs.Designs.{ReadLogFacts, StandsOver}
 use Rattle.diagnosis.specs.Cases.{CaseFacts}
-use Rattle.made_designs.specs.declared.design.Made.{Made}
-use Rattle.made_designs.specs.declared.demo.injected.Injected.{Injected}
+use Rattle.made_designs.specs.declared.design.MadeDesign.{MadeDesign}
+use Rattle.made_designs.specs.declared.demo.injected.InjectedFault.{InjectedFault}
 use Rattle.made_laws.specs.Draws.{state_after}
-use Rattle.made_designs.specs.Made.{text_draws}
+use Rattle.made_designs.specs.MadeTexts.{text_draws}
 use Rattle.made_designs.specs.Demo.{demo_name, injected_from, drawn_place, demo_lines}
 
 -- the die of the design that is made, with these logs
@@ -40,12 +40,12 @@ pub record IsOwnLog (t : ScanTest) (place : ℕ) (log : ReadLogFacts) : Type 0 w
   pub stands : StandsOver t log
 
 -- a place in the list of all faults, with the log of its fault
-pub record IsFound (t : ScanTest) (injected : Injected) : Type 0 where
+pub record IsFound (t : ScanTest) (injected : InjectedFault) : Type 0 where
   pub within : injected.place < length (universe t)
   pub own : IsOwnLog t injected.place injected.log
 
 -- the place of what was found
-abbrev pub place_of : Option Injected → Option ℕ
+abbrev pub place_of : Option InjectedFault → Option ℕ
 place_of None = None
 place_of (Some injected) = Some injected.place
 
@@ -66,7 +66,7 @@ pub record IsText (seed blocks : ℕ) (t : ScanTest) (text : List ℕ) : Type 0 
   pub is : text ≡ joined (demo_lines seed blocks t)
 
 -- the texts that were made
-abbrev pub texts_of : Made → FourTexts
+abbrev pub texts_of : MadeDesign → FourTexts
 texts_of made = four One made.netlist made.scan made.patterns made.neighbours
 
 -- the lines before those of the fault

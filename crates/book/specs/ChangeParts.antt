@@ -32,14 +32,14 @@ abbrev pub beside : ℕ → List ℕ → List ℕ → Result Put PutFault
 beside number kept text = if bytes_eq kept text then Ok (Same number) else Err (put_fault.NameTaken (sha256 kept))
 
 -- what is told of a book while a deed goes to its keeper: the deeds, the keeper's rows, and its count of faults
-pub record Told : Type 0 where
+pub record RecordFacts : Type 0 where
   pub deeds : List Deed
   pub rows : Option (List Deed)
   pub faults : ℕ
 
 -- The deeds and the rows gain the deed exactly where it was recorded. The count of faults never falls, and rose where the
 -- keeper failed.
-pub record Recorded (deed : Deed) (result : Result (Unit {0}) KeepFault) (old new : Told) : Type 0 where
+pub record Recorded (deed : Deed) (result : Result (Unit {0}) KeepFault) (old new : RecordFacts) : Type 0 where
   pub deeds : new.deeds ≡ appended result old.deeds deed
   pub rows : new.rows ≡ option_map (λ rows. appended result rows deed) old.rows
   pub later : old.faults ≤ new.faults

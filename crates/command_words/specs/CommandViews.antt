@@ -7,7 +7,7 @@ use Rattle.command_words.specs.declared.command.Command.{Command}
 use Rattle.command_words.specs.declared.command.Command.TheVariants.{Make, Demo}
 use Rattle.command_words.specs.declared.table.Form as code_form
 use Rattle.command_words.specs.Table.{Form}
-use Rattle.command_words.specs.Asked.{Asked, making, trying, DesignNames, IsSound, Request, Service, asked, comes_to_page}
+use Rattle.command_words.specs.Invocations.{Invocation, making, trying, DesignNames, IsSound, Request, Service, asked, comes_to_page}
 
 abbrev pub shown_form : code_form.Form → Form
 shown_form form = record { word = form.word.now; task = form.task; arguments = form.arguments.now; has_logs = form.has_logs }
@@ -27,12 +27,12 @@ shown_order r = record { design = r.design.now; die = r.die.now; files = shown_f
 abbrev pub shown_service : code_service.Service → Service
 shown_service s = record { port = s.port; workers = s.workers; sessions = s.sessions; store = s.store.now }
 
-abbrev pub shown : Command → Asked
+abbrev pub shown : Command → Invocation
 shown (Make product order) = making product (shown_order order)
 shown (Demo demo) = trying demo.seed demo.blocks
 
 -- the command that is asked for; none where that comes to no page
-abbrev pub IsCommandFor : Asked → Option Command → Type 0
+abbrev pub IsCommandFor : Invocation → Option Command → Type 0
 IsCommandFor a None = comes_to_page (Some a) ≡ false
 IsCommandFor a (Some command) = shown command ≡ a
 

@@ -7,7 +7,7 @@ use Rattle.diagnosis.specs.declared.section.DesignText.TheVariants.{Netlist, Sca
 use Rattle.diagnosis.specs.Texts as texts
 use Rattle.desk_commands.specs.declared.files.Refusal.{Refusal}
 use Rattle.desk_commands.specs.declared.files.Refusal.TheVariants.{Absent, TooLong, Rule}
-use Rattle.command_words.specs.Asked.{DesignNames}
+use Rattle.command_words.specs.Invocations.{DesignNames}
 
 -- the longest file that is read, in bytes
 abbrev pub file_limit : ℕ

@@ -3,7 +3,7 @@ use Rattle.std.specs.Prelude.{◌≡◌, ◌⊎◌, ℕ, Bool, true, false, List
 use Rattle.std.specs.Io.KnownBytes.{append_known}
 use Rattle.desk_outside.specs.Bytes.{AddsPart}
 use Rattle.desk_commands.specs.Work.{Output}
-use Rattle.desk_commands.specs.Ending.{IsDueOf, page_statuses}
+use Rattle.desk_commands.specs.CommandEnds.{IsDueOf, page_statuses}
 
 -- the statuses with which a run may end: of `serve`, and of all else, which are those of pages, 2, 6 and 8
 abbrev pub statuses_of : Bool → List ℕ
@@ -20,7 +20,7 @@ abbrev pub MayEnd : Output → Type 0 → ℕ → List ℕ → Type 0
 MayEnd output rose status text = IsDueOf output rose status text ⊎ ((status ≡ 8) × (text ≡ codes "memory\n"))
 
 -- a run ended as it may: with a page that was due, of which a failing sink has a part
-pub record Ran (output : Output) (shelf_rose sink_rose : Type 0) (result : ℕ) (old new : Option (List ℕ)) : Type 0 where
+pub record IsRunEnd (output : Output) (shelf_rose sink_rose : Type 0) (result : ℕ) (old new : Option (List ℕ)) : Type 0 where
   pub status : ℕ
   pub text : List ℕ
   pub due : MayEnd output shelf_rose status text

@@ -5,7 +5,7 @@ use Rattle.std.specs.Arc.{arc_value}
 use Rattle.book.specs.declared.state.ready.ReadyDesign.{ReadyDesign}
 use Rattle.book.specs.declared.state.ready.ReadyLog.{ReadyLog}
 use Rattle.book.specs.declared.state.ready.ReadySign.{ReadySign}
-use Rattle.book.specs.Legal.{fits}
+use Rattle.book.specs.LegalDeeds.{fits}
 use Rattle.book.specs.Kinds.{design_deed, log_deed, sign_deed}
 use Rattle.book.specs.Changes.{StandsIn}
 use Rattle.book.specs.Dies.{DieFacts, is_die}
