@@ -43,9 +43,9 @@ use Rattle.chain_compactor.specs.Flips.{differs, flip_differs, straight_value, m
 use Rattle.chain_compactor.specs.ObservationPoints.{seeing}
 use Rattle.chain_compactor.specs.CompactModel.{compact_model}
 use Rattle.chain_compactor.proofs.OneFlip.{captured_fails, shifted_fails, unknown_hides}
-use Rattle.chain_compactor.proofs.Behind.{flips_behind}
+use Rattle.chain_compactor.proofs.UpstreamFlips.{flips_behind}
 use Rattle.chain_compactor.proofs.Members.{members_are_points, fails-is, same_behind, silent_behind}
-use Rattle.chain_compactor.proofs.SeenBehind.{seen}
+use Rattle.chain_compactor.proofs.SeenPoints.{seen}
 
 -- ---- faults of the logic
 

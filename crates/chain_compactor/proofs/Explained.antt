@@ -21,9 +21,9 @@ use Rattle.scan_model.specs.Classes.{class, class_by, is_failing}
 use Rattle.scan_model.specs.MatchCounts.{counts_of}
 use Rattle.chain_compactor.specs.Channels.{Compactor, IsCompactorOf}
 use Rattle.chain_compactor.specs.Compaction.{compact_bits, compact_class, compact_counts_of, predicts_compact_fail}
-use Rattle.chain_compactor.specs.TracedBits.{IsBitIn, AreBits, ListsBehind, complete_log}
+use Rattle.chain_compactor.specs.TracedBits.{IsBitIn, AreBits, ListsUpstreamBits, complete_log}
 use Rattle.chain_compactor.proofs.Members.{fail_has_one_behind}
-use Rattle.chain_compactor.proofs.SeenBehind.{seen}
+use Rattle.chain_compactor.proofs.SeenPoints.{seen}
 
 -- ---- counting
 
@@ -87,7 +87,7 @@ complete_fits patterns points bits some are = record {
   cuts = All-nil (All (λ k. k < points));
 }
 
-module _ (t : ScanTest) (sound : IsScanTest t) (c : Compactor) (made : IsCompactorOf t c) (logs : List LogFacts) (bits : List Bit) (listed : ListsBehind t c logs bits) where
+module _ (t : ScanTest) (sound : IsScanTest t) (c : Compactor) (made : IsCompactorOf t c) (logs : List LogFacts) (bits : List Bit) (listed : ListsUpstreamBits t c logs bits) where
   abbrev log : LogFacts
   log = complete_log (length t.patterns) bits
 

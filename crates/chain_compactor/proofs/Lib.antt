@@ -5,11 +5,11 @@ pub mod Judged
 pub mod CompactOrder
 pub mod Xors
 pub mod OneFlip
-pub mod Behind
+pub mod UpstreamFlips
 pub mod Members
 pub mod CompactRows
 pub mod XorChanges
-pub mod SeenBehind
+pub mod SeenPoints
 pub mod CompactModel
 pub mod SparseSums
 pub mod ShownFlips

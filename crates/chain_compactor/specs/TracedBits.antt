@@ -31,7 +31,7 @@ abbrev pub HasLanes : ScanTest → Compactor → List PointRow → ℕ → List 
 HasLanes t c rows b there n bits = (k : ℕ) → k < n → (q j : ℕ) → j < 512 → Contains (seeing t c (point_at t k)) q → lane (slice_index_or rows q no_point_row).failing j ≡ true → lane there j ≡ true → Contains bits (bit_of (pattern_of b j) k)
 
 -- the bits of block b that a Failing compact point sees are added to others
-pub record AddsBehind (t : ScanTest) (c : Compactor) (rows : List PointRow) (b : ℕ) (there : List ℕ) (n : ℕ) (old new : List Bit) : Type 0 where
+pub record AddsUpstreamBits (t : ScanTest) (c : Compactor) (rows : List PointRow) (b : ℕ) (there : List ℕ) (n : ℕ) (old new : List Bit) : Type 0 where
   pub kept : (x : Bit) → Contains old x → Contains new x
   pub lanes : HasLanes t c rows b there n new
   pub within : (patterns : ℕ) → ((j : ℕ) → j < 512 → lane there j ≡ true → pattern_of b j < patterns) → AreBits patterns (length (points_of t)) old → AreBits patterns (length (points_of t)) new
@@ -41,8 +41,8 @@ abbrev pub ListsUpTo : ScanTest → Compactor → List LogFacts → ℕ → List
 ListsUpTo t c logs patterns bits = (w k q : ℕ) → w < patterns → w < length t.patterns → k < length (points_of t) → q < length c.points → Contains (seeing t c (point_at t k)) q
     → is_failing (compact_class t c logs (bit_of w q)) ≡ true → Contains bits (bit_of w k)
 
-abbrev pub ListsBehind : ScanTest → Compactor → List LogFacts → List Bit → Type 0
-ListsBehind t c logs bits = ListsUpTo t c logs (length t.patterns) bits
+abbrev pub ListsUpstreamBits : ScanTest → Compactor → List LogFacts → List Bit → Type 0
+ListsUpstreamBits t c logs bits = ListsUpTo t c logs (length t.patterns) bits
 
 -- a log of all patterns, not cut short, that lists some bits
 abbrev pub complete_log : ℕ → List Bit → LogFacts

@@ -41,7 +41,7 @@ pub fn compact_flips(parts: &Parts, compact: &Compact)
 
 /// A fault that predicts a fail at a compact point predicts one at a point upstream of it. What the points upstream of it show is all that
 /// a compact point tells of faults.
-pub fn fails_behind(parts: &Parts, compact: &Compact)
+pub fn upstream_fails(parts: &Parts, compact: &Compact)
     requires { IsCompactorOf parts.now compact.now }
     ensures some { (f : Fault) (w q : ℕ) → q < length compact.now.points → predicts_compact_fail parts.now compact.now f (bit_of w q) ≡ true
         → (k : ℕ) × ((k < length (points_of parts.now)) × Contains (members_at parts.now compact.now q) (point_at parts.now k) × (predicts_fail parts.now f (bit_of w k) ≡ true)) }

@@ -25,7 +25,7 @@ mod tracing;
 pub use compactor::{Channel, Compact};
 pub use counting::compact_counts;
 pub use expected::{compact_expected, compact_expected_over};
-pub use laws::{compact_flips, fails_behind};
+pub use laws::{compact_flips, upstream_fails};
 pub use logs::read_compact_log;
 pub use reading::read_channels;
 pub use text::compact_text;

@@ -13,7 +13,7 @@ ghost use Rattle.fault_effects.specs.PointRows.{no_point_row};
 ghost use Rattle.chain_compactor.specs.Channels.{IsCompactorOf};
 ghost use Rattle.chain_compactor.specs.Compaction.{compact_rows, compact_counts_of};
 ghost use Rattle.chain_compactor.specs.ObservationPoints.{seeing, AreTables};
-ghost use Rattle.chain_compactor.specs.TracedBits.{AddsLanes, AddsBehind, ListsBehind, AreBits, complete_log};
+ghost use Rattle.chain_compactor.specs.TracedBits.{AddsLanes, AddsUpstreamBits, ListsUpstreamBits, AreBits, complete_log};
 
 use crate::compactor::Compact;
 use crate::tables::Tables;
@@ -31,7 +31,7 @@ use std::alloc::Global;
 const TRACED_LIMIT: usize = 262_144;
 
 /// The lanes of a block in which a compact point that sees a point of the test is Failing.
-fn failing_behind(
+fn failing_downstream(
     parts: &Parts,
     compact: &Compact,
     tables: &Tables,
@@ -92,17 +92,17 @@ fn push_block(
     requires tables { AreTables parts.now compact.now tables.now }
     requires rows { length rows.now ≡ length compact.now.points }
     requires block { block < 65536 }
-    ensures { OnOk result (AddsBehind parts.now compact.now rows.now block there (length (points_of parts.now)) bits.old bits.new) }
+    ensures { OnOk result (AddsUpstreamBits parts.now compact.now rows.now block there (length (points_of parts.now)) bits.old bits.new) }
 {
     for point in 0..parts.points().len() as u32 {
-        let failing = failing_behind(parts, compact, tables, rows, point);
+        let failing = failing_downstream(parts, compact, tables, rows, point);
         push_lanes(bits, block, point, failing.and(there))?;
     }
     Ok(())
 }
 
 /// The bits of the test upstream of Failing bits, if they are few enough to be traced back.
-fn bits_behind(
+fn upstream_bits(
     alloc: Global,
     parts: &Parts,
     compact: &Compact,
@@ -115,7 +115,7 @@ fn bits_behind(
     requires expected { expected.now ≡ compact_rows parts.now compact.now }
     requires joined { IsJoinedOf (length parts.now.patterns) (length compact.now.points) joined.now }
     ensures within { IfOk result (λ found. IfSome found (AreBits (length parts.now.patterns) (length (points_of parts.now)))) }
-    ensures listed { (logs : List LogFacts) → StandsFor logs joined.now → IfOk result (λ found. IfSome found (ListsBehind parts.now compact.now logs)) }
+    ensures listed { (logs : List LogFacts) → StandsFor logs joined.now → IfOk result (λ found. IfSome found (ListsUpstreamBits parts.now compact.now logs)) }
 {
     let _ = parts.circuit();
     let tables = Tables::make(alloc, parts, compact)?;
@@ -177,7 +177,7 @@ pub(crate) fn traced_places(
         → IfOk result (λ found. IfSome found (λ places. (k : ℕ) (f : Fault) → slice_get (universe parts.now) k ≡ Some f → ¬ (Contains places k) → (compact_counts_of parts.now compact.now logs f).tfsf ≡ 0)) }
 {
     let _ = universe_len(parts);
-    let Some(bits) = bits_behind(alloc, parts, compact, good, expected, joined)? else {
+    let Some(bits) = upstream_bits(alloc, parts, compact, good, expected, joined)? else {
         return Ok(None);
     };
     let patterns = parts.patterns().len() as u32;

@@ -40,7 +40,7 @@ listed_over classes bits tally = record tally {
   masked = tally.masked ++ filter (λ b. is_masked (classes b)) bits;
 }
 
--- the same of these bits are set aside as of others
+-- these bits and others have the same Conflict and the same Masked bits
 pub record HaveSameAside (classes : Bit → BitClass) (bits others : List Bit) : Type 0 where
   pub conflict : filter (λ b. is_conflict (classes b)) bits ≡ filter (λ b. is_conflict (classes b)) others
   pub masked : filter (λ b. is_masked (classes b)) bits ≡ filter (λ b. is_masked (classes b)) others

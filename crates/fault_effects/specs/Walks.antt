@@ -20,24 +20,24 @@ use Rattle.fault_effects.specs.Notes.{AreNotes}
 abbrev pub IsFresh : FaultModel → ℕ → Fault → List (List ℕ) → ℕ → Type 0
 IsFresh m b f rows q = (j : ℕ) → j < 512 → table_of rows q j ≡ fails_in m b f q j
 
--- the rows of all places that see point k have
+-- the row of each place that sees point k has the lanes in which the fault fails there
 abbrev pub ArePlacesFresh : FaultModel → ℕ → Fault → List (List ℕ) → ℕ → Type 0
 ArePlacesFresh m b f rows k = (q : ℕ) → q < m.places → m.sees q k ≡ true → IsFresh m b f rows q
 
--- those of all places that see a point which observes the net have
+-- the rows of the places that see the points at net n have the lanes in which the fault fails there
 abbrev pub AreFreshAt : ScanTest → FaultModel → ℕ → Fault → List (List ℕ) → ℕ → Type 0
 AreFreshAt t m b f rows n = (k : ℕ) → k < length (points_of t) → observed_at t k ≡ n → ArePlacesFresh m b f rows k
 
--- Those of all points that observe the net have, and below each of them that is a position of chain h those of the position under it.
+-- The rows of the places that see the points at net n are right, and where such a point is a cell of chain h, so are those of the places that see the cell before it.
 pub record IsNetDone (t : ScanTest) (m : FaultModel) (b : ℕ) (f : Fault) (h : ℕ) (rows : List (List ℕ)) (n : ℕ) : Type 0 where
   pub own : AreFreshAt t m b f rows n
   pub below : (k i : ℕ) → k < length (points_of t) → observed_at t k ≡ n → point_at t k ≡ Cell h (i + 1) → AreFreshAt t m b f rows (observed_net t (Cell h i))
 
--- each row is the fault's now, or what it was
+-- each row now has the lanes in which the fault fails, or is what it was
 abbrev pub IsRenoted : FaultModel → ℕ → Fault → List (List ℕ) → List (List ℕ) → Type 0
 IsRenoted m b f old new = (q : ℕ) → IsFresh m b f new q ⊎ (row_at new q ≡ row_at old q)
 
--- After a step down to position c all places that see points of the nets that are marked are noted again, with the positions below them, and the two positions of the step.
+-- After a step down to position c the rows are right of the places that see points at nets that changed, or the cells before these, or the two cells of the step.
 pub record IsStepNoted (t : ScanTest) (m : FaultModel) (b h c : ℕ) (K : CellKind) (s : Scratch) (old new : List (List ℕ)) : Type 0 where
   pub renoted : IsRenoted m b (fault.Cell h c K) old new
   pub moved : (n : ℕ) → n < length t.netlist.nets → has_place s.moved n ≡ true → IsNetDone t m b (fault.Cell h c K) h new n

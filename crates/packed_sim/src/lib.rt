@@ -3,7 +3,7 @@
 
 mod cell_fails;
 mod chains;
-mod changed;
+mod changed_rows;
 mod fails;
 mod flips;
 mod force;

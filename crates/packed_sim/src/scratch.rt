@@ -11,7 +11,7 @@ ghost use Rattle.lane_rows.specs.Wiring.{IsWired, Covers};
 ghost use Rattle.packed_sim.specs.Rows.{IsClean, row_now};
 ghost use Rattle.packed_sim.specs.Propagation.{lane_now, FitsScratch, IsClosed, IsFree, IsWithin, IsOpen, IsSettled, IsSet, IsTurn, HasMoved};
 
-use crate::changed::Changed;
+use crate::changed_rows::ChangedRows;
 use crate::overlay::Overlay;
 use lane_rows::{Packed, Wiring, gate_row};
 use place_sets::PlaceSet;
@@ -69,7 +69,7 @@ impl Scratch {
     {
         self.waiting.remove(place);
         let gate = wiring.order[place];
-        let changed = Changed {
+        let changed = ChangedRows {
             overlay: &self.overlay,
             good,
         };

@@ -139,7 +139,7 @@ frame_class t logs b = class_of logs (frame_value t None b) b
 abbrev pub frame_counts_of : ScanTest → List LogFacts → Fault → Counts
 frame_counts_of t logs f = counts_by (bits_of t) (frame_class t logs) (frame_fails t f)
 
--- those that explain at least one failing bit, in the order of their places
+-- the transition faults that explain at least one failing bit, in the order of their places
 abbrev pub frame_candidates : ScanTest → List LogFacts → List Scored
 frame_candidates t logs = candidates_by (transitions t) (bits_of t) (frame_class t logs) (frame_fails t)
 

@@ -30,7 +30,7 @@ use Rattle.chain_compactor.specs.Compaction.{compact_class, predicts_compact_fai
 use Rattle.chain_compactor.specs.CompactModel.{compact_model}
 use Rattle.chain_compactor.specs.CompactCounts.{AreExpected}
 use Rattle.chain_compactor.proofs.CompactRows.{rows_fit}
-use Rattle.chain_compactor.proofs.SeenBehind.{seen_are_places}
+use Rattle.chain_compactor.proofs.SeenPoints.{seen_are_places}
 use Rattle.chain_compactor.proofs.CompactModel.{compact_model-logic, compact_model-chain}
 use Rattle.chain_compactor.proofs.BlockCounts.{compact_sides}
 use Rattle.chain_compactor.proofs.counting.count_blocks.Goals as goal

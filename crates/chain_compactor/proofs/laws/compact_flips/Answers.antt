@@ -1,7 +1,7 @@
 use Rattle.std.proofs.lemmas.List.Elements.{recursion_from_All}
 use Rattle.scan_model.specs.ScanTest.{IsPoint}
 use Rattle.chain_compactor.specs.Flips.{members_at}
-use Rattle.chain_compactor.proofs.Behind.{flips_behind}
+use Rattle.chain_compactor.proofs.UpstreamFlips.{flips_behind}
 use Rattle.chain_compactor.proofs.Members.{members_are_points}
 use Rattle.chain_compactor.proofs.CompactModel.{capture_fails, shift_fails}
 use Rattle.chain_compactor.proofs.laws.compact_flips.Goals as goal

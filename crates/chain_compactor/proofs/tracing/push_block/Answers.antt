@@ -2,11 +2,11 @@ use Rattle.std.proofs.Common.{◌≡◌, length, sym, ap, subst, ◌∙◌, arit
 use Rattle.std.proofs.lemmas.Bool.{and_from, and_parts}
 use Rattle.scan_model.specs.ScanTest.{points_of}
 use Rattle.lane_rows.specs.Lanes.{lane}
-use Rattle.chain_compactor.specs.TracedBits.{AddsBehind}
+use Rattle.chain_compactor.specs.TracedBits.{AddsUpstreamBits}
 use Rattle.chain_compactor.proofs.tracing.push_block.Goals as goal
 
-pub failing_behind-failing-requires-clause-point : goal.failing_behind-failing-requires-clause-point
-failing_behind-failing-requires-clause-point c = omega (arith, c.loop-point-test.true, ap length c.points.ensures.value)
+pub failing_downstream-failing-requires-clause-point : goal.failing_downstream-failing-requires-clause-point
+failing_downstream-failing-requires-clause-point c = omega (arith, c.loop-point-test.true, ap length c.points.ensures.value)
 
 pub loop-point-init : goal.loop-point-init
 loop-point-init c = record {
@@ -19,7 +19,7 @@ pub loop-point-preserved : goal.loop-point-preserved
 loop-point-preserved c =
     let inv = c.loop-point.invariant in
     let added = c.in_ok-push_lanes.ensures in
-    let failing = c.failing_behind-failing in
+    let failing = c.failing_downstream-failing in
     record {
       kept = λ x has. added.kept x (inv.kept x has);
       lanes = below_more _ _ (λ i h q j lt sees fails here. added.kept _ (inv.lanes i h q j lt sees fails here))
@@ -32,4 +32,4 @@ pub returns : goal.returns
 returns c =
     let t = c.args.parts.now in
     let whole : c.loop-point.point ≡ length (points_of t) = omega (arith, c.loop-point-test.false, c.loop-point.auto.point-end, ap length c.points.ensures.value) in
-    subst (λ n. AddsBehind t c.args.compact.now c.args.rows.now c.args.block c.args.there n c.args.bits.now c.loop-point.bits) whole c.loop-point.invariant
+    subst (λ n. AddsUpstreamBits t c.args.compact.now c.args.rows.now c.args.block c.args.there n c.args.bits.now c.loop-point.bits) whole c.loop-point.invariant

@@ -5,7 +5,7 @@ use Rattle.scan_model.specs.ScanTest.{points_of}
 use Rattle.scan_model.specs.Suspect.{suspects}
 use Rattle.scan_model.specs.MatchCounts.{counts_of}
 use Rattle.match_counts.proofs.BlockSums.{suspects_few}
-use Rattle.chain_compactor.specs.TracedBits.{AreBits, ListsBehind, complete_log}
+use Rattle.chain_compactor.specs.TracedBits.{AreBits, ListsUpstreamBits, complete_log}
 use Rattle.chain_compactor.proofs.Explained.{complete_fits, none_explained}
 use Rattle.chain_compactor.proofs.tracing.traced_places.Goals as goal
 
@@ -40,7 +40,7 @@ returns-clause-outside c = λ logs stands k f at unlisted.
     let bits : List Bit = c.in-Some.bits in
     let patterns : c.len-patterns.result ≡ length t.patterns = c.len-patterns.ensures ∙ ap length c.patterns.ensures.value in
     let log_is : c.in_ok-log.log ≡ complete_log (length t.patterns) bits = c.in_ok-log.ensures ∙ ap (λ (n : ℕ). complete_log n bits) patterns in
-    let listed : ListsBehind t compact logs bits = rw c.in-Some.is at (c.in_ok-bits.ensures.listed logs stands) in
+    let listed : ListsUpstreamBits t compact logs bits = rw c.in-Some.is at (c.in_ok-bits.ensures.listed logs stands) in
     let Unexplained : LogFacts → Type 0 = λ log. (counts_of t (log ∷ []) f).tfsf ≡ 0 in
     none_explained t c.patterns.ensures.fits compact c.requires.made logs bits listed f
     (subst Unexplained log_is (c.in_ok-places.ensures.outside (c.in_ok-log.log ∷ []) (c.add.ensures.joined [] c.in_ok-behind.ensures.empty) k f at unlisted))

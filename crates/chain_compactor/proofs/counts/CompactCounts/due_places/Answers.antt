@@ -10,7 +10,7 @@ use Rattle.packed_sim.proofs.Changes.{point_stands}
 use Rattle.fault_effects.proofs.NetPoints.{filtered, of_net_points}
 use Rattle.chain_compactor.specs.ObservationPoints.{seeing}
 use Rattle.chain_compactor.proofs.Members.{members_are_points}
-use Rattle.chain_compactor.proofs.SeenBehind.{seen}
+use Rattle.chain_compactor.proofs.SeenPoints.{seen}
 use Rattle.chain_compactor.proofs.counts.CompactCounts.due_places.Goals as goal
 
 pub mark_points-requires-clause-points : goal.mark_points-requires-clause-points

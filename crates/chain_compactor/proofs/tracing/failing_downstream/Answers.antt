@@ -9,8 +9,8 @@ use Rattle.lane_rows.specs.Lanes.{lane}
 use Rattle.fault_effects.specs.declared.point_row.PointRow.{PointRow}
 use Rattle.fault_effects.specs.PointRows.{no_point_row}
 use Rattle.chain_compactor.specs.ObservationPoints.{seeing}
-use Rattle.chain_compactor.proofs.SeenBehind.{seen_are_places}
-use Rattle.chain_compactor.proofs.tracing.failing_behind.Goals as goal
+use Rattle.chain_compactor.proofs.SeenPoints.{seen_are_places}
+use Rattle.chain_compactor.proofs.tracing.failing_downstream.Goals as goal
 
 pub bounds-rows-place-in-Some : goal.bounds-rows-place-in-Some
 bounds-rows-place-in-Some c =

@@ -3,7 +3,7 @@ use Rattle.scan_model.specs.declared.logs.LogFacts.{LogFacts}
 use Rattle.scan_model.specs.ScanTest.{points_of}
 use Rattle.log_join.specs.Joining.{StandsFor}
 use Rattle.chain_compactor.specs.TracedBits.{AreBits, ListsUpTo}
-use Rattle.chain_compactor.proofs.tracing.bits_behind.Given as goal
+use Rattle.chain_compactor.proofs.tracing.upstream_bits.Given as goal
 
 abbrev pub invariant-loop-block : goal.invariant-loop-block
 invariant-loop-block l = record {

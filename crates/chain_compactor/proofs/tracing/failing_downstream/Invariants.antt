@@ -3,7 +3,7 @@ use Rattle.scan_model.specs.ScanTest.{point_at}
 use Rattle.lane_rows.specs.Lanes.{lane}
 use Rattle.fault_effects.specs.PointRows.{no_point_row}
 use Rattle.chain_compactor.specs.ObservationPoints.{seeing}
-use Rattle.chain_compactor.proofs.tracing.failing_behind.Given as goal
+use Rattle.chain_compactor.proofs.tracing.failing_downstream.Given as goal
 
 abbrev pub invariant-loop-place : goal.invariant-loop-place
 invariant-loop-place l = record {

@@ -10,7 +10,7 @@ use Rattle.lane_rows.specs.GoodRows.{pattern_of}
 use Rattle.fault_effects.specs.declared.point_row.PointRow.{PointRow}
 use Rattle.fault_effects.specs.PlaceRows.{ArePlaceRows}
 use Rattle.chain_compactor.proofs.CompactRows.{rows_fit}
-use Rattle.chain_compactor.proofs.tracing.bits_behind.Goals as goal
+use Rattle.chain_compactor.proofs.tracing.upstream_bits.Goals as goal
 
 pub rows_of_places-requires-clause-expected : goal.rows_of_places-requires-clause-expected
 rows_of_places-requires-clause-expected c =

@@ -1,5 +1,5 @@
 use Rattle.chain_compactor.proofs.Members.{fail_has_one_behind, same_behind, silent_behind}
-use Rattle.chain_compactor.proofs.laws.fails_behind.Goals as goal
+use Rattle.chain_compactor.proofs.laws.upstream_fails.Goals as goal
 
 pub returns-clause-some : goal.returns-clause-some
 returns-clause-some c f w q lt fails = fail_has_one_behind c.args.parts.now c.args.compact.now c.requires c.chains.ensures.fits f w q lt fails

@@ -6,13 +6,13 @@ use lane_rows::{NetRows, Packed};
 
 #[derive(Drop)]
 /// The rows of a block, with those that a change gave to nets in their place.
-pub(crate) struct Changed<'a> {
+pub(crate) struct ChangedRows<'a> {
     pub(crate) overlay: &'a Overlay,
     pub(crate) good: &'a [Packed],
     ghost fits: { length overlay.now ≡ length good.now },
 }
 
-impl NetRows for Changed<'_> {
+impl NetRows for ChangedRows<'_> {
     ghost use Rattle.std.specs.Prelude.{length};
     ghost use Rattle.packed_sim.specs.Propagation.{lane_now};
 
