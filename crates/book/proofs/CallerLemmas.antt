@@ -18,7 +18,7 @@ stands_in_book deeds d log design looked of stands t is =
     let found : design_test deeds log.design ≡ Some d.test = ap (design_test deeds) of ∙ ap test_of_text (design_there deeds d.name d.text looked) ∙ ap test_of_reading design.stands in
     subst (λ test. StandsOver test log) (some_same d.test t (sym found ∙ is)) stands
 
--- the same, where the design was seen twice and the log is kept behind a reference
+-- a log that is kept behind a reference stands in the book too, where its design was seen twice
 pub log_stands_in_book : (deeds : List Deed) (found seen again : DesignFacts) (log kept : ReadLogFacts) (name die text : List ℕ) → seen ≡ found → again ≡ found → IsDesign seen
     → design_look deeds name ≡ Ok found.text → found.name ≡ name → log.design ≡ again.name → log.die ≡ die → log.text ≡ text
     → log_reading (log_frame again.test again.name die) text ≡ Ok log.facts → kept ≡ log → StandsIn deeds kept

@@ -34,6 +34,6 @@ put_is_where test xs place put at is =
     is ∙ ap (λ (o : Option ℕ). put_numbered o (length xs)) at ∙ put_by (nat_lt (position_or_len test xs) (length xs)) (position_or_len test xs) (length xs)
     ∙ ap (λ (b : Bool). cond b (Same (position_or_len test xs + 1)) (Created (length xs + 1))) (sym (any_is_before test xs))
 
--- the same of the texts that the entries have
+-- the first entry whose text passes the test is that of the first text which passes it
 pub where-map : {X Y : Type 0} (test : Y → Bool) (f : X → Y) (xs : List X) → put_where (λ x. test (f x)) xs ≡ put_where test (map f xs)
 where-map test f xs = grind (arith, common_steps, any-map test f xs, position-map test f xs)

@@ -64,7 +64,7 @@ none_signed true place count number new = absurd (grind arith)
 all_true : (a b c d e : Bool) → a ≡ true → b ≡ true → c ≡ true → d ≡ true → e ≡ true → (a && ((b && c) && (d && e))) ≡ true
 all_true a b c d e p q r s t = grind arith
 
--- the same, by the values that were read
+-- a new log fits, by the values that were read
 pub log_fits_at : (deeds seen : List Deed) (by : ℕ) (log : ReadLogFacts) (design die text known : List ℕ) (same : Put) (number : ℕ) → each_fits [] deeds ≡ true → is_tag log.die ≡ true
     → seen ≡ deeds → design ≡ log.design → die ≡ log.die → text ≡ log.text → design_text deeds log.design ≡ Some known → StandsIn seen log
     → same ≡ put_where (bytes_eq text) (die_logs seen design die) → same ≡ Created number → fits deeds (log_deed by log).what ≡ true
@@ -82,7 +82,7 @@ pub sign_fits : (deeds : List Deed) (v : ViewFacts) (signer digest : List ℕ) (
 sign_fits deeds v signer digest number design view some tag right new =
     all_true _ _ _ _ _ tag (leb_true (omega arith)) (leb_true (view_short deeds v view)) (subst (λ (r : List ℕ). bytes_eq digest (sha256 r) ≡ true) (report_in deeds v design view) right) (none_signed (list_any (is_signed_by (length v.logs) signer) (die_signs deeds v.design.name v.die)) _ _ number new)
 
--- the same, by the values that were read
+-- a new sign-off fits, by the values that were read
 pub sign_fits_at : (deeds seen : List Deed) (v : ViewFacts) (design die signer who digest : List ℕ) (revision : ℕ) (same : Put) (number : ℕ) → IsDesign v.design → IsViewIn seen v → 0 < length v.logs → is_tag who ≡ true
     → bytes_eq digest (sha256 (view_report v)) ≡ true → seen ≡ deeds → design ≡ v.design.name → die ≡ v.die → revision ≡ length v.logs → signer ≡ who
     → same ≡ put_where (is_signed_by revision who) (die_signs seen design die) → same ≡ Created number

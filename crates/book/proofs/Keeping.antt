@@ -31,7 +31,7 @@ IsState-alike deeds kept old new logs signs was = record {
   each_die = λ d x. subst (λ ls. AreOfDie deeds d x ls (kept_signs new d x)) (sym (logs d x)) (subst (λ ss. AreOfDie deeds d x (kept_logs old d x) ss) (sym (signs d x)) (was.each_die d x));
 }
 
--- the same where only room was made
+-- the state stays where only room was made
 pub IsState-roomy : (deeds seen : List Deed) (kept : List DesignFacts) (old new : List DieFacts) → seen ≡ deeds → AreSameDies old new → IsState deeds kept old → IsState seen kept new
 IsState-roomy deeds seen kept old new are same was = subst (λ ds. IsState ds kept new) (sym are) (IsState-alike deeds kept old new same.logs same.signs was)
 

@@ -135,7 +135,7 @@ pub die_as_named : (kept deeds : List Deed) (name d x : List ℕ) (logs : List R
 die_as_named kept deeds name d x logs signs seen same found =
     subst (λ (n : List ℕ). IsDieIn deeds n x logs signs) same (subst (λ (ds : List Deed). IsDieIn ds name x logs signs) seen found)
 
--- the same, by the values that were read
+-- a die that is shown, by the values that were read
 pub is_shown : (kept deeds : List Deed) (inner d : DesignFacts) (name asked x : List ℕ) (logs from part : List Log) (signs : List SignOff) → kept ≡ deeds → each_fits [] deeds ≡ true → inner ≡ d → IsDesign inner
     → name ≡ inner.name → d.name ≡ asked → design_text deeds asked ≡ Some d.text → IsDieIn kept name x (arc_values logs) signs → from ≡ logs → part ≡ take (length part) from → IsShown deeds d x logs part signs
 is_shown kept deeds inner d name asked x logs from part signs seen legal same design of_inner is_asked text found of_logs cut = record {

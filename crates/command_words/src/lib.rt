@@ -2,13 +2,13 @@
 #![tactic(auto)]
 
 mod argument;
-mod asked;
-mod assigned;
+mod clap_command;
 mod command;
-mod right;
+mod invocation;
+mod right_words;
 mod table;
 
-pub use asked::{command_of, service_of};
 pub use command::{Command, Demo, DesignFiles, Order, Service};
-pub use right::{form_named, is_serve};
+pub use invocation::{command_of, service_of};
+pub use right_words::{form_named, is_serve};
 pub use table::{Form, Product, Task};

@@ -16,7 +16,7 @@ IsUnmarked ls = All (λ line. is_mark line ≡ false) ls
 abbrev GoesOn : List (List ℕ) → List (List ℕ) → Type 0
 GoesOn before after = fault_from (bundle_rule (before ++ after)) (length before) (length after + 1) ≡ None
 
--- the same in each text that begins with so many markers
+-- they break none in any text that begins with so many markers
 abbrev pub AreInOrder : ℕ → List (List ℕ) → Type 0
 AreInOrder n after = (before : List (List ℕ)) → 0 < length before → length (filter is_mark before) ≡ n → GoesOn before after
 

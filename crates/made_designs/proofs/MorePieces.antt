@@ -17,7 +17,7 @@ pub one_more : {A : Type 0} (f : ℕ → List A) (a n j : ℕ) (before text more
 one_more f a n j before text more at so_far added =
     added ∙ ap (λ xs. xs ++ f j) so_far ∙ flat_map_more f before (range_with_len a n) j ∙ ap (λ ns. before ++ flat_map f ns) (sym (range_more a n j at))
 
--- the same for a piece that is known to be it
+-- a line that is the piece of number j comes after those of the n numbers
 pub line_added : (f : ℕ → List ℕ) (before text more line : List ℕ) (a n j : ℕ) → a + n ≡ j → text ≡ before ++ flat_map f (range_with_len a n)
     → more ≡ text ++ line → line ≡ f j → more ≡ before ++ flat_map f (range_with_len a (n + 1))
 line_added f before text more line a n j at so_far added is =

@@ -3,7 +3,7 @@ use Rattle.std.proofs.lemmas.Result.{IfOk-weaker}
 use Rattle.command_words.specs.RightWords.{form_named}
 use Rattle.command_words.specs.CommandViews.{shown_form}
 use Rattle.command_words.proofs.Taken.{command_taken}
-use Rattle.command_words.proofs.asked.command_of.Goals as goal
+use Rattle.command_words.proofs.invocation.command_of.Goals as goal
 
 pub returns-clause-taken : goal.returns-clause-taken
 returns-clause-taken c =

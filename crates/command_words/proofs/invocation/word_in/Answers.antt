@@ -2,7 +2,7 @@ use Rattle.std.proofs.Common.{◌∙◌, ap, refl}
 use Rattle.clap.specs.Words.{first_of, found_of, rows_of}
 use Rattle.clap.proofs.WalkLemmas.{first_value-rows}
 use Rattle.command_words.proofs.Taken.{text_given}
-use Rattle.command_words.proofs.asked.word_in.Goals as goal
+use Rattle.command_words.proofs.invocation.word_in.Goals as goal
 
 pub returns : goal.returns
 returns c =

@@ -4,7 +4,7 @@ use Rattle.clap.specs.Words.{App, app_of, is_simple, matches_of}
 use Rattle.command_words.specs.ClapCommands.{asked_in}
 use Rattle.command_words.specs.CommandViews.{shown_form}
 use Rattle.command_words.proofs.Assignment.{all_assigned, app_is_simple}
-use Rattle.command_words.proofs.assigned.assigned.Goals as goal
+use Rattle.command_words.proofs.clap_command.assigned.Goals as goal
 
 pub returns : goal.returns
 returns c =

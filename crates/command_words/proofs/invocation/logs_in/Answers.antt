@@ -2,7 +2,7 @@ use Rattle.std.proofs.Common.{◌∙◌, ap, map, []}
 use Rattle.std.specs.Prelude.{codes, unwrap_or}
 use Rattle.clap.specs.Words.{found_of}
 use Rattle.clap.proofs.WalkLemmas.{raw_values-rows}
-use Rattle.command_words.proofs.asked.logs_in.Goals as goal
+use Rattle.command_words.proofs.invocation.logs_in.Goals as goal
 
 pub returns-in_ok-from_slice-in-Some : goal.returns-in_ok-from_slice-in-Some
 returns-in_ok-from_slice-in-Some c =

@@ -4,7 +4,7 @@ use Rattle.clap.specs.Words.{found_of, rows_of}
 use Rattle.command_words.specs.RightWords.{form_named}
 use Rattle.command_words.specs.CommandViews.{shown_form, shown_service}
 use Rattle.command_words.proofs.Taken.{service_sound}
-use Rattle.command_words.proofs.asked.service_of.Goals as goal
+use Rattle.command_words.proofs.invocation.service_of.Goals as goal
 
 pub returns-clause-sound : goal.returns-clause-sound
 returns-clause-sound c =

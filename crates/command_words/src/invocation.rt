@@ -6,9 +6,9 @@ ghost use Rattle.command_words.specs.ClapCommands.{asked_in, found_logs, found_w
 ghost use Rattle.command_words.specs.CommandViews.{IsAskedBy, IsCommandFor, shown_files, shown_order, shown_service};
 
 use crate::argument::Argument;
-use crate::assigned::assigned;
+use crate::clap_command::assigned;
 use crate::command::{Command, Demo, DesignFiles, Order, Service};
-use crate::right::form_named;
+use crate::right_words::form_named;
 use crate::table::Task;
 use clap::ArgMatches;
 use scan_model::{NoMemory, Profile};

@@ -1,7 +1,7 @@
 use Rattle.std.proofs.Common.{◌≡◌, drop}
 use Rattle.clap.specs.Words.{app_of}
 use Rattle.command_words.specs.ClapCommands.{with_arguments}
-use Rattle.command_words.proofs.assigned.with_arguments.Given as goal
+use Rattle.command_words.proofs.clap_command.with_arguments.Given as goal
 
 abbrev pub invariant-loop-argument : goal.invariant-loop-argument
 invariant-loop-argument l = with_arguments (app_of l.command) (drop l.argument-index l.arguments) ≡ with_arguments (app_of l.fn.command) l.arguments

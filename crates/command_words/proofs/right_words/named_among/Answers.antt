@@ -3,7 +3,7 @@ use Rattle.std.specs.Prelude.{option_map}
 use Rattle.command_words.specs.RightWords.{fits}
 use Rattle.command_words.specs.CommandViews.{shown_form}
 use Rattle.command_words.proofs.Taken.{find_shown}
-use Rattle.command_words.proofs.right.named_among.Goals as goal
+use Rattle.command_words.proofs.right_words.named_among.Goals as goal
 
 pub returns : goal.returns
 returns c =
