@@ -1,10 +1,10 @@
 -- The end of a head, byte by byte.
-use Rattle.std.proofs.Common.{◌≡◌, ℕ, ◌+◌, ◌-◌, suc, ◌<◌, ◌≤◌, Bool, true, false, ◌==◌, if◌then◌else◌, List, ◌∷◌, length, take, drop, get_or, Option, Some, None, refl, sym, ap, ◌∙◌, arith}
+use Rattle.std.proofs.Common.{◌≡◌, ℕ, ◌+◌, ◌-◌, zero, suc, ◌<◌, ◌≤◌, Bool, true, false, ◌==◌, if◌then◌else◌, List, [], ◌∷◌, length, take, drop, get_or, Option, Some, None, refl, sym, ap, subst, ◌∙◌, arith}
 use Rattle.std.specs.Option.{option_map}
 use Rattle.std.proofs.lemmas.Bool.{ne_eqb}
 use Rattle.std.proofs.lemmas.List.{at_drop_more, take_rest}
 use Rattle.std.proofs.Math.ListN.{drop_of_length-le}
-use Rattle.desk_heads.specs.Heads.{blank_length, or_else, head_length}
+use Rattle.desk_heads.specs.Heads.{blank_length, or_else, head_length, HasNoEndWithin}
 
 -- an LF with an empty line behind it
 pub ends_at_lf : (byte blank : ℕ) (bytes : List ℕ) → byte ≡ 10 → blank_length bytes ≡ Some blank → head_length (byte ∷ bytes) ≡ Some (suc blank)
@@ -57,3 +57,49 @@ module _ (bytes : List ℕ) (i : ℕ) (within : i < length bytes) where
 pub none_at_end : (bytes : List ℕ) (i : ℕ) → length bytes ≤ i → None ≡ behind i (head_length (drop i bytes))
 unfolding head_length
 none_at_end bytes i past = sym (ap (λ bs. behind i (head_length bs)) (drop_of_length-le bytes past))
+
+-- ---- behind bytes in which it was sought in vain
+
+-- two bytes and more show the empty line at the front
+blank_in_two : (k : ℕ) (bytes : List ℕ) → blank_length (take (suc (suc k)) bytes) ≡ blank_length bytes
+blank_in_two k [] = refl
+blank_in_two k (x ∷ []) = refl
+blank_in_two k (x ∷ y ∷ bytes) = refl
+
+neither : (a b : Option ℕ) → option_map suc (or_else a b) ≡ None → (a ≡ None) × (b ≡ None)
+neither None None none = (refl, refl)
+neither None (Some n) none = absurd (cc)
+neither (Some n) b none = absurd (cc)
+
+behind-zero : (found : Option ℕ) → behind zero found ≡ found
+behind-zero None = refl
+behind-zero (Some n) = ap Some (omega arith)
+
+suc-behind : (i : ℕ) (found : Option ℕ) → behind (suc i) found ≡ option_map suc (behind i found)
+suc-behind i None = refl
+suc-behind i (Some n) = ap Some (omega arith)
+
+-- where the first k + 2 bytes hold no end, it is found from place k on
+from_place : (k : ℕ) (bytes : List ℕ) → head_length (take (suc (suc k)) bytes) ≡ None → behind k (head_length (drop k bytes)) ≡ head_length bytes
+unfolding head_length
+from_place zero bytes none = behind-zero (head_length bytes)
+from_place (suc k) [] none = refl
+from_place (suc k) (x ∷ bytes) none =
+    let both = neither (if x == 10 then blank_length (take (suc (suc k)) bytes) else None) (head_length (take (suc (suc k)) bytes)) none in
+    let here : (if x == 10 then blank_length bytes else None) ≡ None = sym (ap (λ blank. if x == 10 then blank else None) (blank_in_two k bytes)) ∙ both.0 in
+    let later = from_place k bytes both.1 in
+    suc-behind k (head_length (drop k bytes)) ∙ ap (option_map suc) later ∙ sym (ap (λ blank. option_map suc (or_else blank (head_length bytes))) here)
+
+-- what is found from two bytes before them on is the end
+pub from_start : (bytes : List ℕ) (sought start : ℕ) (found : Option ℕ) → HasNoEndWithin sought bytes → start ≡ sought - 2
+    → found ≡ head_length (take (length bytes - start) (drop start bytes)) → behind start found ≡ head_length bytes
+from_start bytes sought start found is at found_is =
+    ap (behind start) (found_is ∙ ap head_length (take_rest bytes start)) ∙ by sought is.none at
+  where
+    At : ℕ → Type 0
+    At place = behind place (head_length (drop place bytes)) ≡ head_length bytes
+
+    by : (s : ℕ) → head_length (take s bytes) ≡ None → start ≡ s - 2 → At start
+    by zero none at = let e : zero ≡ start = omega arith in subst At e (behind-zero (head_length bytes))
+    by (suc zero) none at = let e : zero ≡ start = omega arith in subst At e (behind-zero (head_length bytes))
+    by (suc (suc k)) none at = let e : k ≡ start = omega arith in subst At e (from_place k bytes none)

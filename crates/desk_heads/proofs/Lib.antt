@@ -7,4 +7,5 @@ pub mod HeadStays
 pub mod HeadLaws
 pub mod ItemLaws
 pub mod IncomingSteps
+pub mod SoughtSteps
 pub mod IncomingLaws

@@ -1,5 +1,5 @@
 -- Request heads (RFC 9112): where one ends, and what it asks for or why it is refused.
-use Rattle.std.specs.Prelude.{◌≡◌, ℕ, suc, ◌==◌, ◌&&◌, ◌||◌, not, Bool, true, false, nat_le, nat_lt, if◌then◌else◌, List, [], ◌∷◌, length, map, filter, take, codes, Option, Some, None, Result, Ok, Err}
+use Rattle.std.specs.Prelude.{◌≡◌, ℕ, suc, ◌≤◌, ◌==◌, ◌&&◌, ◌||◌, not, Bool, true, false, nat_le, nat_lt, if◌then◌else◌, List, [], ◌∷◌, length, map, filter, take, codes, Option, Some, None, Result, Ok, Err}
 use Rattle.std.specs.Option.{option_map}
 use Rattle.std.specs.List.{list_all, list_any, slice_split}
 use Rattle.std.specs.Str.{bytes_eq, str_eq_ignore_ascii_case}
@@ -41,6 +41,12 @@ or_else None other = other
 unfoldable pub head_length : List ℕ → Option ℕ
 head_length [] = None
 head_length (byte ∷ bytes) = option_map suc (or_else (if byte == 10 then blank_length bytes else None) (head_length bytes))
+
+-- no head ends in the first so many bytes, which are no more than the longest head has
+pub record HasNoEndWithin (count : ℕ) (bytes : List ℕ) : Type 0 where
+  pub fits : count ≤ length bytes
+  pub short : count ≤ head_limit
+  pub none : head_length (take count bytes) ≡ None
 
 -- ---- its fields
 

@@ -1,3 +1,4 @@
+-- What stands at the front of bytes, and what reading it from a connection does.
 pub mod Heads
 pub mod Items
 pub mod Fields

@@ -38,7 +38,7 @@ segments_given {A} view s texts =
     (λ s x t texts given. let all = subst (All IsText) given.1 texts in (All-tail IsText given.0 t all, rw (given.1, given.3 (All-head IsText given.0 t all)) refl))
     s texts
 
--- the same of an iterator over all parameters of an ASCII path
+-- an iterator over all parameters of an ASCII path gives the segments that they hold
 pub segments_taken : {A : Type 0} (view : A → Parameter) (pattern text path : List ℕ) (names : List (ℕ × ℕ)) (s : List Parameter) → IsAscii path
     → s ≡ walk pattern text path names 0 0
     → YieldsList (GivesPair view) (λ x. (view x).1) s (map (λ parameter. parameter.1) (walk pattern text path names 0 0))

@@ -82,7 +82,7 @@ named route.Sign segments = do
 abbrev pub segments : RouteOf Route → List ℕ → List (List ℕ)
 segments row target = map (λ parameter. parameter.1) (walk row.pattern row.text target row.names 0 0)
 
--- the same of what matchit's parameters hold
+-- the segments that the parameters of a match hold, in their order
 abbrev pub taken : Params → List (List ℕ)
 taken p = map (λ parameter. parameter.1) (walk p.pattern.now p.text.now p.path.now p.names.now 0 0)
 

@@ -1,3 +1,4 @@
+-- What the run of `serve` does and writes.
 pub mod Lines
 pub mod HomeDoors
 pub mod Runs

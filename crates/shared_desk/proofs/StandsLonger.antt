@@ -26,7 +26,7 @@ view_longer deeds more v view =
       logs = view.logs ∙ (sym (take-append-le n logs (die_logs more v.design.name v.die) within) ∙ sym (ap (take n) (logs-append deeds more v.design.name v.die)));
     }
 
--- the same, of a list that begins with these deeds
+-- a log stands in a list that begins with deeds in which it stands, and so does a view
 pub stands_after : (deeds later : List Deed) (log : ReadLogFacts) (text : List ℕ) → IsPrefix deeds later → design_text deeds log.design ≡ Some text → StandsIn deeds log → StandsIn later log
 stands_after deeds later log text p there stands = subst (λ (ds : List Deed). StandsIn ds log) p.1 (stands_longer deeds p.0 log text there stands)
 

@@ -4,12 +4,12 @@ ghost use Rattle.std.specs.List.{list_any};
 ghost use Rattle.std.specs.Str.{str_eq_ignore_ascii_case};
 ghost use Rattle.httparse.specs.Grammar.{RequestHead, ReadsRequest};
 ghost use Rattle.httparse.specs.Spans.{IsRequestAt, IsRequestWithin};
-ghost use Rattle.desk_heads.specs.Heads.{Reads, judged, checked, has_body, is_head, names_close, head_limit};
+ghost use Rattle.desk_heads.specs.Heads.{Reads, judged, checked, has_body, is_head, names_close, head_limit, HasNoEndWithin};
 ghost use Rattle.desk_heads.specs.Fields.{named, content_lengths};
 ghost use Rattle.desk_heads.specs.Sees.{Judges, Sees};
 
 use crate::head::fields::{CONTENT_LENGTH, Fields, TRANSFER_ENCODING};
-use crate::head::head_end::head_length;
+use crate::head::head_end::head_length_past;
 use crate::head::method::Method;
 use crate::head::values::{is_target, method_of};
 use crate::head::{Head, HeadFault, HeadSeen};
@@ -116,13 +116,14 @@ fn judged(text: &[u8], room: &mut [HeaderSpan]) -> Result<Head, HeadFault>
     }
 }
 
-/// What stands at the front of the bytes.
-pub(crate) fn seen(bytes: &[u8], room: &mut [HeaderSpan]) -> HeadSeen
-    requires { FIELD_ROOM ≤ length room.old }
+/// What stands at the front of the bytes, of which the first `sought` hold no end of a head.
+pub(crate) fn seen(bytes: &[u8], sought: usize, room: &mut [HeaderSpan]) -> HeadSeen
+    requires sought { HasNoEndWithin sought bytes.now }
+    requires room { FIELD_ROOM ≤ length room.old }
     ensures { Sees bytes.now result }
 {
     let front = &bytes[..HEAD_LIMIT.min(bytes.len())];
-    let Some(length) = head_length(front) else {
+    let Some(length) = head_length_past(front, sought) else {
         return if bytes.len() < HEAD_LIMIT {
             HeadSeen::Unended
         } else {

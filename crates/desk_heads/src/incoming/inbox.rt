@@ -8,22 +8,25 @@ use scan_model::NoMemory;
 use std::alloc::Global;
 use std::marker::Model;
 
-/// The bytes that came and aren't used yet, with the room for the fields of a head: contracts see the bytes.
+/// The bytes that came and aren't used yet, in how many of them the end of a head was sought in vain, and the room for the fields of
+/// a head: contracts see the bytes.
 #[derive(Drop)]
 pub struct Inbox {
     bytes: Vec<u8>,
+    sought: usize,
     room: Vec<HeaderSpan>,
 }
 
 impl Model for Inbox {
     ghost use Rattle.std.specs.Prelude.{ℕ, List, ◌≤◌, vec_len};
+    ghost use Rattle.desk_heads.specs.Heads.{HasNoEndWithin};
     ghost use Rattle.desk_heads.specs.declared.head.checks.TheConstants.{FIELD_ROOM};
 
     ghost Value = { List ℕ };
 
     ghost view = { λ i. i.bytes.items };
 
-    ghost invariant = { λ i. FIELD_ROOM ≤ vec_len i.room };
+    ghost invariant = { λ i. HasNoEndWithin i.sought i.bytes.items × (FIELD_ROOM ≤ vec_len i.room) };
 }
 
 impl Inbox {
@@ -35,6 +38,7 @@ impl Inbox {
     {
         Ok(Inbox {
             bytes: Vec::new(alloc),
+            sought: 0,
             room: vec![in alloc; EMPTY_HEADER_SPAN; FIELD_ROOM]?,
         })
     }
@@ -60,7 +64,11 @@ impl Inbox {
         ensures sees { Sees self.old result }
         ensures same { self.new ≡ self.old }
     {
-        seen(&self.bytes, &mut self.room)
+        let found = seen(&self.bytes, self.sought, &mut self.room);
+        if let HeadSeen::Unended = found {
+            self.sought = self.bytes.len();
+        }
+        found
     }
 
     /// Takes so many bytes off the front.
@@ -68,6 +76,7 @@ impl Inbox {
         requires { count ≤ length self.old }
         ensures { self.new ≡ drop count self.old }
     {
+        self.sought = 0;
         self.bytes.drain(..count);
     }
 }

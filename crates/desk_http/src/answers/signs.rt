@@ -51,7 +51,7 @@ pub(super) fn post_sign<R: Threads + Sync, D, S: SeatAt<R, D>, G: Gate>(
     }
 }
 
-// The same with a body that was read.
+// Signs the die by a body that was read.
 fn put_sign<R: Threads + Sync, D, S: SeatAt<R, D>, G: Gate>(
     rt: &R,
     alloc: Global,

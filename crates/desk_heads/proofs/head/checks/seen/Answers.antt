@@ -2,7 +2,11 @@ use Rattle.std.proofs.Common.{arith}
 use Rattle.std.proofs.lemmas.List.{length-take}
 use Rattle.desk_heads.specs.Heads.{head_limit}
 use Rattle.desk_heads.proofs.SeenSteps.{front_is, unended, too_large, refused, whole}
+use Rattle.desk_heads.proofs.SoughtSteps.{in_front}
 use Rattle.desk_heads.proofs.head.checks.seen.Goals as goal
+
+pub head_length_past-requires : goal.head_length_past-requires
+head_length_past-requires c = in_front c.args.sought c.min.result c.args.bytes.now c.min.ensures c.requires.sought
 
 pub returns-then-bytes-lt-HEAD_LIMIT : goal.returns-then-bytes-lt-HEAD_LIMIT
 returns-then-bytes-lt-HEAD_LIMIT c =
