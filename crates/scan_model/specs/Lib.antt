@@ -1,3 +1,4 @@
+-- The definitions of scan diagnosis, which the contracts of all crates cite.
 pub mod Values
 pub mod Netlist
 pub mod Walks

@@ -153,7 +153,7 @@ abbrev pub title_version : LogForm → List (List ℕ) → Option LogVersion
 title_version form (w ∷ v ∷ []) = if is_word w (title_word form) then version_named form v else None
 title_version form ws = None
 
--- the version that the lines behind this first line are read by
+-- the version that the lines after this first line are read by
 abbrev pub version_of : LogForm → List (List ℕ) → LogVersion
 version_of form ws = unwrap_or (title_version form ws) First
 

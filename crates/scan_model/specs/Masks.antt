@@ -31,7 +31,7 @@ flipped_from c s n = values_of c s (force n (tri_not (values_of c s nothing_forc
 abbrev pub flip_shows_from : Netlist → (ℕ → Tri) → ℕ → ℕ → Bool
 flip_shows_from c s n o = are_opposite (values_of c s nothing_forced o) (flipped_from c s n o)
 
--- the same in pattern w
+-- the value of net o in pattern w with net n flipped
 abbrev pub flipped : ScanTest → ℕ → ℕ → ℕ → Tri
 flipped t w = flipped_from t.netlist (source_of t None w)
 

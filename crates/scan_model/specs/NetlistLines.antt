@@ -57,7 +57,7 @@ listed_names (name w ∷ close_sign ∷ []) = Some (w ∷ [])
 listed_names (name w ∷ comma ∷ ts) = option_map (λ ws. w ∷ ws) (listed_names ts)
 listed_names ts = None
 
--- the same, or none at all
+-- the operands of a definition: the names of `name , name , .. )`, or none where `)` stands alone
 abbrev pub operand_names : List Token → Option (List (List ℕ))
 operand_names (close_sign ∷ []) = Some []
 operand_names ts = listed_names ts

@@ -86,7 +86,7 @@ pub record IsNoFeedback (c : Netlist) (p : Pair) : Type 0 where
   pub a_of_b : IsFalse (in_fan_in c p.a p.b)
   pub b_of_a : IsFalse (in_fan_in c p.b p.a)
 
--- the same two nets, in either order
+-- both pairs have the same two nets, in either order
 abbrev pub same_pair : Pair → Pair → Bool
 same_pair p q = ((p.a == q.a) && (p.b == q.b)) || ((p.a == q.b) && (p.b == q.a))
 

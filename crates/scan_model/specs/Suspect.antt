@@ -60,11 +60,12 @@ flips t (fault.Bridge a b kind) w point =
     || (are_opposite (good_value t w b) (bridged kind (good_value t w a) (good_value t w b)) && net_reaches t b point)
 flips t (fault.Cell h c kind) w point = false
 
--- the point is a cell of chain h, up to position c or behind it
+-- the point is a cell of chain h, at position c or upstream of it: from there its value shifts out past the output of cell c
 abbrev pub is_cell_up_to : ℕ → ℕ → Point → Bool
 is_cell_up_to h c (Output k) = false
 is_cell_up_to h c (Cell g i) = (g == h) && nat_le i c
 
+-- the point is a cell of chain h downstream of position c
 abbrev pub is_cell_behind : ℕ → ℕ → Point → Bool
 is_cell_behind h c (Output k) = false
 is_cell_behind h c (Cell g i) = (g == h) && nat_lt c i

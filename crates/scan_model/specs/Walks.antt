@@ -15,18 +15,18 @@ IsWalk c (g ∷ h ∷ gs) = IsTrue (is_gate c g) × Contains (reads c g) h × Is
 abbrev pub HasLevel : Netlist → ℕ → Type 0
 HasLevel c g = (gs : List ℕ) → IsWalk c (g ∷ gs) → length (g ∷ gs) ≤ length c.nets
 
--- a net that a gate reads passes the test; inputs and flops read nothing here
+-- the test holds of a net that the gate reads; inputs and flops read nothing here
 abbrev pub any_read : Netlist → Driver → (ℕ → Bool) → ℕ → Bool
-any_read c Input passes n = false
-any_read c Flop passes n = false
-any_read c (Gate kind) passes n = list_any passes (reads c n)
+any_read c Input test n = false
+any_read c Flop test n = false
+any_read c (Gate kind) test n = list_any test (reads c n)
 
 -- a backward walk begins at the gate and goes on for so many more gates
 abbrev pub walks_on : Netlist → ℕ → ℕ → Bool
 walks_on c zero g = is_gate c g
 walks_on c (suc n) g = any_read c (driver_of c g) (walks_on c n) g
 
--- The same as a test: no walk from the net has more gates than the circuit has nets.
+-- Whether the net has a level: no backward walk from it has more gates than the circuit has nets.
 abbrev pub has_level : Netlist → ℕ → Bool
 has_level c g = not (walks_on c (length c.nets) g)
 

@@ -1,3 +1,5 @@
+//! The pins that are branches: those of nets with two pins or more.
+
 ghost use Rattle.std.specs.Prelude.{◌≡◌, ◌≤◌, length, filter, IfOk};
 ghost use Rattle.scan_model.specs.Netlist.{is_branch, pin_numbers};
 ghost use Rattle.scan_model.specs.GateSearch.{wiring, IsWired};

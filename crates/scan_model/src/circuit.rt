@@ -1,3 +1,5 @@
+//! A circuit: its nets, pins, inputs and outputs.
+
 ghost use Rattle.std.specs.Prelude.{◌≡◌, filter, IfOk, OnOk, IfErr};
 ghost use Rattle.scan_model.specs.Netlist.{netlist, pin_numbers, is_branch};
 ghost use Rattle.scan_model.specs.Walks.{IsEvaluationOrder, HasLevels, IsLeastWithoutLevel};

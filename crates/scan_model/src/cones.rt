@@ -1,3 +1,5 @@
+//! The fan-in and the fan-out cone of a net.
+
 ghost use Rattle.std.specs.Prelude.{◌≡◌, ◌+◌, ◌==◌, ◌&&◌, ◌||◌, ◌<◌, ◌≤◌, ℕ, false, length, filter, IfOk};
 ghost use Rattle.std.specs.List.{list_any, range_with_len};
 ghost use Rattle.scan_model.specs.Netlist.{reads, net_at, pin_at};

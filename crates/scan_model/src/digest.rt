@@ -1,3 +1,5 @@
+//! SHA-256 digests.
+
 use std::marker::Model;
 
 /// A SHA-256 digest (FIPS 180-4): contracts see its 32 bytes as a list.

@@ -1,3 +1,5 @@
+//! An order of evaluation, or a gate that stands in a cycle or reads from one.
+
 ghost use Rattle.std.specs.Prelude.{◌≡◌, ◌+◌, ◌-◌, ◌<◌, [], ◌∷◌, ◌++◌, length, map, take, slice_index, slice_set, IfOk, OnOk, IfErr};
 ghost use Rattle.scan_model.specs.declared.evaluation.Mark.TheVariants.{Open, Settled};
 ghost use Rattle.scan_model.specs.Netlist.{net_at};

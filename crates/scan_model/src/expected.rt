@@ -1,3 +1,5 @@
+//! The expected values of a test.
+
 ghost use Rattle.std.specs.Prelude.{◌≡◌, ℕ, ◌+◌, ◌*◌, ◌/◌, ◌<◌, ◌^◌, ◌==◌, not, [], length, slice_index_or, All, IfOk};
 ghost use Rattle.std.specs.Int.{bit_at};
 ghost use Rattle.scan_model.specs.Values.{is_unknown};

@@ -1,3 +1,5 @@
+//! What logs say: bits, ranges, groups, classes and counts.
+
 use crate::rows::Rows;
 
 /// A pattern at a point.

@@ -1,3 +1,5 @@
+//! The places of the kept pairs, by their nets.
+
 ghost use Rattle.std.specs.Prelude.{◌≡◌, ◌+◌, ◌*◌, ◌^◌, ◌≤◌, length, IfOk};
 ghost use Rattle.scan_model.specs.PairIndex.{nets_number, places_of, IsPairIndex};
 

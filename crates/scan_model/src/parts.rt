@@ -1,3 +1,5 @@
+//! A scan test: a circuit with its chains, patterns and pairs.
+
 ghost use Rattle.std.specs.Prelude.{◌≡◌, ◌≤◌, ◌<◌, ◌^◌, ◌++◌, map, flat_map, length, IfOk};
 ghost use Rattle.std.specs.List.{range_with_len};
 ghost use Rattle.scan_model.specs.ScanTest.{scan_test, points_of, cycle, longest, IsScanTest};

@@ -1,3 +1,5 @@
+//! Lists whose items contracts see, names, and want of memory.
+
 ghost use Rattle.std.specs.Prelude.{◌≡◌, ◌+◌, ◌<◌, ◌^◌, ◌==◌, [], ◌∷◌, ◌++◌, length, OnOk, OnErr, IfOk, vec_len, IsPermutation};
 ghost use Rattle.std.specs.List.Sorted.{IsSortedByKeyClosure};
 

@@ -1,3 +1,5 @@
+//! Counts of steps that contracts see and that take no bytes.
+
 ghost use Rattle.std.specs.Prelude.{◌≡◌, ◌+◌, ◌<◌};
 
 use std::marker::Model;

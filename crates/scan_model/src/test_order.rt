@@ -1,3 +1,5 @@
+//! The points of a test, in test order.
+
 ghost use Rattle.std.specs.Prelude.{◌≡◌, ◌≤◌, ◌<◌, ◌^◌, ◌+◌, ◌-◌, ◌++◌, map, flat_map, length, IfOk, OnOk};
 ghost use Rattle.std.specs.List.{range_with_len};
 ghost use Rattle.scan_model.specs.ScanTest.{cycle, longest as model_longest};
