@@ -4,7 +4,8 @@
     python3 bench/slat.py OTHER            (from the top; ./scandesk must have been built; OTHER writes files and has a command slat)
 
 Each log is posted to a new die for each try, so that its first answer finds nothing kept; the design is there. What is answered
-is compared with what the other program writes, byte by byte, which has no pruning here (PEER_ALL=1).
+is compared with what the other program writes, byte by byte, which has no pruning here (PEER_ALL=1). The two programs take turns.
+The desk has the setting of the C library's heap that ./scandesk gives it, or the caller's own GLIBC_TUNABLES.
 """
 import os
 import statistics
@@ -16,6 +17,7 @@ import time
 from pages import PROGRAM, ask, connect, free_port
 
 TRIES = 9
+HEAP = os.environ.get('GLIBC_TUNABLES', 'glibc.malloc.hugetlb=1')
 TEXTS = ('netlist.bench', 'scan.txt', 'patterns.txt', 'neighbours.csv')
 LOGS = ('demo.log', 'each.log', 'many.log')
 
@@ -29,15 +31,12 @@ def bundle(folder):
 
 
 def of_the_other(other, folder, log, threads):
-    """The bytes that the other program writes, and the median of the seconds that it takes."""
+    """The bytes that the other program writes, and the seconds that it takes."""
     words = [other, 'slat', 'demo', 'demo', *TEXTS, log]
     told = dict(os.environ, PEER_ALL='1', **({'PEER_THREADS': '1'} if threads == 1 else {}))
-    seconds, text = [], b''
-    for _ in range(TRIES):
-        begin = time.monotonic()
-        text = subprocess.run(words, cwd=folder, env=told, stdout=subprocess.PIPE, check=True).stdout
-        seconds.append(time.monotonic() - begin)
-    return text, statistics.median(seconds)
+    begin = time.monotonic()
+    text = subprocess.run(words, cwd=folder, env=told, stdout=subprocess.PIPE, check=True).stdout
+    return text, time.monotonic() - begin
 
 
 def timed(s, target):
@@ -71,7 +70,8 @@ def main():
     with tempfile.TemporaryDirectory() as folder:
         subprocess.run([other, 'files', '7', '200', folder], check=True, stdout=subprocess.DEVNULL)
         port = free_port()
-        desk = subprocess.Popen([PROGRAM, 'serve', str(port), '1', '1000', os.path.join(folder, 'desk.db')], stdout=subprocess.DEVNULL)
+        desk = subprocess.Popen([PROGRAM, 'serve', str(port), '1', '1000', os.path.join(folder, 'desk.db')],
+                                env=dict(os.environ, GLIBC_TUNABLES=HEAP), stdout=subprocess.DEVNULL)
         try:
             s = connect(port)
             status, text = ask(s, 'PUT', '/designs/demo', bundle(folder))
@@ -82,17 +82,17 @@ def main():
             for name in LOGS:
                 with open(os.path.join(folder, name), 'rb') as text:
                     log = text.read()
-                due, one = of_the_other(other, folder, name, 1)
-                _, every = of_the_other(other, folder, name, 0)
                 rows = []
                 for _ in range(TRIES):
                     number += 1
+                    due, one = of_the_other(other, folder, name, 1)
+                    _, every = of_the_other(other, folder, name, 0)
                     told, *seconds = of_the_desk(s, log, number)
                     if told != due:
                         sys.exit('%s: other bytes' % name)
-                    rows.append(seconds)
+                    rows.append([one, every, *seconds])
                 medians = [statistics.median(column) for column in zip(*rows)]
-                print('%-10s' % name + ''.join(' %10.2f' % (1000 * seconds) for seconds in [one, every, *medians]))
+                print('%-10s' % name + ''.join(' %10.2f' % (1000 * seconds) for seconds in medians))
         finally:
             desk.kill()
 
