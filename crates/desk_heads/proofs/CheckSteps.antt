@@ -8,10 +8,10 @@ use Rattle.httparse.specs.Grammar.{RequestHead, Field, field_value}
 use Rattle.httparse.specs.Spans.{span_bytes, header_bytes, name_and_value, IsRequestAt}
 use Rattle.desk_heads.specs.declared.head.HeadFault.{HeadFault}
 use Rattle.desk_heads.specs.declared.head.HeadFault.TheVariants as fault
-use Rattle.desk_heads.specs.Heads.{is_length, are_alike, body_length, is_target, names_close, method_of, has_body, is_head, Asked, checked, body_limit}
+use Rattle.desk_heads.specs.Heads.{is_length, are_alike, body_length, is_target, names_close, method_of, has_body, is_head, HeadFacts, checked, body_limit}
 use Rattle.desk_heads.specs.declared.head.Head.{Head}
 use Rattle.desk_heads.specs.Fields.{named, content_lengths}
-use Rattle.desk_heads.specs.Sees.{IsAsked, IsHeadIn, Judges}
+use Rattle.desk_heads.specs.SeenHeads.{IsAsked, IsHeadIn, Judges}
 use Rattle.std.proofs.lemmas.Bool.{lt-ltb, le-ltb}
 
 values_are : (name : List ℕ) (fields : List Field)
@@ -25,7 +25,7 @@ values_are name (f ∷ fs) = by (str_eq_ignore_ascii_case f.name name) refl (val
     by true e rest = rw (e, rest) refl
     by false e rest = rw (e, rest) refl
 
-abbrev pub asked_at : List ℕ → List ℕ → ℕ → List (List ℕ × List ℕ) → Asked
+abbrev pub asked_at : List ℕ → List ℕ → ℕ → List (List ℕ × List ℕ) → HeadFacts
 asked_at method target minor fields = record {
   method = method_of method;
   target = target;
@@ -35,7 +35,7 @@ asked_at method target minor fields = record {
 }
 
 -- the first check that refuses a head with these parts, or what it asks for
-abbrev pub checked_at : List ℕ → List ℕ → ℕ → List (List ℕ × List ℕ) → Result Asked HeadFault
+abbrev pub checked_at : List ℕ → List ℕ → ℕ → List (List ℕ × List ℕ) → Result HeadFacts HeadFault
 checked_at method target minor fields =
     if nat_lt 0 (length (named (codes "Transfer-Encoding") fields)) then Err fault.TransferEncoding
     else if not (list_all is_length (content_lengths fields) && are_alike (content_lengths fields)) then Err fault.BadRequest
@@ -59,7 +59,7 @@ module _ (text : List ℕ) (room : List HeaderSpan) (spans : RequestSpans) (fiel
   abbrev pub Answers : Result Head HeadFault → Type 0
   Answers answer = (h : RequestHead) → IsRequestAt text room spans h → Judges text (checked h) answer
 
-  answers : (result : Result Asked HeadFault) (answer : Result Head HeadFault) → checked_at method_text target_text spans.version fields ≡ result → Judges text result answer → Answers answer
+  answers : (result : Result HeadFacts HeadFault) (answer : Result Head HeadFault) → checked_at method_text target_text spans.version fields ≡ result → Judges text result answer → Answers answer
   answers result answer is judges h at =
       let same : fields ≡ map name_and_value h.fields = are ∙ at.fields in
       let there : checked h ≡ checked_at method_text target_text spans.version fields = checked_by h ∙ rw (at.method, at.path, at.version, same) refl in

@@ -6,11 +6,11 @@ use Rattle.httparse.specs.Grammar.{RequestHead}
 use Rattle.httparse.proofs.GrammarLemmas.{request_unique}
 use Rattle.desk_heads.specs.declared.head.HeadFault.{HeadFault}
 use Rattle.desk_heads.specs.declared.head.HeadFault.TheVariants as fault
-use Rattle.desk_heads.specs.Heads.{Asked, Reads, head_length, head_limit, HeadFound, IsHeadOf}
+use Rattle.desk_heads.specs.Heads.{HeadFacts, Reads, head_length, head_limit, HeadFound, IsHeadOf}
 use Rattle.desk_heads.proofs.HeadStays.{end_stays, end_within}
 
 abbrev pub Found : Type 0
-Found = Result (ℕ × Asked) HeadFault
+Found = Result (ℕ × HeadFacts) HeadFault
 
 one_reading : (text : List ℕ) (a b : Option RequestHead) → Reads text a → Reads text b → a ≡ b
 one_reading text None None p q = refl

@@ -9,10 +9,10 @@ use Rattle.httparse.specs.Spans.{span_bytes}
 use Rattle.desk_heads.specs.declared.head.Head.{Head}
 use Rattle.desk_heads.specs.declared.head.HeadFault.{HeadFault}
 use Rattle.desk_heads.specs.declared.head.HeadSeen.TheVariants.{Refused}
-use Rattle.desk_heads.specs.Heads.{Asked, IsHeadOf}
+use Rattle.desk_heads.specs.Heads.{HeadFacts, IsHeadOf}
 use Rattle.desk_heads.specs.Incoming.{Grows, IsUnended}
 use Rattle.desk_heads.specs.Items.{refused, request, nothing, part, item, IsFrontOf}
-use Rattle.desk_heads.specs.Sees.{IsAsked, IsHeadIn, Sees}
+use Rattle.desk_heads.specs.SeenHeads.{IsAsked, IsHeadIn, Sees}
 use Rattle.desk_heads.proofs.HeadLaws.{stays}
 use Rattle.desk_heads.proofs.ItemLaws.{request_stays, refused_stays}
 
@@ -24,7 +24,7 @@ span_stays old more span ordered within =
     let behind : drop span.start (old ++ more) ≡ drop span.start old ++ more = drop-append-le span.start old more (omega arith) in
     ap (take (span.end - span.start)) behind ∙ take-append-le (span.end - span.start) (drop span.start old) more (omega (arith, length-drop span.start old))
 
-module _ (old new : List ℕ) (grows : Grows old new) (head : Head) (asked : Asked) where
+module _ (old new : List ℕ) (grows : Grows old new) (head : Head) (asked : HeadFacts) where
   -- the head stays, with what it asks for, where more bytes come
   pub head_stays : IsHeadOf old (Some (Ok (head.length, asked))) → IsHeadOf new (Some (Ok (head.length, asked)))
   head_stays is = subst (λ bytes. IsHeadOf bytes (Some (Ok (head.length, asked)))) (sym grows.1) (stays old grows.0 (Ok (head.length, asked)) is)
@@ -84,7 +84,7 @@ all_wait waiting (Some rest) whole told end = let same : whole ≡ waiting ++ re
 
 -- a request at the front of what waits is at the front of all bytes, and what waits behind it is before what is left
 pub request_of_whole : (waiting : List ℕ) (left : Option (List ℕ)) (whole : List ℕ) → prepend_known waiting left ≡ Some whole
-    → (asked : Asked) (body rest : List ℕ) → IsFrontOf waiting (item (request asked body) rest)
+    → (asked : HeadFacts) (body rest : List ℕ) → IsFrontOf waiting (item (request asked body) rest)
     → (after : List ℕ) × IsFrontOf whole (item (request asked body) after) × (prepend_known rest left ≡ Some after)
 request_of_whole waiting None whole told asked body rest front = absurd (cc)
 request_of_whole waiting (Some more) whole told asked body rest front =

@@ -3,7 +3,7 @@ use Rattle.std.proofs.Common.{◌≡◌, ℕ, ◌+◌, ◌≤◌, Bool, true, fa
 use Rattle.std.proofs.lemmas.Bool.{ltb-false, le-ltb}
 use Rattle.std.proofs.lemmas.List.{take-append-le, drop-append-le}
 use Rattle.desk_heads.specs.declared.head.HeadFault.{HeadFault}
-use Rattle.desk_heads.specs.Heads.{Asked}
+use Rattle.desk_heads.specs.Heads.{HeadFacts}
 use Rattle.desk_heads.specs.Items.{Item, refused, request, Front, nothing, part, item, IsFrontOf, Ending, closed, between, within, closes, GoesOn, Items}
 use Rattle.desk_heads.proofs.HeadLaws.{one_head, stays}
 
@@ -26,7 +26,7 @@ refused_stays bytes more f rest (Some (Ok (n, a)), is, e) = absurd (by (nat_lt (
     by false e = cc
 
 -- a request stays where more bytes come, which are added after it
-pub request_stays : (bytes more : List ℕ) (a : Asked) (body rest : List ℕ) → IsFrontOf bytes (item (request a body) rest) → IsFrontOf (bytes ++ more) (item (request a body) (rest ++ more))
+pub request_stays : (bytes more : List ℕ) (a : HeadFacts) (body rest : List ℕ) → IsFrontOf bytes (item (request a body) rest) → IsFrontOf (bytes ++ more) (item (request a body) (rest ++ more))
 request_stays bytes more a body rest (None, is, e) = absurd (by (length bytes == 0) e)
   where
     by : (b : Bool) → item (request a body) rest ≡ (if b then nothing else part false) → ⊥

@@ -12,8 +12,8 @@ use Rattle.desk_heads.specs.declared.head.Head.{Head}
 use Rattle.desk_heads.specs.declared.head.HeadFault.{HeadFault}
 use Rattle.desk_heads.specs.declared.head.HeadFault.TheVariants as fault
 use Rattle.desk_heads.specs.declared.head.HeadSeen.TheVariants.{Unended, Refused, Whole}
-use Rattle.desk_heads.specs.Heads.{Asked, Reads, judged, head_length, head_limit, HeadFound, IsHeadOf}
-use Rattle.desk_heads.specs.Sees.{Judges, Sees}
+use Rattle.desk_heads.specs.Heads.{HeadFacts, Reads, judged, head_length, head_limit, HeadFound, IsHeadOf}
+use Rattle.desk_heads.specs.SeenHeads.{Judges, Sees}
 
 -- a span within the front covers the same bytes of the whole
 pub span_in_front : (bytes : List ℕ) (n : ℕ) (span : Span) → span.end ≤ n → span_bytes (take n bytes) span ≡ span_bytes bytes span
@@ -23,7 +23,7 @@ pub front_is : (limit size : ℕ) (bytes : List ℕ) (found : Option ℕ) → si
 front_is limit size bytes found short is = sym (is ∙ ap (λ k. head_length (take k bytes)) short ∙ ap head_length (take_min limit bytes))
 
 module _ (bytes : List ℕ) where
-  none : (head : Option (Result (ℕ × Asked) HeadFault)) → head_length (take head_limit bytes) ≡ None
+  none : (head : Option (Result (ℕ × HeadFacts) HeadFault)) → head_length (take head_limit bytes) ≡ None
       → head ≡ (if nat_le head_limit (length bytes) then Some (Err fault.HeadTooLarge) else None) → IsHeadOf bytes head
   none head found is = subst (λ o. HeadFound bytes o head) (sym found) is
 
@@ -34,20 +34,20 @@ module _ (bytes : List ℕ) where
   too_large found long = let e : nat_le head_limit (length bytes) ≡ true = le-leb _ _ long in none (Some (Err fault.HeadTooLarge)) found (rw e refl)
 
   module _ (n : ℕ) (found : head_length (take head_limit bytes) ≡ Some n) (read : Option RequestHead) (reads : Reads (take n bytes) read) where
-    some : (head : Option (Result (ℕ × Asked) HeadFault)) → HeadFound bytes (Some n) head → IsHeadOf bytes head
+    some : (head : Option (Result (ℕ × HeadFacts) HeadFault)) → HeadFound bytes (Some n) head → IsHeadOf bytes head
     some head is = subst (λ o. HeadFound bytes o head) (sym found) is
 
     pub refused : (f : HeadFault) → Judges (take n bytes) (judged read) (Err f) → Sees bytes (Refused f)
     refused f judges = by (judged read) refl judges
       where
-        by : (result : Result Asked HeadFault) → judged read ≡ result → Judges (take n bytes) result (Err f) → Sees bytes (Refused f)
+        by : (result : Result HeadFacts HeadFault) → judged read ≡ result → Judges (take n bytes) result (Err f) → Sees bytes (Refused f)
         by (Ok asked) e wrong = absurd wrong
         by (Err g) e same = some (Some (Err f)) (read, reads, rw (e, same) refl)
 
     pub whole : n ≤ length bytes → (head : Head) → Judges (take n bytes) (judged read) (Ok head) → Sees bytes (Whole head)
     whole within head judges = by (judged read) refl judges
       where
-        by : (result : Result Asked HeadFault) → judged read ≡ result → Judges (take n bytes) result (Ok head) → Sees bytes (Whole head)
+        by : (result : Result HeadFacts HeadFault) → judged read ≡ result → Judges (take n bytes) result (Ok head) → Sees bytes (Whole head)
         by (Err g) e wrong = absurd wrong
         by (Ok asked) e (long, fits, is) =
             let long_enough : head.length ≡ n = omega (arith, long, length-take n bytes) in

@@ -106,14 +106,14 @@ is_head method.Head = true
 is_head _ = false
 
 -- a request without its body; an interim reply goes before the body where it is awaited
-pub record Asked : Type 0 where
+pub record HeadFacts : Type 0 where
   pub method : Method
   pub target : List ℕ
   pub body : ℕ
   pub awaits : Bool
   pub closes : Bool
 
-abbrev pub asked : RequestHead → Asked
+abbrev pub asked : RequestHead → HeadFacts
 asked h = record {
   method = method_of h.method;
   target = h.target;
@@ -123,7 +123,7 @@ asked h = record {
 }
 
 -- the first check that refuses a head, or what it asks for
-abbrev pub checked : RequestHead → Result Asked HeadFault
+abbrev pub checked : RequestHead → Result HeadFacts HeadFault
 checked h =
     if nat_lt 0 (length (values_of (codes "Transfer-Encoding") h)) then Err fault.TransferEncoding
     else if not (list_all is_length (lengths h) && are_alike (lengths h)) then Err fault.BadRequest
@@ -137,18 +137,18 @@ abbrev pub Reads : List ℕ → Option RequestHead → Type 0
 Reads text (Some h) = ReadsRequest text h []
 Reads text None = (h : RequestHead) → ¬ (ReadsRequest text h [])
 
-abbrev pub judged : Option RequestHead → Result Asked HeadFault
+abbrev pub judged : Option RequestHead → Result HeadFacts HeadFault
 judged None = Err fault.BadRequest
 judged (Some h) = checked h
 
 -- the length of the head at the front of the bytes with what it asks for; why it is refused; or None while it isn't whole
-abbrev pub HeadFound : List ℕ → Option ℕ → Option (Result (ℕ × Asked) HeadFault) → Type 0
+abbrev pub HeadFound : List ℕ → Option ℕ → Option (Result (ℕ × HeadFacts) HeadFault) → Type 0
 HeadFound bytes None head = head ≡ (if nat_le head_limit (length bytes) then Some (Err fault.HeadTooLarge) else None)
 HeadFound bytes (Some n) head = (read : Option RequestHead) × Reads (take n bytes) read × (head ≡ Some (with_length (judged read)))
   where
-    with_length : Result Asked HeadFault → Result (ℕ × Asked) HeadFault
+    with_length : Result HeadFacts HeadFault → Result (ℕ × HeadFacts) HeadFault
     with_length (Ok a) = Ok (n, a)
     with_length (Err f) = Err f
 
-abbrev pub IsHeadOf : List ℕ → Option (Result (ℕ × Asked) HeadFault) → Type 0
+abbrev pub IsHeadOf : List ℕ → Option (Result (ℕ × HeadFacts) HeadFault) → Type 0
 IsHeadOf bytes head = HeadFound bytes (head_length (take head_limit bytes)) head

@@ -7,8 +7,8 @@ use Rattle.desk_heads.specs.declared.incoming.BodyRead.{BodyRead}
 use Rattle.desk_heads.specs.declared.incoming.BodyRead.TheVariants as body
 use Rattle.desk_heads.specs.declared.incoming.HeadRead.{HeadRead}
 use Rattle.desk_heads.specs.declared.incoming.HeadRead.TheVariants as head
-use Rattle.desk_heads.specs.Heads.{Asked, IsHeadOf}
-use Rattle.desk_heads.specs.Sees.{Sees}
+use Rattle.desk_heads.specs.Heads.{HeadFacts, IsHeadOf}
+use Rattle.desk_heads.specs.SeenHeads.{Sees}
 
 -- bytes were added behind those that waited
 abbrev pub Grows : List ℕ → List ℕ → Type 0
@@ -24,7 +24,7 @@ IsUnended bytes = Sees bytes seen.Unended
 
 -- a whole head stands at the front, or one that is refused
 abbrev pub HasHead : List ℕ → Type 0
-HasHead bytes = (found : Result (ℕ × Asked) HeadFault) × IsHeadOf bytes (Some found)
+HasHead bytes = (found : Result (ℕ × HeadFacts) HeadFault) × IsHeadOf bytes (Some found)
 
 -- the last bytes came in one piece, with room for so many, behind bytes that were no whole head yet
 pub record EndsInPiece (room : ℕ) (old new : List ℕ) : Type 0 where

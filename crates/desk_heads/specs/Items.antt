@@ -1,11 +1,11 @@
 -- The items of a byte string: requests and refused heads, one after another from the front.
 use Rattle.std.specs.Prelude.{◌≡◌, ℕ, ◌+◌, ◌==◌, ◌||◌, Bool, true, false, nat_lt, if◌then◌else◌, List, [], ◌∷◌, length, take, drop, Option, Some, None, Result, Ok, Err}
 use Rattle.desk_heads.specs.declared.head.HeadFault.{HeadFault}
-use Rattle.desk_heads.specs.Heads.{Asked, IsHeadOf}
+use Rattle.desk_heads.specs.Heads.{HeadFacts, IsHeadOf}
 
 pub data Item : Type 0 where
   refused : HeadFault → Item
-  request : Asked → (body : List ℕ) → Item
+  request : HeadFacts → (body : List ℕ) → Item
 
 -- what stands at the front of bytes: nothing; a message that isn't whole, with an interim reply due where its head is and awaits one;
 -- or an item, and the bytes after it
@@ -15,7 +15,7 @@ pub data Front : Type 0 where
   item : Item → (rest : List ℕ) → Front
 
 -- a head with its body
-abbrev pub with_body : List ℕ → Option (Result (ℕ × Asked) HeadFault) → Front
+abbrev pub with_body : List ℕ → Option (Result (ℕ × HeadFacts) HeadFault) → Front
 with_body bytes None = if length bytes == 0 then nothing else part false
 with_body bytes (Some (Err f)) = item (refused f) []
 with_body bytes (Some (Ok (n, a))) =
@@ -23,7 +23,7 @@ with_body bytes (Some (Ok (n, a))) =
     else item (request a (take a.body (drop n bytes))) (drop (n + a.body) bytes)
 
 abbrev pub IsFrontOf : List ℕ → Front → Type 0
-IsFrontOf bytes front = (head : Option (Result (ℕ × Asked) HeadFault)) × IsHeadOf bytes head × (front ≡ with_body bytes head)
+IsFrontOf bytes front = (head : Option (Result (ℕ × HeadFacts) HeadFault)) × IsHeadOf bytes head × (front ≡ with_body bytes head)
 
 -- how a byte string ends: behind an item that closes, between messages, or within one
 pub data Ending : Type 0 where

@@ -2,5 +2,5 @@
 pub mod Heads
 pub mod Items
 pub mod Fields
-pub mod Sees
+pub mod SeenHeads
 pub mod Incoming

@@ -6,7 +6,7 @@ ghost use Rattle.httparse.specs.Grammar.{RequestHead, ReadsRequest};
 ghost use Rattle.httparse.specs.Spans.{IsRequestAt, IsRequestWithin};
 ghost use Rattle.desk_heads.specs.Heads.{Reads, judged, checked, has_body, is_head, names_close, head_limit, HasNoEndWithin};
 ghost use Rattle.desk_heads.specs.Fields.{named, content_lengths};
-ghost use Rattle.desk_heads.specs.Sees.{Judges, Sees};
+ghost use Rattle.desk_heads.specs.SeenHeads.{Judges, Sees};
 
 use crate::head::fields::{CONTENT_LENGTH, Fields, TRANSFER_ENCODING};
 use crate::head::head_end::head_length_past;

@@ -30,7 +30,7 @@ impl Model for Inbox {
 }
 
 impl Inbox {
-    ghost use Rattle.desk_heads.specs.Sees.{Sees};
+    ghost use Rattle.desk_heads.specs.SeenHeads.{Sees};
 
     /// An empty one.
     pub fn make(alloc: Global) -> Result<Inbox, NoMemory>

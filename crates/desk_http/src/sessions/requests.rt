@@ -17,7 +17,7 @@ ghost use Rattle.desk_http.specs.Answering.{IsAnswer};
 ghost use Rattle.desk_http.specs.Seats.{IsPrefix};
 ghost use Rattle.desk_http.specs.Sessions.{IsSession, Rise, interim_if};
 ghost use Rattle.desk_http.specs.Turns.{Replied, Responds, Takes};
-ghost use Rattle.desk_heads.specs.Sees.{Sees, IsHeadIn};
+ghost use Rattle.desk_heads.specs.SeenHeads.{Sees, IsHeadIn};
 ghost use Rattle.desk_heads.specs.Items.{item_limit};
 ghost use Rattle.httparse.specs.Spans.{span_bytes};
 ghost use Rattle.desk_heads.specs.declared.head.HeadSeen.TheVariants as seen;

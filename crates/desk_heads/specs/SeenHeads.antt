@@ -5,10 +5,10 @@ use Rattle.desk_heads.specs.declared.head.Head.{Head}
 use Rattle.desk_heads.specs.declared.head.HeadFault.{HeadFault}
 use Rattle.desk_heads.specs.declared.head.HeadSeen.{HeadSeen}
 use Rattle.desk_heads.specs.declared.head.HeadSeen.TheVariants.{Unended, Refused, Whole}
-use Rattle.desk_heads.specs.Heads.{Asked, body_limit, IsHeadOf}
+use Rattle.desk_heads.specs.Heads.{HeadFacts, body_limit, IsHeadOf}
 
 -- the head asks for that, with its target in these bytes
-pub record IsAsked (bytes : List ℕ) (head : Head) (asked : Asked) : Type 0 where
+pub record IsAsked (bytes : List ℕ) (head : Head) (asked : HeadFacts) : Type 0 where
   pub method : head.method ≡ asked.method
   pub target : span_bytes bytes head.target ≡ asked.target
   pub body : head.body ≡ asked.body
@@ -26,10 +26,10 @@ pub record IsHeadIn (bytes : List ℕ) (head : Head) : Type 0 where
 abbrev pub Sees : List ℕ → HeadSeen → Type 0
 Sees bytes Unended = IsHeadOf bytes None
 Sees bytes (Refused f) = IsHeadOf bytes (Some (Err f))
-Sees bytes (Whole head) = IsHeadIn bytes head × ((asked : Asked) × IsHeadOf bytes (Some (Ok (head.length, asked))) × IsAsked bytes head asked)
+Sees bytes (Whole head) = IsHeadIn bytes head × ((asked : HeadFacts) × IsHeadOf bytes (Some (Ok (head.length, asked))) × IsAsked bytes head asked)
 
 -- the text of a head is judged so
-abbrev pub Judges : List ℕ → Result Asked HeadFault → Result Head HeadFault → Type 0
+abbrev pub Judges : List ℕ → Result HeadFacts HeadFault → Result Head HeadFault → Type 0
 Judges text (Err f) (Err g) = g ≡ f
 Judges text (Ok asked) (Ok head) = (head.length ≡ length text) × IsHeadIn text head × IsAsked text head asked
 Judges text _ _ = ⊥
