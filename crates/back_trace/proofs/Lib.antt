@@ -8,3 +8,4 @@ pub mod Marking
 pub mod Slots
 pub mod Unreached
 pub mod Standing
+pub mod BothMarks

@@ -3,3 +3,4 @@ pub mod Keys
 pub mod Traces
 pub mod Slots
 pub mod Marking
+pub mod Both
