@@ -6,7 +6,7 @@ use Rattle.std.proofs.lemmas.List.{get_or_default, get_or-drop, length-drop, get
 use Rattle.std.proofs.lemmas.List.Folds.{list_any_at}
 use Rattle.scan_model.proofs.FanSweeps.{any_found}
 use Rattle.lane_rows.specs.Lanes.{lane}
-use Rattle.back_trace.specs.Fails.{Tells}
+use Rattle.back_trace.specs.Fails.{Tells, Covers}
 use Rattle.scan_model.specs.declared.parts.Point.{Point}
 use Rattle.scan_model.specs.declared.parts.Point.TheVariants.{Cell}
 use Rattle.back_trace.specs.Traces.{lane_at, is_shifted_through, is_from, IsLastReached}
@@ -47,6 +47,28 @@ tells_row row empty r none some is = elim (cases_Bool empty) [
   | inl yes' ↦ subst (λ (b : Bool). Tells b (lane row)) (sym (is ∙ ap not yes')) (tells_none (lane row) (none yes'))
   | inr no' ↦ subst (λ (b : Bool). Tells b (lane row)) (sym (is ∙ ap not no')) (record { found = λ e. some_lane row empty no' some; all = λ j lt e. refl })
 ]
+
+-- ---- rows that cover lanes
+
+pub covers_exact : (row : List ℕ) (p : ℕ → Bool) → ((j : ℕ) → j < 512 → lane row j ≡ p j) → Covers row p
+covers_exact row p same = record {
+  found = λ j lt e. (j, lt, sym (same j lt) ∙ e);
+  all = λ j lt e. same j lt ∙ e;
+}
+
+pub covers_all : (row : List ℕ) (answer : Bool) (p : ℕ → Bool) → ((j : ℕ) → j < 512 → lane row j ≡ answer) → Tells answer p → Covers row p
+covers_all row answer p is tells = record {
+  found = λ j lt e. tells.found (sym (is j lt) ∙ e);
+  all = λ j lt e. is j lt ∙ tells.all j lt e;
+}
+
+pub tells_covers : (row : List ℕ) (empty r : Bool) (p : ℕ → Bool) → Covers row p → (empty ≡ true → (j : ℕ) → j < 512 → lane row j ≡ false) → (((j : ℕ) → j < 512 → lane row j ≡ false) → empty ≡ true) → r ≡ not empty → Tells r p
+tells_covers row empty r p covers none some is =
+    let tells = tells_row row empty r none some is in
+    record {
+      found = λ e. let j = tells.found e in covers.found j.0 j.1 j.2;
+      all = λ j lt e. tells.all j lt (covers.all j lt e);
+    }
 
 -- ---- the first position
 

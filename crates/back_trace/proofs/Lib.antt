@@ -8,3 +8,4 @@ pub mod SuspectMarks
 pub mod Slots
 pub mod Unreached
 pub mod Standing
+pub mod BothMarks

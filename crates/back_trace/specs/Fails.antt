@@ -47,3 +47,8 @@ explains_in t f b rows j = any_fail t rows j (can_explain t f (pattern_at t (pat
 pub record Tells (answer : Bool) (is_lane : ℕ → Bool) : Type 0 where
   pub found : answer ≡ true → (j : ℕ) × (j < 512) × (is_lane j ≡ true)
   pub all : (j : ℕ) → j < 512 → is_lane j ≡ true → answer ≡ true
+
+-- the row has each lane of a kind, and a lane at all only where some lane is of that kind
+pub record Covers (row : List ℕ) (is_lane : ℕ → Bool) : Type 0 where
+  pub found : (j : ℕ) → j < 512 → lane row j ≡ true → (i : ℕ) × (i < 512) × (is_lane i ≡ true)
+  pub all : (j : ℕ) → j < 512 → is_lane j ≡ true → lane row j ≡ true

@@ -9,7 +9,7 @@ ghost use Rattle.scan_model.specs.Suspect.{place_reaches};
 ghost use Rattle.lane_rows.specs.Lanes.{lane};
 ghost use Rattle.lane_rows.specs.Planes.{held};
 ghost use Rattle.lane_rows.specs.GoodRows.{AreBlockRows};
-ghost use Rattle.back_trace.specs.Fails.{any_fail, explains_in, IsWithin, Tells};
+ghost use Rattle.back_trace.specs.Fails.{any_fail, explains_in, IsWithin, Tells, Covers};
 ghost use Rattle.back_trace.specs.Traces.{is_from, IsPlaceIn, IsTraceOf};
 
 use crate::trace::Trace;
@@ -123,6 +123,30 @@ fn is_cell_explained(parts: &Parts, trace: &Trace, chain: u32, pos: u32) -> bool
     }
 }
 
+/// Each lane, or none.
+fn lanes_if(answer: bool) -> Row
+    ensures { (j : ℕ) → j < 512 → lane result j ≡ answer }
+{
+    if answer { Row::all() } else { Row::none() }
+}
+
+/// The lanes in which the fault explains a failing bit. Of a fault behind a cell they are all, where it does in any.
+pub(crate) fn explaining_lanes(parts: &Parts, block: &Block, trace: &Trace, fault: Fault) -> Row
+    requires trace { IsTraceOf parts.now block.now.capture block.now.shift trace.now }
+    requires fails { length trace.now.fails ≡ length (points_of parts.now) }
+    requires values { length block.now.values ≡ length parts.now.netlist.nets }
+    requires site { HasSite parts.now fault }
+    ensures { (b : ℕ) → AreBlockRows parts.now b block.now → IsWithin parts.now b trace.now.fails → Covers result (explains_in parts.now fault b trace.now.fails) }
+{
+    let _ = parts.circuit();
+    match fault {
+        Fault::Stem { net, value } => stem_row(parts, block, trace, net, value),
+        Fault::Branch { pin, value } => branch_row(parts, block, trace, pin, value),
+        Fault::Bridge { a, b, kind } => bridge_row(parts, block, trace, a, b, kind),
+        Fault::Cell { chain, pos, .. } => lanes_if(is_cell_explained(parts, trace, chain, pos)),
+    }
+}
+
 /// Whether the fault explains a failing bit of the block.
 pub(crate) fn is_explained(parts: &Parts, block: &Block, trace: &Trace, fault: Fault) -> bool
     requires trace { IsTraceOf parts.now block.now.capture block.now.shift trace.now }
@@ -131,11 +155,5 @@ pub(crate) fn is_explained(parts: &Parts, block: &Block, trace: &Trace, fault: F
     requires site { HasSite parts.now fault }
     ensures { (b : ℕ) → AreBlockRows parts.now b block.now → IsWithin parts.now b trace.now.fails → Tells result (explains_in parts.now fault b trace.now.fails) }
 {
-    let _ = parts.circuit();
-    match fault {
-        Fault::Stem { net, value } => !stem_row(parts, block, trace, net, value).is_empty(),
-        Fault::Branch { pin, value } => !branch_row(parts, block, trace, pin, value).is_empty(),
-        Fault::Bridge { a, b, kind } => !bridge_row(parts, block, trace, a, b, kind).is_empty(),
-        Fault::Cell { chain, pos, .. } => is_cell_explained(parts, trace, chain, pos),
-    }
+    !explaining_lanes(parts, block, trace, fault).is_empty()
 }

@@ -1,6 +1,7 @@
 //! Which faults can explain a failing bit, traced back from the failing bits over the fault-free values.
 #![tactic(auto)]
 
+mod both;
 mod chains;
 mod explain;
 mod fails;
@@ -11,4 +12,5 @@ mod reach;
 mod trace;
 mod tracing;
 
-pub use tracing::{suspects, suspects_over};
+pub use both::mark_both;
+pub use tracing::{marked_places, suspects, suspects_over};

@@ -28,7 +28,7 @@ use scan_model::{Expected, NoMemory, Parts, Rows};
 use std::alloc::Global;
 
 /// Traces the failing bits of a block back.
-fn trace_back(
+pub(crate) fn trace_back(
     alloc: Global,
     parts: &Parts,
     block: &Block,
@@ -82,8 +82,8 @@ fn mark_block(
     Ok(())
 }
 
-/// The numbers of the marks that are set.
-fn marked_places(alloc: Global, marks: &[bool]) -> Result<Rows<u32>, NoMemory>
+/// The numbers of the marks that are set, in rising order.
+pub fn marked_places(alloc: Global, marks: &[bool]) -> Result<Rows<u32>, NoMemory>
     requires { length marks.now < 4294967296 }
     ensures { IfOk result (λ places. places ≡ filter (is_marked marks.now) (range_with_len 0 (length marks.now))) }
 {
