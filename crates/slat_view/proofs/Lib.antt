@@ -12,3 +12,5 @@ mod BlockFits
 pub mod Serving
 pub mod Counting
 mod KeptFits
+pub mod FirstLast
+pub mod NarrowedMarks

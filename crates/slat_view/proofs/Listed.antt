@@ -1,11 +1,10 @@
--- The faults that fit a pattern, the suspects and the candidates, by their places in the list of faults.
-use Rattle.std.proofs.Common.{◌≡◌, ℕ, ◌+◌, ◌<◌, ◌≤◌, Bool, cond, List, [], ◌∷◌, length, map, refl, sym, ap, ◌∙◌, inl, inr, arith}
-use Rattle.std.specs.Prelude.{All, filter}
+-- The faults that fit a pattern and the candidates, by their places in the list of faults.
+use Rattle.std.proofs.Common.{◌≡◌, ℕ, ◌+◌, ◌<◌, Bool, List, [], ◌∷◌, length, map, refl, sym, ap, ◌∙◌, inl, inr, arith}
+use Rattle.std.specs.Prelude.{filter}
 use Rattle.std.specs.List.{range_with_len, enumerate_from}
 use Rattle.std.proofs.lemmas.Bool.{cases_Bool}
 use Rattle.std.proofs.lemmas.List.{ext_get_or}
-use Rattle.std.proofs.lemmas.List.Sums.{length-filter, count_by-le-length}
-use Rattle.std.proofs.lemmas.List.FromFn.{length-map-range_with_len, get_or-map-range_with_len, length-enumerate_from, get_or-enumerate_from, length-range_with_len}
+use Rattle.std.proofs.lemmas.List.FromFn.{length-map-range_with_len, get_or-map-range_with_len, length-enumerate_from, get_or-enumerate_from}
 use mathlib.Core.List.{map-map}
 use Rattle.scan_model.specs.declared.fault.Fault.{Fault}
 use Rattle.scan_model.specs.declared.logs.LogFacts.{LogFacts}
@@ -14,8 +13,6 @@ use Rattle.scan_model.specs.ScanTest.{ScanTest}
 use Rattle.scan_model.specs.Universe.{universe}
 use Rattle.scan_model.specs.ReportText.{no_fault}
 use Rattle.scan_model.specs.MatchCounts.{is_candidate, scored, candidates}
-use Rattle.scan_model.specs.Suspect.{suspects, is_suspect}
-use Rattle.scan_model.proofs.Orders.{filter_range_at}
 use Rattle.diag_report.specs.PredictedLog.{fault_of}
 use Rattle.slat_view.specs.Slat.{fits, fitting_places}
 
@@ -43,15 +40,6 @@ module _ (t : ScanTest) (logs : List LogFacts) where
   fitting_are w =
       ap (λ (es : List (ℕ × Fault)). map (λ e. e.0) (filter (λ e. fits t logs w e.1) es)) (enumerated t)
       ∙ chosen (fault_of t) (fits t logs w) (range_with_len 0 (length (universe t)))
-
-  pub suspects_are : suspects t logs ≡ filter (λ p. is_suspect t logs (fault_of t p)) (range_with_len 0 (length (universe t)))
-  suspects_are = ap (λ (es : List (ℕ × Fault)). map (λ e. e.0) (filter (λ e. is_suspect t logs e.1) es)) (enumerated t) ∙ chosen (fault_of t) (is_suspect t logs) (range_with_len 0 (length (universe t)))
-
-  pub suspects_below : All (λ p. p < length (universe t)) (suspects t logs)
-  suspects_below = rw suspects_are (λ k d lt. omega (arith, (filter_range_at (λ p. is_suspect t logs (fault_of t p)) 0 (length (universe t)) k d lt).1))
-
-  pub few_suspects : length (suspects t logs) ≤ length (universe t)
-  few_suspects = omega (arith, ap length suspects_are, length-filter (λ p. is_suspect t logs (fault_of t p)) (range_with_len 0 (length (universe t))), count_by-le-length (λ p. is_suspect t logs (fault_of t p)) (range_with_len 0 (length (universe t))), length-range_with_len 0 (length (universe t)))
 
   pub candidates_are : candidates t logs ≡ filter is_candidate (map (λ p. scored t logs (p, fault_of t p)) (range_with_len 0 (length (universe t))))
   candidates_are =

@@ -7,3 +7,5 @@ pub mod SameTables
 pub mod Tests
 pub mod SlatText
 pub mod Whole
+pub mod Ends
+pub mod Narrowed

@@ -3,12 +3,14 @@
 
 mod chain_observer;
 mod counts;
+mod ends;
 mod failing;
 mod fit;
 mod fits;
 mod kept_fits;
 mod lane_counter;
 mod laws;
+mod narrowing;
 mod observer;
 mod places;
 mod prepared;

@@ -7,7 +7,7 @@ ghost use Rattle.log_join.specs.Joining.{StandsFor, IsJoinedOf};
 ghost use Rattle.fault_effects.specs.Owners.{places_of};
 ghost use Rattle.slat_view.specs.Tests.{IsPrepared, HaveAllFits};
 
-use back_trace::suspects_over;
+use crate::narrowing::narrowed_places;
 use fault_effects::{Reads, Suspect, owned_nets, owners_of, reads_of, suspects_at};
 use fault_universe::universe_len;
 use lane_rows::Groups;
@@ -37,15 +37,14 @@ impl Prepared {
     ) -> Result<Prepared, NoMemory>
         requires expected { expected.now ≡ expected_rows parts.now }
         requires joined { IsJoinedOf (length parts.now.patterns) (length (points_of parts.now)) joined }
-        requires some { (logs : List LogFacts) × StandsFor logs joined }
         ensures prepared { IfOk result (IsPrepared parts.now) }
         ensures joined { IfOk result (λ die. die.joined ≡ joined) }
         ensures fits { (logs : List LogFacts) → StandsFor logs joined → IfOk result (λ die. HaveAllFits parts.now logs (places_of die.suspects)) }
     {
         let _ = universe_len(parts);
         let good = PackedGood::make(alloc, parts)?;
-        let traced = suspects_over(alloc, parts, good.rows(), expected, &joined)?;
-        let suspects = suspects_at(alloc, parts, traced.as_slice())?;
+        let places = narrowed_places(alloc, parts, good.rows(), expected, &joined)?;
+        let suspects = suspects_at(alloc, parts, places.as_slice())?;
         let owners = owners_of(alloc, parts, suspects.as_slice())?;
         let reads = reads_of(alloc, parts)?;
         let nets = owned_nets(alloc, parts, &reads, &owners)?;

@@ -17,7 +17,8 @@ use std::alloc::Global;
 use std::thread::Threads;
 
 /// The counts of a die, with the faults that fit each pattern, where these are no more than 2^18 in all blocks of 512 patterns.
-/// Suspects alone are tried, a block at a time: one flip serves all faults of a net.
+/// Only faults that can explain the first and the last Failing bit of some pattern are tried, a block at a time: one flip
+/// serves all faults of a net.
 pub fn whole_slat<R: Threads + Sync>(
     _rt: &R,
     alloc: Global,

@@ -30,9 +30,6 @@ joined_of-requires g c =
 pub make-requires-clause-expected : goal.make-requires-clause-expected
 make-requires-clause-expected g c = c.expected-expected.ensures ∙ ap expected_rows (sym c.parts-parts.ensures.value)
 
-pub make-requires-clause-some : goal.make-requires-clause-some
-make-requires-clause-some g c = (facts_of (map (λ (log : Arc ReadLog Global). arc_value log) c.as_slice.result.now), c.in_ok-joined.ensures.stands)
-
 pub whole_of-requires : goal.whole_of-requires
 whole_of-requires g c = record { expected = c.expected-expected.ensures ∙ ap expected_rows (sym c.parts-parts.ensures.value); die = c.in_ok-die.ensures.prepared }
 

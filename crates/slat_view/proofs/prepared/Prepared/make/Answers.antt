@@ -1,21 +1,13 @@
-use Rattle.std.proofs.Common.{◌≡◌, ℕ, ◌<◌, ◌≤◌, List, length, Some, sym, ap, subst, ◌∙◌, arith}
-use Rattle.std.specs.Prelude.{All, Contains, slice_get}
-use Rattle.scan_model.specs.declared.fault.Fault.{Fault}
-use Rattle.scan_model.specs.MatchCounts.{counts_of}
-use Rattle.scan_model.specs.Suspect.{suspects}
+use Rattle.std.proofs.Common.{◌≡◌, ℕ, ◌<◌, List, length, sym, ap, subst, ◌∙◌, arith}
+use Rattle.std.specs.Prelude.{All}
 use Rattle.scan_model.specs.Universe.{universe}
 use Rattle.fault_effects.specs.declared.suspect.Suspect.{Suspect}
 use Rattle.fault_effects.specs.Owners.{AreOwners, places_of, owner, suspect_at}
 use Rattle.slat_view.specs.Tests.{HaveAllFits}
-use Rattle.slat_view.proofs.Listed.{suspects_below, few_suspects}
-use Rattle.slat_view.proofs.Serving.{all_fits}
 use Rattle.slat_view.proofs.prepared.Prepared.make.Goals as goal
 
 pub owners_of-requires-clause-few : goal.owners_of-requires-clause-few
-owners_of-requires-clause-few c =
-    let t = c.args.parts.now in
-    let traced : c.in_ok-traced.traced ≡ suspects t c.requires.some.0 = c.in_ok-traced.ensures.suspects c.requires.some.0 c.requires.some.1 in
-    omega (arith, ap length c.as_slice-2.ensures, c.in_ok-suspects.ensures.few, ap length c.as_slice.ensures, ap length traced, few_suspects t c.requires.some.0, c.universe_len.ensures)
+owners_of-requires-clause-few c = omega (arith, ap length c.as_slice-2.ensures, c.in_ok-suspects.ensures.few, ap length c.as_slice.ensures, c.in_ok-places.ensures.few, c.universe_len.ensures)
 
 pub returns-clause-prepared : goal.returns-clause-prepared
 returns-clause-prepared c =
@@ -37,9 +29,6 @@ returns-clause-prepared c =
 pub returns-clause-fits : goal.returns-clause-fits
 returns-clause-fits c = λ logs stands.
     let t = c.args.parts.now in
-    let traced : c.in_ok-traced.traced ≡ suspects t logs = c.in_ok-traced.ensures.suspects logs stands in
-    let listed : c.as_slice.result.now ≡ suspects t logs = c.as_slice.ensures ∙ traced in
     let Below : List ℕ → Type 0 = λ ps. All (λ p. p < length (universe t)) ps in
-    let found : places_of c.in_ok-suspects.suspects ≡ suspects t logs = c.in_ok-suspects.ensures.places (subst Below (sym listed) (suspects_below t logs)) ∙ listed in
-    let Outside : List ℕ → Type 0 = λ ps. (k : ℕ) (f : Fault) → slice_get (universe t) k ≡ Some f → ¬ (Contains ps k) → (counts_of t logs f).tfsf ≡ 0 in
-    subst (HaveAllFits t logs) (sym found) (all_fits t logs (subst Outside traced (c.in_ok-traced.ensures.outside logs stands)))
+    let found : places_of c.in_ok-suspects.suspects ≡ c.in_ok-places.places = c.in_ok-suspects.ensures.places (subst Below (sym c.as_slice.ensures) c.in_ok-places.ensures.below) ∙ c.as_slice.ensures in
+    subst (HaveAllFits t logs) (sym found) (c.in_ok-places.ensures.fits logs stands)
