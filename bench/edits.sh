@@ -3,9 +3,11 @@
 # prover must refuse.
 #     bench/edits.sh [-j N] [CRATE..]
 # Without CRATE those of all crates. The repository is copied to a scratch folder, with the work that
-# `rt lib` or `rt check` kept of all that stands below the crates asked for: so a crate's edits cost the check
-# of that crate (`rt must-fail`) and nothing below it. At most N provers run at once, or RT_JOBS, or one
-# for each core, and never more than there are cores.
+# `rt lib` or `rt check` kept of all that stands below the crates asked for, and nothing below is tried again.
+# Each edit is tried twice at most: first the functions that it changes are checked alone (`rt check --only`),
+# which takes seconds, and a function that isn't proved then is a crate that isn't. Where they are proved, or no
+# function is changed, the whole crate is tried by `rt must-fail`. At most N provers run at once, or RT_JOBS, or
+# one for each core, and never more than there are cores.
 # Each edit that isn't refused is named, also one that doesn't apply, compile or read; and each that is
 # refused only because a proof names what it took away, since that says little of a contract.
 # The last line is `N refused, M let through`, and the status is 0 only where M is 0.
@@ -63,11 +65,6 @@ def copy(uses, tried):
         kept = TOP / 'crates' / name / 'out'
         if kept.is_dir():
             subprocess.run(['cp', '-a', kept, SCRATCH / 'crates' / name], check=True)
-    for name, edits in tried.items():
-        folder = SCRATCH / 'crates' / name / 'must-fail'
-        folder.mkdir()
-        for edit in edits.values():
-            shutil.copy(edit, folder)
     return below
 
 
@@ -83,11 +80,76 @@ def build(name):
     return 0, 0
 
 
-def try_edits(name, edits):
-    """Tries the edits of a crate, and returns how many were refused and how many weren't."""
-    begun = time.monotonic()
+FUNCTION = re.compile(r'( *)(?:pub(?:\([^)]*\))? )?(?:const )?fn (\w+)')
+OWNER = re.compile(r"impl(?:<.*?>)? (?:(?P<trait>\w+)(?:<.*?>)? for )?(?P<type>\w+)|(?:pub(?:\([^)]*\))? )?trait (?P<own>\w+)")
+NAMES_ALONE = re.compile(r'(note: )?(\./)?proofs/.*(has no field|is not in scope|has no `|was not admitted)')
+
+
+def function_at(name, file, lines, at):
+    """The path of the function that has a line of a file, or None where none has it."""
+    begins = next((n for n in range(at, -1, -1) if FUNCTION.match(lines[n])), None)
+    if begins is None:
+        return None
+    indent, function = FUNCTION.match(lines[begins]).groups()
+    if any(line in (indent + '}', '}') for line in lines[begins:at]):
+        return None
+    parts = [name, *(part for part in file[len('src/'):-len('.rt')].split('/') if part not in ('lib', 'main'))]
+    if indent:
+        owner = next((OWNER.match(line) for line in reversed(lines[:begins]) if line[:1] not in ('', ' ')), None)
+        if owner is None:
+            return None
+        parts.append(owner['own'] or owner['type'] + (owner['trait'] or ''))
+    return '::'.join([*parts, function])
+
+
+def changes_of(name, edit):
+    """The files that an edit changes, with their new texts, and the functions that have the changed lines; None where it can't be applied."""
+    texts, functions, file, old = {}, [], None, ''
+    for line in edit.read_text().splitlines():
+        word, _, rest = line.partition(': ')
+        if word == 'file':
+            file = rest.strip()
+            texts[file] = (TOP / 'crates' / name / file).read_text()
+        elif word == 'old':
+            old = rest
+            if texts[file].count(old) != 1:
+                return None
+            before = texts[file].partition(old)[0].count('\n')
+            functions.append(function_at(name, file, texts[file].split('\n'), before))
+        elif word == 'new':
+            texts[file] = texts[file].replace(old, rest)
+    return texts, functions
+
+
+def try_alone(name, edit):
+    """Checks the functions that an edit changes, and says whether one isn't proved: for its meaning, or only since a proof names what was taken away. None: it doesn't show."""
+    changes = changes_of(name, edit)
+    if changes is None or None in changes[1]:
+        return None
+    folder = SCRATCH / 'crates' / name
+    kept = {file: (folder / file).read_text() for file in changes[0]}
+    try:
+        for file, text in changes[0].items():
+            (folder / file).write_text(text)
+        status, said = rt(folder, 'check', '--jobs', '1', *(word for function in changes[1] for word in ('--only', function)))
+    finally:
+        for file, text in kept.items():
+            (folder / file).write_text(text)
+    if status != 1 or not re.search(r'^fn .*: (not proved|no proof)', said, re.M) or re.search(r'^(\./)?(src|specs)/\S+: error', said, re.M):
+        return None
+    told = [line for line in said.split('\n') if re.match(r'(note: )?\S+:\d+:\d+:', line)]
+    told = [line for line in told if ': error' in line or line.startswith('note: ')] or told
+    return 'names' if told and all(NAMES_ALONE.match(line) for line in told) else 'meaning'
+
+
+def try_whole(name, edits):
+    """Tries edits over the whole crate, and returns how many were let through."""
+    folder = SCRATCH / 'crates' / name / 'must-fail'
+    folder.mkdir()
+    for edit in edits.values():
+        shutil.copy(edit, folder)
     _, said = rt(SCRATCH, 'must-fail', name)
-    passed, weak = 0, []
+    passed = 0
     for edit in edits:
         label = re.escape(f'must-fail {name}/{edit}: ')
         found = re.search(f'^rt: {label}(.*(?:\n(?!rt: ).*)*)', said, re.M)
@@ -96,9 +158,25 @@ def try_edits(name, edits):
             passed += 1
             print(f'{name}/{edit}: {what}', flush=True)
         elif 'says little of the contract' in what:
-            weak.append(edit)
-            print(f'{name}/{edit}: refused, but only because a proof names what it took away', flush=True)
-    print(f'{name}: {len(edits) - passed} refused, {passed} let through, {time.monotonic() - begun:.0f} s', flush=True)
+            print(f'{name}/{edit}: {ONLY_NAMES}', flush=True)
+    return passed
+
+
+ONLY_NAMES = 'refused, but only because a proof names what it took away'
+
+
+def try_edits(name, edits):
+    """Tries the edits of a crate, and returns how many were refused and how many weren't."""
+    begun = time.monotonic()
+    left = {}
+    for edit, file in edits.items():
+        shown = try_alone(name, file)
+        if shown is None:
+            left[edit] = file
+        elif shown == 'names':
+            print(f'{name}/{edit}: {ONLY_NAMES}', flush=True)
+    passed = try_whole(name, left) if left else 0
+    print(f'{name}: {len(edits) - passed} refused, {passed} let through, {len(left)} of them tried over the whole crate, {time.monotonic() - begun:.0f} s', flush=True)
     return len(edits) - passed, passed
 
 
