@@ -86,19 +86,17 @@ NAMES_ALONE = re.compile(r'(note: )?(\./)?proofs/.*(has no field|is not in scope
 
 
 def function_at(name, file, lines, at):
-    """The path of the function that has a line of a file, or None where none has it."""
+    """The path of the function that has a line of a file, of a method its end, or None where none has it."""
     begins = next((n for n in range(at, -1, -1) if FUNCTION.match(lines[n])), None)
     if begins is None:
         return None
     indent, function = FUNCTION.match(lines[begins]).groups()
     if any(line in (indent + '}', '}') for line in lines[begins:at]):
         return None
-    parts = [name, *(part for part in file[len('src/'):-len('.rt')].split('/') if part not in ('lib', 'main'))]
     if indent:
         owner = next((OWNER.match(line) for line in reversed(lines[:begins]) if line[:1] not in ('', ' ')), None)
-        if owner is None:
-            return None
-        parts.append(owner['own'] or owner['type'] + (owner['trait'] or ''))
+        return owner and f"{owner['own'] or owner['type'] + (owner['trait'] or '')}::{function}"
+    parts = [name, *(part for part in file[len('src/'):-len('.rt')].split('/') if part not in ('lib', 'main'))]
     return '::'.join([*parts, function])
 
 
