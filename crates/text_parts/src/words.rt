@@ -1,7 +1,7 @@
 //! The words of a line, and which words are names.
 
 ghost use Rattle.std.specs.Prelude.{◌≡◌, [], ◌≤◌, length, false, IfOk, OnOk, MatchOption};
-ghost use Rattle.std.specs.List.{list_all, position, position_or_len};
+ghost use Rattle.std.specs.List.{list_all, position_or_len};
 ghost use Rattle.scan_model.specs.Lines.{is_blank};
 ghost use Rattle.scan_model.specs.Words.{words, is_name_byte, is_short_name};
 ghost use Rattle.text_parts.specs.FirstWord.{is_word_end, begins_blank, IsFirstWord};
@@ -32,33 +32,12 @@ fn without_blanks(line: &[u8]) -> &[u8]
     rest
 }
 
-/// Whether a word ends at a byte.
-fn ends_word(b: u8) -> bool
-    ensures { result ≡ is_word_end b }
-{
-    is_blank(b) || b == b'#'
-}
-
-/// How many bytes of a word are looked at one by one: most words are shorter.
-const SHORT: usize = 12;
-
-/// The place of the first of a few bytes that ends a word.
-fn near_end(bytes: &[u8]) -> Option<usize>
-    ensures { result ≡ position is_word_end bytes.now }
-{
-    bytes.iter().position(|b| ends_word(*b))
-}
-
 // The place of the first byte that ends a word, or else the number of bytes.
 fn word_end(line: &[u8]) -> usize
     ensures place { result ≡ position_or_len is_word_end line.now }
     ensures within { result ≤ length line.now }
 {
-    let (near, far) = line.split_at(line.len().min(SHORT));
-    match near_end(near) {
-        Some(end) => end,
-        None => near.len() + memchr3(b' ', b'\t', b'#', far).unwrap_or(far.len()),
-    }
+    memchr3(b' ', b'\t', b'#', line).unwrap_or(line.len())
 }
 
 // The first word of a line, and what follows it.
