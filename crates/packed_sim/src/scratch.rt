@@ -108,7 +108,6 @@ impl Scratch {
             self.turn(circuit, wiring, good, place, steps);
             from = place + 1;
         }
-        self.waiting.lower_mark();
     }
 
     /// Takes all rows out.

@@ -1,12 +1,12 @@
 -- Words of a set of places.
-use Rattle.std.proofs.Common.{◌≡◌, ◌≢◌, ℕ, zero, suc, ◌+◌, ◌-◌, ◌*◌, ◌/◌, ◌%◌, ◌^◌, ◌<◌, ◌≤◌, min, not, ◌||◌, ◌&&◌, eqb, List, length, get_or, set, Some, None, refl, sym, ap, ◌∙◌, inl, inr, arith, w64}
+use Rattle.std.proofs.Common.{◌≡◌, ◌≢◌, ℕ, zero, suc, ◌+◌, ◌-◌, ◌*◌, ◌/◌, ◌%◌, ◌^◌, ◌<◌, ◌≤◌, min, not, ◌||◌, ◌&&◌, eqb, Bool, true, false, true≢false, List, length, get_or, set, Option, Some, None, refl, sym, ap, ◌∙◌, inl, inr, arith, w64}
 use Rattle.std.specs.Prelude.{bit_and, bit_or}
 use Rattle.std.specs.Int.{bit_at, bit_not, trailing_zeros}
 use Rattle.std.specs.Int.Bits.{and_lt}
-use Rattle.std.proofs.lemmas.Bool.{cases_eq, cases_lt, eq-eqb, ne_eqb, and_right}
-use Rattle.std.proofs.lemmas.List.{get_or-set_same, get_or-set_other, length-set}
+use Rattle.std.proofs.lemmas.Bool.{cases_eq, cases_lt, eq-eqb, ne_eqb}
+use Rattle.std.proofs.lemmas.List.{get_or-set_same, get_or-set_other, get_or_past, length-set}
 use Rattle.std.proofs.lemmas.Nat.Bits.{bit_at-lt, bit_at_and, bit_at_set_same, bit_at_set_other, bit_at_clear_same, bit_at_clear_other, bit_at-trailing_zeros, bit_at-zero, bit_at_mask_inside, bit_at_mask_below, ones_shl}
-use Rattle.place_sets.specs.Places.{bit_is_set, has_place, IsNextWithin, IsBelowMark}
+use Rattle.place_sets.specs.Places.{bit_is_set, has_place, IsNextFrom, IsNextWithin, IsFilled}
 
 -- ---- one word
 
@@ -22,6 +22,25 @@ min_zero : (b : ℕ) → b < 2 → min b 0 ≡ 0
 min_zero zero lt = refl
 min_zero (suc zero) lt = refl
 min_zero (suc (suc b)) lt = absurd (omega arith)
+
+above : (n : ℕ) → n ≢ 0 → 0 < n
+above zero ne = absurd (ne refl)
+above (suc n) ne = omega arith
+
+one_zero : (b : ℕ) → b ≡ 1 → b ≡ 0 → ⊥
+one_zero b one none = omega arith
+
+no_bit_of_zero : (k : ℕ) → bit_is_set 0 k ≡ false
+no_bit_of_zero k = ap (λ (b : ℕ). eqb b 1) (bit_at-zero k)
+
+first_bit : (word : ℕ) → word < 2 ^ 64 → word ≢ 0 → IsNextWithin (bit_is_set word) 0 64 (Some (trailing_zeros w64 word))
+first_bit word word_lt some =
+    let found = bit_at-trailing_zeros w64 word (above word some) word_lt in (
+      omega arith,
+      found.0,
+      eq-eqb (bit_at word (trailing_zeros w64 word)) 1 found.1,
+      λ j le lt. ap (λ (b : ℕ). eqb b 1) (found.2 j lt),
+    )
 
 module _ (word low : ℕ) (low_lt : low < 64) where
   from_bit_is : (k : ℕ) → bit_at (from_bit word low) k ≡ min (bit_at word k) (bit_at (2 ^ 64 - 2 ^ low) k)
@@ -54,13 +73,6 @@ module _ (word low : ℕ) (low_lt : low < 64) where
         eq-eqb (bit_at word t) 1 (sym (from_bit_kept t from_low found.0) ∙ found.1),
         λ j le lt. let bit : bit_at word j ≡ 0 = sym (from_bit_kept j le (omega (arith, found.0))) ∙ found.2 j lt in ap (λ (b : ℕ). eqb b 1) bit,
       )
-    where
-      above : (n : ℕ) → n ≢ 0 → 0 < n
-      above zero ne = absurd (ne refl)
-      above (suc n) ne = omega arith
-
-      one_zero : (b : ℕ) → b ≡ 1 → b ≡ 0 → ⊥
-      one_zero b one none = omega arith
 
 -- ---- one word of a set
 
@@ -132,9 +144,95 @@ module _ (words : List ℕ) (place : ℕ) (inside : place / 64 < length words) w
     ])
   ]
 
-  pub mark_taken : (mark : ℕ) → IsBelowMark words mark → IsBelowMark (set words (place / 64) taken_out) mark
-  mark_taken mark below = record {
-    fits = omega (arith, below.fits, length-set words (place / 64) taken_out);
-    within = omega (arith, below.within, length-set words (place / 64) taken_out);
-    rest = λ k le. has_taken k ∙ and_right (not (eqb k place)) (has_place words k) (below.rest k le);
+-- ---- the words that aren't empty
+
+no_place_of_zero : (words : List ℕ) (k : ℕ) → get_or words (k / 64) 0 ≡ 0 → has_place words k ≡ false
+no_place_of_zero words k none = ap (λ (n : ℕ). bit_is_set n (k % 64)) none ∙ no_bit_of_zero (k % 64)
+
+pub no_place_past : (words : List ℕ) (k : ℕ) → 64 * length words ≤ k → has_place words k ≡ false
+no_place_past words k past = no_place_of_zero words k (get_or_past words (k / 64) 0 (omega (arith, past)))
+
+-- none of a kind before an end, and the next one behind it
+pub next_behind : (is_of_kind : ℕ → Bool) (from end : ℕ) (result : Option ℕ) → from ≤ end → ((k : ℕ) → from ≤ k → k < end → is_of_kind k ≡ false) → IsNextFrom is_of_kind end result → IsNextFrom is_of_kind from result
+next_behind is_of_kind from end None le before next = λ k from_k. elim (cases_lt k end) [
+  | inl early ↦ before k from_k early
+  | inr late ↦ next k late
+]
+next_behind is_of_kind from end (Some found) le before next = (
+  omega (arith, le, next.0),
+  next.1,
+  λ j from_j lt. elim (cases_lt j end) [
+    | inl early ↦ before j from_j early
+    | inr late ↦ next.2 j late lt
+  ],
+)
+
+module _ (words filled : List ℕ) (is : IsFilled words filled) where
+  not_empty : (k : ℕ) → has_place filled k ≡ true → get_or words k 0 ≢ 0
+  not_empty k has none = absurd (true≢false (sym has ∙ is.each k ∙ ap (λ (n : ℕ). not (eqb n 0)) none))
+
+  pub word_within : (k : ℕ) → has_place filled k ≡ true → k < length words
+  word_within k has = elim (cases_lt k (length words)) [
+    | inl within ↦ within
+    | inr past ↦ absurd (not_empty k has (get_or_past words k 0 past))
+  ]
+
+  empty : (k : ℕ) → has_place filled k ≡ false → get_or words k 0 ≡ 0
+  empty k has = elim (cases_eq (get_or words k 0) 0) [
+    | inl none ↦ none
+    | inr some ↦ absurd (true≢false (sym (is.each k ∙ ap not (ne_eqb (get_or words k 0) 0 some)) ∙ has))
+  ]
+
+  pub none_behind : (from : ℕ) → IsNextFrom (has_place filled) from None → IsNextFrom (has_place words) (64 * from) None
+  none_behind from none k le = no_place_of_zero words k (empty (k / 64) (none (k / 64) (omega (arith, le))))
+
+  pub first_behind : (from word : ℕ) → get_or words word 0 < 2 ^ 64 → IsNextFrom (has_place filled) from (Some word) → IsNextFrom (has_place words) (64 * from) (Some (word * 64 + trailing_zeros w64 (get_or words word 0)))
+  first_behind from word fits next =
+      let first = some_place words word 0 (trailing_zeros w64 (get_or words word 0)) (first_bit (get_or words word 0) fits (not_empty word next.1)) in (
+        omega (arith, next.0),
+        first.2,
+        λ j le lt. elim (cases_lt j (word * 64)) [
+          | inl before ↦ no_place_of_zero words j (empty (j / 64) (next.2 (j / 64) (omega (arith, le)) (omega (arith, before))))
+          | inr within ↦ first.3 j (omega (arith, within)) lt
+        ],
+      )
+
+module _ (words filled : List ℕ) (is : IsFilled words filled) (place : ℕ) (inside : place / 64 < length words) where
+  abbrev pub filled_inside : place / 64 / 64 < length filled
+  filled_inside = omega (arith, inside, is.spans)
+
+  word_is : (w k : ℕ) → k ≡ place / 64 → get_or (set words (place / 64) w) k 0 ≡ w
+  word_is w k same = ap (λ (n : ℕ). get_or (set words (place / 64) w) n 0) same ∙ get_or-set_same words (place / 64) w 0 inside
+
+  filled_word : (w k : ℕ) → w ≢ 0 → k ≡ place / 64 → not (eqb (get_or (set words (place / 64) w) k 0) 0) ≡ true
+  filled_word w k some same = ap (λ (n : ℕ). not (eqb n 0)) (word_is w k same) ∙ ap not (ne_eqb w 0 some)
+
+  left_word : (w k : ℕ) → k ≢ place / 64 → has_place filled k ≡ not (eqb (get_or (set words (place / 64) w) k 0) 0)
+  left_word w k other = is.each k ∙ sym (ap (λ (n : ℕ). not (eqb n 0)) (get_or-set_other words (place / 64) k w 0 other))
+
+  put_is_some : put_in words place inside ≢ 0
+  put_is_some none = one_zero (bit_at (put_in words place inside) (place % 64))
+      (bit_at_set_same w64 (get_or words (place / 64) 0) (place % 64) (omega arith))
+      (ap (λ (n : ℕ). bit_at n (place % 64)) none ∙ bit_at-zero (place % 64))
+
+  pub filled_put : IsFilled (set words (place / 64) (put_in words place inside)) (set filled (place / 64 / 64) (put_in filled (place / 64) filled_inside))
+  filled_put = record {
+    fits = omega (arith, is.fits, length-set words (place / 64) (put_in words place inside));
+    spans = omega (arith, is.spans, length-set words (place / 64) (put_in words place inside), length-set filled (place / 64 / 64) (put_in filled (place / 64) filled_inside));
+    few = omega (arith, is.few, length-set filled (place / 64 / 64) (put_in filled (place / 64) filled_inside));
+    each = λ k. has_put filled (place / 64) filled_inside k ∙ elim (cases_eq k (place / 64)) [
+      | inl same ↦ rw (eq-eqb k (place / 64) same) (sym (filled_word (put_in words place inside) k put_is_some same))
+      | inr other ↦ rw (ne_eqb k (place / 64) other) (left_word (put_in words place inside) k other)
+    ];
+  }
+
+  pub filled_taken : taken_out words place inside ≡ 0 → IsFilled (set words (place / 64) (taken_out words place inside)) (set filled (place / 64 / 64) (taken_out filled (place / 64) filled_inside))
+  filled_taken none = record {
+    fits = omega (arith, is.fits, length-set words (place / 64) (taken_out words place inside));
+    spans = omega (arith, is.spans, length-set words (place / 64) (taken_out words place inside), length-set filled (place / 64 / 64) (taken_out filled (place / 64) filled_inside));
+    few = omega (arith, is.few, length-set filled (place / 64 / 64) (taken_out filled (place / 64) filled_inside));
+    each = λ k. has_taken filled (place / 64) filled_inside k ∙ elim (cases_eq k (place / 64)) [
+      | inl same ↦ rw (eq-eqb k (place / 64) same) (sym (ap (λ (n : ℕ). not (eqb n 0)) (word_is (taken_out words place inside) k same ∙ none)))
+      | inr other ↦ rw (ne_eqb k (place / 64) other) (left_word (taken_out words place inside) k other)
+    ];
   }

@@ -1,4 +1,4 @@
-//! Sets of places as words of 64 bits, in which the next member is found word by word.
+//! Sets of places as words of 64 bits, in which a look for the next member passes by 64 empty words at once.
 #![tactic(auto)]
 
 mod place_set;

@@ -1,4 +1,4 @@
-//! A set of places with a mark behind its last word.
+//! A set of places, and in which of its words it has members.
 ghost use Rattle.std.specs.Prelude.{◌≡◌, ℕ, ◌+◌, ◌*◌, ◌/◌, ◌^◌, ◌<◌, ◌≤◌, false, length, IfOk, ◌==◌, ◌&&◌, ◌||◌, not};
 ghost use Rattle.place_sets.specs.Places.{bit_is_set, has_place, room, IsNextFrom, IsNextWithin};
 
@@ -6,12 +6,12 @@ use scan_model::NoMemory;
 use std::alloc::Global;
 use std::marker::Model;
 
-/// A set of places, numbers from 0 up to a bound. Contracts see its words of 64 bits, by `has_place` and `room`. No word at or
-/// past the high mark has a member.
+/// A set of places, numbers from 0 up to a bound. Contracts see its words of 64 bits, by `has_place` and `room`. The places
+/// of `filled` are the words with a member, so that a look for the next member passes by 64 empty words at once.
 #[derive(Debug, Drop)]
 pub struct PlaceSet {
     words: Vec<u64>,
-    high: usize,
+    filled: Vec<u64>,
 }
 
 impl Model for PlaceSet {
@@ -19,11 +19,11 @@ impl Model for PlaceSet {
 
     ghost Value = { List ℕ };
 
-    ghost use Rattle.place_sets.specs.Places.{IsBelowMark};
+    ghost use Rattle.place_sets.specs.Places.{IsFilled};
 
     ghost view = { λ s. s.words.items };
 
-    ghost invariant = { λ s. IsBelowMark s.words.items s.high };
+    ghost invariant = { λ s. IsFilled s.words.items s.filled.items };
 }
 
 /// The least bit from `low` on that a word has.
@@ -52,6 +52,27 @@ fn least_place(words: &[u64], word: usize, low: usize) -> Option<usize>
     }
 }
 
+/// The least place of some words that is `from` or more, found word by word.
+#[tactic(auto, using(crate::proofs::PlaceWords::no_place_past))]
+fn next_in(words: &[u64], from: usize) -> Option<usize>
+    requires { length words.now ≤ 2 ^ 26 }
+    ensures { IsNextFrom (has_place words.now) from result }
+{
+    let first = from / 64;
+    if first >= words.len() {
+        return None;
+    }
+    if let Some(place) = least_place(words, first, from % 64) {
+        return Some(place);
+    }
+    for word in first + 1..words.len() {
+        if let Some(place) = least_place(words, word, 0) {
+            return Some(place);
+        }
+    }
+    None
+}
+
 impl PlaceSet {
     /// The empty set, with room for the places below `places`. The only error is want of memory.
     pub fn make(alloc: Global, places: usize) -> Result<PlaceSet, NoMemory>
@@ -60,7 +81,8 @@ impl PlaceSet {
         ensures room { IfOk result (λ s. places ≤ room s) }
     {
         let words = vec![in alloc; 0u64; places / 64 + 1]?;
-        Ok(PlaceSet { words, high: 0 })
+        let filled = vec![in alloc; 0u64; places / 4096 + 1]?;
+        Ok(PlaceSet { words, filled })
     }
 
     /// Puts a place in, whether or not it's there.
@@ -71,7 +93,7 @@ impl PlaceSet {
     {
         let word = place / 64;
         self.words[word] |= 1u64 << (place % 64);
-        self.high = self.high.max(word + 1);
+        self.filled[word / 64] |= 1u64 << (word % 64);
     }
 
     /// Takes a place out, whether or not it's there.
@@ -80,15 +102,12 @@ impl PlaceSet {
         ensures places { (k : ℕ) → has_place self.new k ≡ (not (k == place) && has_place self.old k) }
         ensures room { room self.new ≡ room self.old }
     {
-        self.words[place / 64] &= !(1u64 << (place % 64));
-    }
-
-    /// Brings the high mark of an empty set down, so that a look for a member ends at once.
-    pub fn lower_mark(&mut self)
-        requires { (k : ℕ) → has_place self.old k ≡ false }
-        ensures { self.new ≡ self.old }
-    {
-        self.high = 0;
+        let word = place / 64;
+        self.words[word] &= !(1u64 << (place % 64));
+        let is_empty = self.words[word] == 0;
+        if is_empty {
+            self.filled[word / 64] &= !(1u64 << (word % 64));
+        }
     }
 
     /// The least member that is `from` or more, if any; `from` may lie past the room.
@@ -96,17 +115,22 @@ impl PlaceSet {
         ensures { IsNextFrom (has_place self.now) from result }
     {
         let first = from / 64;
-        if first >= self.high {
+        if first >= self.words.len() {
             return None;
         }
         if let Some(place) = least_place(&self.words, first, from % 64) {
             return Some(place);
         }
-        for word in first + 1..self.high {
-            if let Some(place) = least_place(&self.words, word, 0) {
-                return Some(place);
-            }
+        self.next_word(first + 1)
+    }
+
+    /// The least member in the words from one on. No empty word is looked at.
+    fn next_word(&self, from: usize) -> Option<usize>
+        ensures { IsNextFrom (has_place self.now) (64 * from) result }
+    {
+        match next_in(&self.filled, from) {
+            Some(word) => Some(word * 64 + self.words[word].trailing_zeros() as usize),
+            None => None,
         }
-        None
     }
 }
