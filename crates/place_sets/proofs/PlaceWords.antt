@@ -183,9 +183,6 @@ module _ (words filled : List ℕ) (is : IsFilled words filled) where
     | inr some ↦ absurd (true≢false (sym (is.each k ∙ ap not (ne_eqb (get_or words k 0) 0 some)) ∙ has))
   ]
 
-  pub none_behind : (from : ℕ) → IsNextFrom (has_place filled) from None → IsNextFrom (has_place words) (64 * from) None
-  none_behind from none k le = no_place_of_zero words k (empty (k / 64) (none (k / 64) (omega (arith, le))))
-
   pub first_behind : (from word : ℕ) → get_or words word 0 < 2 ^ 64 → IsNextFrom (has_place filled) from (Some word) → IsNextFrom (has_place words) (64 * from) (Some (word * 64 + trailing_zeros w64 (get_or words word 0)))
   first_behind from word fits next =
       let first = some_place words word 0 (trailing_zeros w64 (get_or words word 0)) (first_bit (get_or words word 0) fits (not_empty word next.1)) in (
