@@ -21,6 +21,13 @@ module _ (words : List WordPlanes) (i at : ℕ) (new : WordPlanes) where
     | inr other ↦ ap (λ (w : WordPlanes). held_in w at) (get_or-set_other words i k new no_word other) ∙ so_far k (omega (arith, other))
   ]
 
+  -- what a function of the place gives
+  pub lane_given : (given : ℕ → Tri) → i < length words → held_in new at ≡ given i → (k : ℕ) → (k ≢ i → lane_in words k at ≡ given k) → lane_in (set words i new) k at ≡ given k
+  lane_given given inside is k other_places = elim (cases_eq k i) [
+    | inl same ↦ ap (λ (m : ℕ). lane_in (set words i new) m at) same ∙ ap (λ (w : WordPlanes). held_in w at) (get_or-set_same words i new no_word inside) ∙ is ∙ ap given (sym same)
+    | inr other ↦ ap (λ (w : WordPlanes). held_in w at) (get_or-set_other words i k new no_word other) ∙ other_places other
+  ]
+
   pub lane_behind : (before : List WordPlanes) → ((k : ℕ) → i ≤ k → lane_in words k at ≡ lane_in before k at) → (k : ℕ) → i + 1 ≤ k → lane_in (set words i new) k at ≡ lane_in before k at
   lane_behind before so_far k le = ap (λ (w : WordPlanes). held_in w at) (get_or-set_other words i k new no_word (λ e. omega arith)) ∙ so_far k (omega arith)
 

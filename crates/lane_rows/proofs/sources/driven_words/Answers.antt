@@ -1,40 +1,49 @@
-use Rattle.std.proofs.Common.{◌≡◌, ℕ, List, ◌<◌, ◌++◌, ◌∙◌, ap, inl, inr, length, take, drop, get_or, arith}
-use Rattle.std.proofs.lemmas.Bool.{cases_eq, ne_eqb}
-use Rattle.std.proofs.lemmas.List.{take_at, get_or_default}
-use Rattle.scan_model.specs.declared.values.Tri.{Tri}
+use Rattle.std.proofs.Common.{◌≡◌, ℕ, ◌+◌, ◌-◌, ◌*◌, ◌/◌, ◌%◌, ◌++◌, ◌∙◌, ap, inl, inr, length, take, drop, get_or, arith}
+use Rattle.std.proofs.lemmas.Bool.{cases_lt, ne_eqb}
+use Rattle.std.proofs.lemmas.List.{take_at, get_or-take, get_or-drop, length-take-le, length-drop}
+use Rattle.std.proofs.lemmas.List.Elements.{All-take, All-drop}
+use Rattle.scan_model.specs.declared.parts.Pattern.{Pattern}
 use Rattle.scan_model.specs.ChainShift.{value_at}
 use Rattle.scan_model.specs.ScanTest.{no_pattern}
-use Rattle.lane_rows.specs.DrivenParts.{part_values}
-use Rattle.lane_rows.proofs.WordAssigning.{lane_in, whole_lane}
+use Rattle.lane_rows.specs.DrivenParts.{part_values, FitsPart}
 use Rattle.lane_rows.proofs.sources.driven_words.Goals as goal
 
-pub values_of-requires : goal.values_of-requires
-values_of-requires c = rw c.index-patterns-at.is ((c.requires.fit c.loop-at.at c.index-patterns-at.result (omega arith)).has)
+pub driven_quarters-requires-clause-fit : goal.driven_quarters-requires-clause-fit
+driven_quarters-requires-clause-fit c =
+    let fits = FitsPart c.args.part c.args.nets in
+    All-take fits _ _ (All-drop fits _ c.args.patterns.now c.requires.fit)
 
-pub write_lane-requires-clause-fits : goal.write_lane-requires-clause-fits
-write_lane-requires-clause-fits c =
-    let fits = (c.requires.fit c.loop-at.at c.index-patterns-at.result (omega arith)).within in
-    rw (c.values_of.ensures, c.index-patterns-at.is, c.deref_mut.ensures.value, c.loop-at.invariant.len) fits
+pub put_quarters-requires-clause-blank : goal.put_quarters-requires-clause-blank
+put_quarters-requires-clause-blank c = rw c.deref_mut.ensures.value (λ i j lj same. c.loop-at.invariant.blank i j (omega (arith, same)) lj)
 
 pub loop-at-preserved : goal.loop-at-preserved
 loop-at-preserved c =
-    let new = c.write_lane.new.words in
+    let patterns = c.args.patterns.now in
+    let new = c.put_quarters.new.words in
     let old = c.loop-at.words.items in
     let at = c.loop-at.at in
-    let values = c.values_of.result.now in
-    let inside : at < length c.args.patterns.now = omega arith in
-    let pattern : c.index-patterns-at.result ≡ get_or c.args.patterns.now at no_pattern = c.index-patterns-at.is ∙ get_or_default c.args.patterns.now at c.index-patterns-at.result no_pattern inside in
-    let same : values ≡ part_values c.args.part (get_or c.args.patterns.now at no_pattern) = c.values_of.ensures ∙ ap (part_values c.args.part) pattern in
-    let whole : take c.loop-at.words.len (new ++ drop (length new) old) ≡ new = take_at new (drop (length new) old) c.loop-at.words.len (c.write_lane.auto.words ∙ c.deref_mut.ensures.len) in
-    let behind = rw c.deref_mut.ensures.value at c.write_lane.ensures.behind in
-    let elsewhere = rw c.deref_mut.ensures.value at c.write_lane.ensures.elsewhere in
-    let this : (i : ℕ) → lane_in new i at ≡ value_at (part_values c.args.part (get_or c.args.patterns.now at no_pattern)) i =
-    λ i. whole_lane old new values at c.write_lane.ensures.there behind (λ k. c.loop-at.invariant.blank k at (omega arith) (omega (arith, c.requires.few))) i ∙ ap (λ (vs : List Tri). value_at vs i) same in
+    let start = 16 * at in
+    let count = c.min-count.result in
+    let width = start + count - start in
+    let rest = drop start patterns in
+    let narrow : width ≡ count = omega arith in
+    let len : length (take width rest) ≡ count = length-take-le width rest (omega (arith, length-drop start patterns, c.min-count.ensures)) ∙ narrow in
+    let whole : take c.loop-at.words.len (new ++ drop (length new) old) ≡ new = take_at new (drop (length new) old) c.loop-at.words.len (c.put_quarters.auto.words ∙ c.deref_mut.ensures.len) in
+    let as_many : length old ≡ c.args.nets = c.loop-at.invariant.len in
+    let there = rw (c.deref_mut.ensures.value, c.deref.ensures.value) at c.put_quarters.ensures.there in
+    let elsewhere = rw c.deref_mut.ensures.value at c.put_quarters.ensures.elsewhere in
+    let value = c.in_ok-quarters.ensures.value in
     record {
-      len = ap length whole ∙ c.write_lane.auto.words ∙ ap length c.deref_mut.ensures.value ∙ c.loop-at.invariant.len;
-      done = rw whole (λ i j lt. elim (cases_eq j at) [
-        | inl here ↦ rw here (this i)
-        | inr other ↦ elsewhere i j (omega (arith, c.requires.few)) (ne_eqb j at other) ∙ c.loop-at.invariant.done i j (omega (arith, other))
+      len = ap length whole ∙ c.put_quarters.auto.words ∙ ap length c.deref_mut.ensures.value ∙ c.loop-at.invariant.len;
+      done = rw whole (λ i j lt in_patterns in_nets. elim (cases_lt j start) [
+        | inl before ↦ elsewhere i j (omega (arith, c.requires.few)) (ne_eqb (j / 16) at (λ e. omega arith)) ∙ c.loop-at.invariant.done i j before in_patterns in_nets
+        | inr here ↦
+            let k = j % 16 in
+            let same : j / 16 ≡ at = omega arith in
+            let is : start + k ≡ j = omega (arith, same) in
+            let pattern : get_or (take width rest) k no_pattern ≡ get_or patterns j no_pattern =
+            get_or-take width rest k no_pattern (omega (arith, narrow, is, c.min-count.ensures)) ∙ get_or-drop start patterns k no_pattern ∙ ap (λ (m : ℕ). get_or patterns m no_pattern) is in
+            there i j (omega (arith, as_many)) (omega (arith, c.requires.few)) same ∙ value i k (omega (arith, len, is, c.min-count.ensures)) ∙ ap (λ (p : Pattern). value_at (part_values c.args.part p) i) pattern
       ]);
-      blank = rw whole (λ i j le lj. elsewhere i j lj (ne_eqb j at (λ e. omega arith)) ∙ c.loop-at.invariant.blank i j (omega arith) lj);
+      blank = rw whole (λ i j le lj. elsewhere i j lj (ne_eqb (j / 16) at (λ e. omega arith)) ∙ c.loop-at.invariant.blank i j (omega arith) lj);
     }
