@@ -2,7 +2,7 @@
 use Rattle.std.proofs.Common.{◌≡◌, ℕ, zero, suc, ◌+◌, ◌*◌, ◌-◌, ◌/◌, ◌<◌, Bool, true, false, nat_lt, ◌&&◌, ◌||◌, List, [], ◌∷◌, length, map, replicate, get_or, set, Some, Result, Ok, Err, refl, sym, ap, subst, ◌∙◌, inl, inr, arith}
 use Rattle.std.specs.Prelude.{Contains, flat_map, filter, slice_get, IfOk}
 use Rattle.std.specs.List.{list_any, range_with_len, enumerate_from}
-use Rattle.std.proofs.lemmas.Bool.{cases_Bool, cases_lt, cases_eq, both_ways, and_parts, and_from, lt-ltb, le-ltb, ltb-true}
+use Rattle.std.proofs.lemmas.Bool.{cases_Bool, cases_lt, cases_eq, both_ways, and_parts, and_from, lt-ltb, ltb-true}
 use Rattle.std.proofs.lemmas.List.{length-set, get_or-set_same, get_or-set_other}
 use Rattle.std.proofs.lemmas.List.Folds.{list_any-append}
 use Rattle.std.proofs.lemmas.Option.{get_or_from_slice_get, slice_get_within}
@@ -15,10 +15,8 @@ use Rattle.scan_model.specs.ScanTest.{ScanTest, IsScanTest, pattern_at, points_o
 use Rattle.scan_model.specs.Universe.{universe}
 use Rattle.scan_model.specs.Coverage.{bit_of}
 use Rattle.scan_model.specs.declared.values.Tri.{Tri}
-use Rattle.scan_model.specs.ChainShift.{value_at}
 use Rattle.scan_model.specs.Response.{expected_rows}
-use Rattle.scan_model.specs.Classes.{class, class_of, is_failing}
-use Rattle.scan_model.proofs.ExpectedRows.{expected_row}
+use Rattle.scan_model.specs.Classes.{class, is_failing}
 use Rattle.scan_model.specs.MatchCounts.{counts_of}
 use Rattle.scan_model.specs.Suspect.{can_explain, is_suspect, suspects}
 use Rattle.scan_model.proofs.Orders.{filter_range_all}
@@ -26,7 +24,10 @@ use Rattle.scan_model.proofs.FanSweeps.{same_answer}
 use Rattle.scan_model.proofs.counting.Suspects.{no_suspect-no_fail}
 use Rattle.lane_rows.specs.declared.block.Block.{Block}
 use Rattle.lane_rows.specs.GoodRows.{pattern_of, AreBlockRows}
-use Rattle.back_trace.specs.Fails.{fails_at, fails_in, fails_among, explains_in, AreFailRows, IsWithin, Tells}
+use Rattle.log_rows.specs.declared.side.Side.TheVariants.{Failing}
+use Rattle.log_rows.specs.PlaceRows.{AreSideLanes}
+use Rattle.log_rows.proofs.SideRows.{on_side_of}
+use Rattle.back_trace.specs.Fails.{fails_at, fails_in, explains_in, AreFailRows, IsWithin, Tells}
 use Rattle.back_trace.specs.Traces.{AreMarked, no_fault}
 use Rattle.back_trace.proofs.Ranges.{any_at, any_there}
 
@@ -194,22 +195,17 @@ blank_marks marks n is p = ap (λ (ms : List Bool). is_marked ms p) is ∙ go n 
 
 -- ---- block by block
 
-fails_same : (t : ScanTest) (logs : List LogFacts) (rows : List (List Tri)) (w k : ℕ) → rows ≡ expected_rows t → fails_among (length t.patterns) logs rows w k ≡ fails_in t logs w k
-fails_same t logs rows w k is = elim (cases_lt w (length t.patterns)) [
-  | inl there ↦ ap (λ (row : List Tri). nat_lt w (length t.patterns) && is_failing (class_of logs (value_at row k) (bit_of w k))) (ap (λ (xs : List (List Tri)). get_or xs w []) is ∙ expected_row t w [] there)
-  | inr past ↦ rw (le-ltb w (length t.patterns) past) refl
-]
-
 pub block_more : (t : ScanTest) (logs : List LogFacts) (b : ℕ) (rows : List (List ℕ)) (old new : List Bool) (expected : List (List Tri)) (block : Block) → expected ≡ expected_rows t
-    → length rows ≡ length (points_of t) → ((j k : ℕ) → j < 512 → k < length (points_of t) → fails_at rows j k ≡ fails_among (length t.patterns) logs expected (512 * b + j) k) → AreBlockRows t b block
+    → (patterns places : ℕ) → length rows ≡ places → (patterns ≡ length t.patterns) × (places ≡ length (points_of t)) → AreSideLanes logs expected patterns places Failing b rows → AreBlockRows t b block
     → ((i : ℕ) → AreBlockRows t i block → IsWithin t i rows → AreMarked t i rows (universe t) (length (universe t)) old new) → AreMarkedTo t logs b old → AreMarkedTo t logs (b + 1) new
-block_more t logs b rows old new expected block is_expected len fails good marks so_far =
-    let have : (j k : ℕ) → j < 512 → k < length (points_of t) → fails_at rows j k ≡ fails_in t logs (pattern_of b j) k = λ j k lj lk. fails j k lj lk ∙ fails_same t logs expected (pattern_of b j) k is_expected in
+block_more t logs b rows old new expected block is_expected patterns places len size lanes good marks so_far =
+    let have : (j k : ℕ) → j < 512 → k < length (points_of t) → fails_at rows j k ≡ fails_in t logs (pattern_of b j) k =
+    λ j k lj lk. lanes j k lj (omega (arith, lk, size.1)) ∙ on_side_of t logs expected patterns Failing (pattern_of b j) k is_expected size.0 in
     let within : IsWithin t b rows = record {
-      len = len;
+      len = len ∙ size.1;
       pattern = λ j k lj lk e. ltb-true (pattern_of b j) (length t.patterns) (and_parts (nat_lt (pattern_of b j) (length t.patterns)) (is_failing (class t logs (bit_of (pattern_of b j) k))) (sym (have j k lj lk) ∙ e)).0;
     } in
-    marked_more t logs b rows old new (record { len = len; fails = have }) (marks b good within) so_far
+    marked_more t logs b rows old new (record { len = len ∙ size.1; fails = have }) (marks b good within) so_far
 
 pub if_ok : {A E : Type 0} (r : Result A E) (P Q : A → Type 0) → ((x : A) → P x → Q x) → IfOk r P → IfOk r Q
 if_ok (Ok x) P Q more h = more x h

@@ -1,21 +1,15 @@
 -- The failing bits of a block of 512 patterns, as a row of lanes for each point, and what can explain them.
 use Rattle.std.specs.Prelude.{◌≡◌, ℕ, ◌<◌, List, [], length, Bool, true, ◌&&◌, nat_lt, slice_index_or}
 use Rattle.std.specs.List.{range_with_len, list_any}
-use Rattle.scan_model.specs.declared.values.Tri.{Tri}
 use Rattle.scan_model.specs.declared.parts.Point.{Point}
 use Rattle.scan_model.specs.declared.fault.Fault.{Fault}
 use Rattle.scan_model.specs.declared.logs.LogFacts.{LogFacts}
-use Rattle.scan_model.specs.ChainShift.{value_at}
 use Rattle.scan_model.specs.ScanTest.{ScanTest, pattern_at, points_of, point_at}
 use Rattle.scan_model.specs.Coverage.{bit_of}
-use Rattle.scan_model.specs.Classes.{class, class_of, is_failing}
+use Rattle.scan_model.specs.Classes.{class, is_failing}
 use Rattle.scan_model.specs.Suspect.{can_explain}
 use Rattle.lane_rows.specs.Lanes.{lane}
 use Rattle.lane_rows.specs.GoodRows.{pattern_of}
-
--- the bit of pattern w at a point is there and fails, where these are the expected values of so many patterns
-abbrev pub fails_among : ℕ → List LogFacts → List (List Tri) → ℕ → ℕ → Bool
-fails_among patterns logs expected w k = nat_lt w patterns && is_failing (class_of logs (value_at (slice_index_or expected w []) k) (bit_of w k))
 
 -- in a pattern of a test the bit at point k fails
 abbrev pub fails_in : ScanTest → List LogFacts → ℕ → ℕ → Bool

@@ -4,7 +4,6 @@
 mod both;
 mod chains;
 mod explain;
-mod fails;
 mod keys;
 mod marks;
 mod net_rows;

@@ -16,7 +16,6 @@ ghost use Rattle.back_trace.specs.Keys.{AreKeys};
 ghost use Rattle.back_trace.specs.Traces.{observes, IsTraceOf, AreMarked};
 
 use crate::chains::{firsts, lasts};
-use crate::fails::fail_rows;
 use crate::keys::{cell_keys, observed_keys};
 use crate::marks::mark_explained;
 use crate::reach::{gathered, spread_back};
@@ -24,6 +23,7 @@ use crate::trace::Trace;
 use fault_universe::universe_len;
 use lane_rows::{Block, GoodRows, Row};
 use log_join::Joined;
+use log_rows::{Side, side_rows};
 use scan_model::{Expected, NoMemory, Parts, Rows};
 use std::alloc::Global;
 
@@ -115,12 +115,10 @@ pub fn suspects_over(
     let _order = parts.circuit().order();
     let observed = observed_keys(alloc, parts)?;
     let own = cell_keys(alloc, parts)?;
-    let patterns = parts.patterns().len() as u32;
-    let points = parts.points().len() as u32;
     let mut marks = vec![in alloc; false; universe_len(parts) as usize]?;
     let blocks = good.blocks();
     for b in 0..blocks.len() {
-        let fails = fail_rows(alloc, expected, joined, patterns, b as u32, points)?;
+        let fails = side_rows(alloc, joined, expected, Side::Failing, b as u32)?;
         mark_block(alloc, parts, &blocks[b], fails, &observed, &own, &mut marks)?;
     }
     marked_places(alloc, &marks)

@@ -5,8 +5,8 @@ use Rattle.std.specs.List.{range_with_len}
 use Rattle.lane_rows.specs.Lanes.{lane, count_lanes}
 use Rattle.place_sets.specs.Places.{has_place}
 use Rattle.lane_rows.proofs.LaneCounts.{same_lanes}
-use Rattle.fault_effects.specs.declared.point_row.PointRow.{PointRow}
-use Rattle.fault_effects.specs.declared.side.Side.{Side}
+use Rattle.log_rows.specs.declared.point_row.PointRow.{PointRow}
+use Rattle.log_rows.specs.declared.side.Side.{Side}
 use Rattle.fault_effects.specs.FaultModel.{Table}
 use Rattle.match_counts.specs.Flips.{row_on, point_row_at}
 use Rattle.match_counts.specs.declared.flip_rows.FlipRows.{FlipRows}

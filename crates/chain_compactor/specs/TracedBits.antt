@@ -7,8 +7,8 @@ use Rattle.scan_model.specs.Coverage.{bit_of}
 use Rattle.scan_model.specs.Classes.{is_failing}
 use Rattle.lane_rows.specs.Lanes.{lane}
 use Rattle.lane_rows.specs.GoodRows.{pattern_of}
-use Rattle.fault_effects.specs.declared.point_row.PointRow.{PointRow}
-use Rattle.fault_effects.specs.PointRows.{no_point_row}
+use Rattle.log_rows.specs.declared.point_row.PointRow.{PointRow}
+use Rattle.log_rows.specs.PointRows.{no_point_row}
 use Rattle.chain_compactor.specs.Channels.{Compactor}
 use Rattle.chain_compactor.specs.Compaction.{compact_class}
 use Rattle.chain_compactor.specs.ObservationPoints.{seeing}

@@ -21,12 +21,11 @@ use crate::counts::CompactCounts;
 use crate::expected::shown_in_block;
 use crate::tables::Tables;
 use crate::tracing::traced_places;
-use fault_effects::{
-    BlockWork, Suspect, owned_nets, owners_of, reads_of, rows_of_places, suspects_at,
-};
+use fault_effects::{BlockWork, Suspect, owned_nets, owners_of, reads_of, suspects_at};
 use fault_universe::universe_len;
 use lane_rows::{Block, Groups, Packed};
 use log_join::Joined;
+use log_rows::rows_of_places;
 use match_counts::{BlockTotals, list_candidates};
 use packed_sim::PackedGood;
 use scan_model::{Expected, NoMemory, Parts, Rows, Scored, Steps};

@@ -9,8 +9,8 @@ ghost use Rattle.chain_compactor.specs.CompactCounts.{AreExpected};
 
 use crate::compactor::Compact;
 use crate::tables::Tables;
-use fault_effects::PointRow;
 use lane_rows::Packed;
+use log_rows::PointRow;
 use packed_sim::PackedGood;
 use scan_model::Parts;
 use std::alloc::Global;

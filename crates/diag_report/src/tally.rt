@@ -3,12 +3,14 @@ ghost use Rattle.std.specs.Prelude.{◌≡◌, ℕ, ◌+◌, ◌*◌, ◌^◌, �
 ghost use Rattle.scan_model.specs.declared.logs.LogFacts.{LogFacts};
 ghost use Rattle.scan_model.specs.PatternText.{pattern_limit};
 ghost use Rattle.scan_model.specs.Coverage.{bit_of, bits_over};
-ghost use Rattle.scan_model.specs.Classes.{class_with, is_failing, is_passing};
+ghost use Rattle.scan_model.specs.Classes.{class_with};
 ghost use Rattle.log_join.specs.Joining.{StandsFor, IsJoinedOf, FitsExpected};
+ghost use Rattle.log_rows.specs.PointRows.{is_on};
 ghost use Rattle.fault_universe.specs.BitRows.{row_bits};
 ghost use Rattle.diag_report.specs.BitTally.{tally_over, word_block, listed, listed_over, HaveSameAside, IsTallyOf};
 
 use log_join::Joined;
+use log_rows::{Side, side_word};
 use scan_model::{Bit, BitClass, Expected, NoMemory, Rows};
 use std::alloc::Global;
 
@@ -21,35 +23,26 @@ pub(crate) struct Tally {
     pub(crate) masked: Rows<Bit>,
 }
 
-/// How many bits of the 64 patterns of a word are Failing.
-fn count_failing(expected: &Expected, joined: &Joined, word: u32, points: u32) -> u64
+/// How many bits of the 64 patterns of a word are of a side.
+fn count_side(
+    expected: &Expected,
+    joined: &Joined,
+    side: Side,
+    word: u32,
+    patterns: u32,
+    points: u32,
+) -> u64
     requires expected { FitsExpected expected.now joined.now }
     requires word { 64 * word < joined.now.patterns }
+    requires patterns { patterns ≡ joined.now.patterns }
     requires points { points ≡ joined.now.points }
     ensures count { (logs : List LogFacts) → StandsFor logs joined.now
-        → result ≡ length (filter (λ b. is_failing (class_with expected.now logs b)) (word_block joined.now.patterns word points)) }
+        → result ≡ length (filter (λ b. is_on side (class_with expected.now logs b)) (word_block joined.now.patterns word points)) }
     ensures few { result ≤ 64 * points }
 {
     let mut count = 0;
     for point in 0..points {
-        let bits = joined.failing_word(expected, word, point);
-        count += u64::from(bits.count_ones());
-    }
-    count
-}
-
-/// How many bits of the 64 patterns of a word are Passing.
-fn count_passing(expected: &Expected, joined: &Joined, word: u32, points: u32) -> u64
-    requires expected { FitsExpected expected.now joined.now }
-    requires word { 64 * word < joined.now.patterns }
-    requires points { points ≡ joined.now.points }
-    ensures count { (logs : List LogFacts) → StandsFor logs joined.now
-        → result ≡ length (filter (λ b. is_passing (class_with expected.now logs b)) (word_block joined.now.patterns word points)) }
-    ensures few { result ≤ 64 * points }
-{
-    let mut count = 0;
-    for point in 0..points {
-        let bits = joined.passing_word(expected, word, point);
+        let bits = side_word(joined, expected, patterns, side, word, point);
         count += u64::from(bits.count_ones());
     }
     count
@@ -165,8 +158,10 @@ pub(crate) fn tally_bits(
     let points = joined.points();
     let patterns = joined.patterns();
     for word in 0..(patterns + 63) / 64 {
-        tally.failing += count_failing(expected, joined, word, points);
-        tally.passing += count_passing(expected, joined, word, points);
+        let failing = count_side(expected, joined, Side::Failing, word, patterns, points);
+        let passing = count_side(expected, joined, Side::Passing, word, patterns, points);
+        tally.failing += failing;
+        tally.passing += passing;
         list_word(alloc, &mut tally, expected, joined, word, patterns, points)?;
     }
     Ok(tally)

@@ -1,5 +1,4 @@
 pub mod PinReads
-pub mod SideRows
 pub mod SoleReader
 pub mod PointModel
 pub mod Effects

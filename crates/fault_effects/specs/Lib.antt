@@ -1,6 +1,5 @@
 -- The specs of what faults do in a block.
 pub mod FaultModel
-pub mod PointRows
 pub mod Shares
 pub mod Owners
 pub mod Pieces
@@ -13,5 +12,4 @@ pub mod Tables
 pub mod Notes
 pub mod ChainWork
 pub mod Walks
-pub mod PlaceRows
 pub mod PinFlips

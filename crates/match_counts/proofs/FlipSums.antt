@@ -15,8 +15,8 @@ use Rattle.packed_sim.specs.declared.good.PackedGood.{PackedGood}
 use Rattle.packed_sim.specs.declared.scratch.Scratch.{Scratch}
 use Rattle.packed_sim.specs.Belongs.{block_at, good_at, now_at, observed_at, has_own_row, points_of_net}
 use Rattle.packed_sim.proofs.Belonging.{own_no_row}
-use Rattle.fault_effects.specs.declared.point_row.PointRow.{PointRow}
-use Rattle.fault_effects.specs.declared.side.Side.{Side}
+use Rattle.log_rows.specs.declared.point_row.PointRow.{PointRow}
+use Rattle.log_rows.specs.declared.side.Side.{Side}
 use Rattle.match_counts.specs.Flips.{tallied, row_on, point_row_at, differs, caught_lane}
 use Rattle.match_counts.proofs.Sums.{sum_zero, sum_sparse}
 use Rattle.match_counts.proofs.Hits.{points_by_net}

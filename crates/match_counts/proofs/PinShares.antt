@@ -10,8 +10,8 @@ use Rattle.scan_model.proofs.counting.Shown.{place_is_point-is, point_pin-net, p
 use Rattle.lane_rows.specs.Lanes.{lane, count_lanes}
 use Rattle.lane_rows.proofs.LaneCounts.{same_lanes}
 use Rattle.packed_sim.specs.Belongs.{observed_at, points_of_net}
-use Rattle.fault_effects.specs.declared.point_row.PointRow.{PointRow}
-use Rattle.fault_effects.specs.declared.side.Side.{Side}
+use Rattle.log_rows.specs.declared.point_row.PointRow.{PointRow}
+use Rattle.log_rows.specs.declared.side.Side.{Side}
 use Rattle.fault_effects.specs.FaultModel.{Table}
 use Rattle.match_counts.specs.Flips.{pin_lanes, row_on, point_row_at}
 use Rattle.match_counts.specs.Tables.{lanes_of, sum_of_table, seen_in}

@@ -8,9 +8,9 @@ use Rattle.std.proofs.lemmas.List.Elements.{All-set}
 use Rattle.std.proofs.lemmas.List.Sums.{sum_by-cons, sum_by-set, sum_by-le}
 use Rattle.lane_rows.specs.Lanes.{lane, count_lanes}
 use Rattle.lane_rows.proofs.LaneCounts.{same_lanes}
-use Rattle.fault_effects.specs.declared.point_row.PointRow.{PointRow}
-use Rattle.fault_effects.specs.declared.side.Side.{Side}
-use Rattle.fault_effects.specs.declared.side.Side.TheVariants.{Failing, Passing}
+use Rattle.log_rows.specs.declared.point_row.PointRow.{PointRow}
+use Rattle.log_rows.specs.declared.side.Side.{Side}
+use Rattle.log_rows.specs.declared.side.Side.TheVariants.{Failing, Passing}
 use Rattle.fault_effects.specs.FaultModel.{Table, no_places}
 use Rattle.fault_effects.specs.Tables.{put_row}
 use Rattle.match_counts.specs.declared.block_count.BlockCount.{BlockCount}

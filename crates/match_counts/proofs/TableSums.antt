@@ -18,15 +18,15 @@ use Rattle.lane_rows.specs.Stimuli.{Stimuli}
 use Rattle.packed_sim.specs.declared.good.PackedGood.{PackedGood}
 use Rattle.packed_sim.specs.declared.scratch.Scratch.{Scratch}
 use Rattle.packed_sim.specs.Belongs.{block_at, observed_at}
-use Rattle.fault_effects.specs.declared.point_row.PointRow.{PointRow}
+use Rattle.log_rows.specs.declared.point_row.PointRow.{PointRow}
 use Rattle.fault_effects.specs.declared.share.Share.{Share}
 use Rattle.fault_effects.specs.declared.suspect.Suspect.{Suspect}
-use Rattle.fault_effects.specs.declared.side.Side.{Side}
-use Rattle.fault_effects.specs.declared.side.Side.TheVariants.{Failing, Passing}
+use Rattle.log_rows.specs.declared.side.Side.{Side}
+use Rattle.log_rows.specs.declared.side.Side.TheVariants.{Failing, Passing}
 use Rattle.fault_effects.specs.FaultModel.{FaultModel, Table, fails_in, point_model}
 use Rattle.fault_effects.specs.Owners.{suspect_at}
 use Rattle.fault_effects.specs.Shares.{AreRight, suspect_fails}
-use Rattle.fault_effects.specs.PointRows.{is_on, ArePointRows}
+use Rattle.log_rows.specs.PointRows.{is_on, ArePointRows}
 use Rattle.match_counts.specs.declared.block_count.BlockCount.{BlockCount}
 use Rattle.match_counts.specs.declared.flip_rows.FlipRows.{FlipRows}
 use Rattle.match_counts.specs.Flips.{row_on, point_row_at, count_on, differs, caught_lane, IsShown, AreFew}

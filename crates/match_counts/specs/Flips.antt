@@ -9,10 +9,10 @@ use Rattle.lane_rows.specs.Lanes.{lane, count_lanes}
 use Rattle.packed_sim.specs.declared.good.PackedGood.{PackedGood}
 use Rattle.packed_sim.specs.declared.scratch.Scratch.{Scratch}
 use Rattle.packed_sim.specs.Belongs.{block_at, good_at, now_at, observed_at}
-use Rattle.fault_effects.specs.declared.point_row.PointRow.{PointRow}
-use Rattle.fault_effects.specs.declared.side.Side.{Side}
-use Rattle.fault_effects.specs.declared.side.Side.TheVariants.{Failing, Passing}
-use Rattle.fault_effects.specs.PointRows.{no_point_row}
+use Rattle.log_rows.specs.declared.point_row.PointRow.{PointRow}
+use Rattle.log_rows.specs.declared.side.Side.{Side}
+use Rattle.log_rows.specs.declared.side.Side.TheVariants.{Failing, Passing}
+use Rattle.log_rows.specs.PointRows.{no_point_row}
 use Rattle.match_counts.specs.declared.block_count.BlockCount.{BlockCount}
 use Rattle.match_counts.specs.declared.flip_rows.FlipRows.{FlipRows}
 

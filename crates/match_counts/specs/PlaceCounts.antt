@@ -1,7 +1,7 @@
 -- What a table of places and lanes has in the rows of a block's places, place by place.
 use Rattle.std.specs.Prelude.{◌≡◌, ℕ, ◌<◌, ◌≤◌, All, List, length, sum_by, slice_index_or}
-use Rattle.fault_effects.specs.declared.point_row.PointRow.{PointRow}
-use Rattle.fault_effects.specs.declared.side.Side.{Side}
+use Rattle.log_rows.specs.declared.point_row.PointRow.{PointRow}
+use Rattle.log_rows.specs.declared.side.Side.{Side}
 use Rattle.fault_effects.specs.FaultModel.{Table}
 use Rattle.match_counts.specs.declared.block_count.BlockCount.{BlockCount}
 use Rattle.match_counts.specs.Flips.{count_on}

@@ -7,11 +7,11 @@ use Rattle.scan_model.specs.declared.logs.BitClass.{BitClass}
 use Rattle.scan_model.specs.Coverage.{bit_of}
 use Rattle.lane_rows.specs.Lanes.{lane, count_lanes}
 use Rattle.lane_rows.specs.GoodRows.{pattern_of}
-use Rattle.fault_effects.specs.declared.point_row.PointRow.{PointRow}
-use Rattle.fault_effects.specs.declared.side.Side.{Side}
-use Rattle.fault_effects.specs.declared.side.Side.TheVariants.{Failing, Passing}
+use Rattle.log_rows.specs.declared.point_row.PointRow.{PointRow}
+use Rattle.log_rows.specs.declared.side.Side.{Side}
+use Rattle.log_rows.specs.declared.side.Side.TheVariants.{Failing, Passing}
 use Rattle.fault_effects.specs.FaultModel.{FaultModel}
-use Rattle.fault_effects.specs.PointRows.{is_on}
+use Rattle.log_rows.specs.PointRows.{is_on}
 use Rattle.match_counts.specs.declared.block_count.BlockCount.{BlockCount}
 use Rattle.match_counts.specs.Flips.{row_on, point_row_at}
 

@@ -8,8 +8,8 @@ use Rattle.lane_rows.specs.Lanes.{lane, count_lanes}
 use Rattle.lane_rows.specs.GoodRows.{pattern_of}
 use Rattle.lane_rows.specs.Stimuli.{Stimuli}
 use Rattle.packed_sim.specs.Belongs.{observed_at}
-use Rattle.fault_effects.specs.declared.point_row.PointRow.{PointRow}
-use Rattle.fault_effects.specs.declared.side.Side.{Side}
+use Rattle.log_rows.specs.declared.point_row.PointRow.{PointRow}
+use Rattle.log_rows.specs.declared.side.Side.{Side}
 use Rattle.fault_effects.specs.FaultModel.{Table}
 use Rattle.match_counts.specs.declared.block_count.BlockCount.{BlockCount}
 use Rattle.match_counts.specs.declared.flip_rows.FlipRows.{FlipRows}

@@ -14,9 +14,9 @@ use Rattle.scan_model.specs.Universe.{universe}
 use Rattle.scan_model.specs.Coverage.{bits_of}
 use Rattle.scan_model.specs.Classes.{class, is_failing}
 use Rattle.scan_model.specs.MatchCounts.{counts_by, scored_by, is_candidate}
-use Rattle.fault_effects.specs.declared.point_row.PointRow.{PointRow}
+use Rattle.log_rows.specs.declared.point_row.PointRow.{PointRow}
 use Rattle.fault_effects.specs.declared.share.Share.{Share}
-use Rattle.fault_effects.specs.declared.side.Side.TheVariants.{Failing, Passing}
+use Rattle.log_rows.specs.declared.side.Side.TheVariants.{Failing, Passing}
 use Rattle.fault_effects.specs.declared.suspect.Suspect.{Suspect}
 use Rattle.fault_effects.specs.FaultModel.{FaultModel}
 use Rattle.fault_effects.specs.Owners.{suspect_at}

@@ -1,6 +1,6 @@
 //! Faults of shift paths over the points of a block: two sums, kept point by point.
 ghost use Rattle.std.specs.Prelude.{◌≡◌, ◌<◌, ◌&&◌};
-ghost use Rattle.fault_effects.specs.declared.side.Side.{Side};
+ghost use Rattle.log_rows.specs.declared.side.Side.{Side};
 ghost use Rattle.lane_rows.specs.Lanes.{lane, count_lanes};
 ghost use Rattle.match_counts.specs.Flips.{count_on, row_on};
 ghost use Rattle.match_counts.specs.PlaceCounts.{IsSmall};
@@ -8,8 +8,9 @@ ghost use Rattle.match_counts.specs.PlaceCounts.{IsSmall};
 use crate::block_count::BlockCount;
 use crate::place_counts::PlaceCounts;
 use crate::point_counts::PointCounts;
-use fault_effects::{ChainObserver, PointRow};
+use fault_effects::ChainObserver;
 use lane_rows::Row;
+use log_rows::PointRow;
 use packed_sim::Scratch;
 use scan_model::{CellKind, NoMemory};
 use std::alloc::Global;

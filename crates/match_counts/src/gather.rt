@@ -2,17 +2,17 @@
 ghost use Rattle.std.specs.Prelude.{◌≡◌, ℕ, ◌+◌, ◌^◌, ◌<◌, ◌&&◌, Bool, All, [], length, sum_by, OnOk};
 ghost use Rattle.lane_rows.specs.Lanes.{lane, count_lanes};
 ghost use Rattle.packed_sim.specs.Belongs.{IsBuiltFor, IsScratchIn};
-ghost use Rattle.fault_effects.specs.declared.side.Side.{Side};
+ghost use Rattle.log_rows.specs.declared.side.Side.{Side};
 ghost use Rattle.match_counts.specs.declared.block_count.BlockCount.{BlockCount};
-ghost use Rattle.fault_effects.specs.declared.side.Side.TheVariants as side;
+ghost use Rattle.log_rows.specs.declared.side.Side.TheVariants as side;
 ghost use Rattle.match_counts.specs.Flips.{tallied, row_on, point_row_at, list_on, IsShown, AreFew, count_on};
 
 use crate::block_count::BlockCount;
 use crate::flip_rows::FlipRows;
 use crate::lane_tally::tally;
 use crate::point_counts::PointCounts;
-use fault_effects::PointRow;
 use lane_rows::Row;
+use log_rows::PointRow;
 use packed_sim::Scratch;
 use scan_model::NoMemory;
 use std::alloc::Global;

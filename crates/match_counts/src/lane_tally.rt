@@ -3,8 +3,8 @@ ghost use Rattle.std.specs.Prelude.{◌≡◌, ◌<◌, ◌≤◌, ◌^◌, leng
 ghost use Rattle.lane_rows.specs.Lanes.{lane, count_lanes};
 ghost use Rattle.match_counts.specs.Flips.{tallied};
 
-use fault_effects::PointRow;
 use lane_rows::Row;
+use log_rows::PointRow;
 
 /// How many lanes of some rows a mask has.
 pub(crate) fn tally(rows: &[Row], mask: Row) -> u32

@@ -5,14 +5,14 @@ ghost use Rattle.scan_model.specs.Masks as masks;
 ghost use Rattle.fault_universe.specs.LineWords.{IsPlaceOf};
 ghost use Rattle.packed_sim.specs.Belongs.{IsBuiltFor};
 ghost use Rattle.lane_rows.specs.Lanes.{lane, count_lanes};
-ghost use Rattle.fault_effects.specs.declared.side.Side.{Side};
+ghost use Rattle.log_rows.specs.declared.side.Side.{Side};
 ghost use Rattle.match_counts.specs.Flips.{count_on, row_on, pin_lanes};
 ghost use Rattle.match_counts.specs.Tables.{IsCount, seen_in};
 
 use crate::block_count::BlockCount;
 use crate::point_counts::PointCounts;
-use fault_effects::PointRow;
 use lane_rows::Row;
+use log_rows::PointRow;
 use scan_model::{Driver, Parts, PinPlace, Point};
 
 /// Whether what a point sees is the pin at this place.

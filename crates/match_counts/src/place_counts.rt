@@ -1,6 +1,6 @@
 //! For each place how many lanes of each side a fault predicts to fail, with their sums.
 ghost use Rattle.std.specs.Prelude.{◌≡◌, ◌<◌, ◌≤◌, length, replicate, sum_by, slice_set, IfOk};
-ghost use Rattle.fault_effects.specs.declared.side.Side.{Side};
+ghost use Rattle.log_rows.specs.declared.side.Side.{Side};
 ghost use Rattle.match_counts.specs.Flips.{count_on};
 ghost use Rattle.match_counts.specs.PlaceCounts.{no_count, IsSmall};
 

@@ -10,8 +10,8 @@ ghost use Rattle.fault_effects.specs.Readers.{IsPinOf};
 ghost use Rattle.match_counts.specs.Tables.{HasTable, shown_under};
 
 use crate::flip_rows::FlipRows;
-use fault_effects::PointRow;
 use lane_rows::Row;
+use log_rows::PointRow;
 use packed_sim::{PackedGood, Scratch};
 use scan_model::{NoMemory, Parts, Steps, Stuck};
 use std::sync::ledger::Ledger;

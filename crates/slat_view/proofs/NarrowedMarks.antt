@@ -16,8 +16,8 @@ use Rattle.scan_model.specs.Universe.{universe}
 use Rattle.scan_model.specs.Walks.{IsEvaluationOrder}
 use Rattle.scan_model.proofs.counting.Suspects.{predicted_explained}
 use Rattle.lane_rows.specs.GoodRows.{pattern_of}
-use Rattle.fault_effects.specs.declared.point_row.PointRow.{PointRow}
-use Rattle.fault_effects.specs.PointRows.{ArePointRows}
+use Rattle.log_rows.specs.declared.point_row.PointRow.{PointRow}
+use Rattle.log_rows.specs.PointRows.{ArePointRows}
 use Rattle.back_trace.specs.Both.{AreBothMarked}
 use Rattle.back_trace.specs.Fails.{fails_at, explains_in, IsWithin}
 use Rattle.back_trace.proofs.Ranges.{any_at}

@@ -17,8 +17,8 @@ use Rattle.lane_rows.specs.GoodRows.{pattern_of, AreBlockRows}
 use Rattle.lane_rows.proofs.LaneCounts.{same_lanes}
 use Rattle.packed_sim.specs.declared.good.PackedGood.{PackedGood}
 use Rattle.packed_sim.specs.Belongs.{captures, block_at, observed_at, points_of_net}
-use Rattle.fault_effects.specs.declared.point_row.PointRow.{PointRow}
-use Rattle.fault_effects.specs.declared.side.Side.{Side}
+use Rattle.log_rows.specs.declared.point_row.PointRow.{PointRow}
+use Rattle.log_rows.specs.declared.side.Side.{Side}
 use Rattle.fault_effects.specs.FaultModel.{Table, point_model, straight_in}
 use Rattle.match_counts.specs.Flips.{row_on, point_row_at}
 use Rattle.match_counts.specs.Tables.{lanes_of, sum_of_table}

@@ -16,10 +16,10 @@ use Rattle.scan_model.specs.Classes.{class, is_failing, is_passing}
 use Rattle.scan_model.specs.Response.{predicts_fail}
 use Rattle.lane_rows.specs.Lanes.{lane}
 use Rattle.lane_rows.specs.GoodRows.{pattern_of}
-use Rattle.fault_effects.specs.declared.point_row.PointRow.{PointRow}
+use Rattle.log_rows.specs.declared.point_row.PointRow.{PointRow}
 use Rattle.fault_effects.specs.FaultModel.{point_model, fails_in}
 use Rattle.match_counts.specs.Flips.{point_row_at}
-use Rattle.fault_effects.specs.PointRows.{ArePointRows}
+use Rattle.log_rows.specs.PointRows.{ArePointRows}
 use Rattle.diag_report.specs.PredictedLog.{fault_of}
 use Rattle.slat_view.specs.declared.fit.Fit.{Fit}
 use Rattle.slat_view.specs.Slat.{pattern_bits, is_failing_pattern, is_against, fits}

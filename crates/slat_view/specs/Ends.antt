@@ -2,7 +2,7 @@
 use Rattle.std.specs.Prelude.{◌≡◌, ℕ, ◌+◌, ◌-◌, ◌<◌, List, length, Bool, not, ◌&&◌}
 use Rattle.std.specs.List.{list_any, range_with_len}
 use Rattle.lane_rows.specs.Lanes.{lane}
-use Rattle.fault_effects.specs.declared.point_row.PointRow.{PointRow}
+use Rattle.log_rows.specs.declared.point_row.PointRow.{PointRow}
 use Rattle.match_counts.specs.Flips.{point_row_at}
 use Rattle.back_trace.specs.Fails.{fails_at}
 

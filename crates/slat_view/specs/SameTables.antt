@@ -3,7 +3,7 @@ use Rattle.std.specs.Prelude.{◌≡◌, ℕ, ◌<◌, List, length, Bool, ◌&&
 use Rattle.std.proofs.Common.{ap, subst, ◌∙◌}
 use Rattle.scan_model.specs.ScanTest.{ScanTest, points_of}
 use Rattle.lane_rows.specs.Lanes.{lane}
-use Rattle.fault_effects.specs.declared.point_row.PointRow.{PointRow}
+use Rattle.log_rows.specs.declared.point_row.PointRow.{PointRow}
 use Rattle.fault_effects.specs.FaultModel.{Table}
 use Rattle.match_counts.specs.Flips.{point_row_at}
 use Rattle.match_counts.specs.SameTables.{sums_agree}

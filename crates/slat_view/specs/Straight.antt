@@ -4,8 +4,8 @@ use Rattle.scan_model.specs.declared.circuit.PinPlace.{PinPlace}
 use Rattle.scan_model.specs.ScanTest.{ScanTest, point_at}
 use Rattle.scan_model.specs.Masks.{place_is_point}
 use Rattle.lane_rows.specs.Lanes.{lane, count_lanes}
-use Rattle.fault_effects.specs.declared.point_row.PointRow.{PointRow}
-use Rattle.fault_effects.specs.declared.side.Side.{Side}
+use Rattle.log_rows.specs.declared.point_row.PointRow.{PointRow}
+use Rattle.log_rows.specs.declared.side.Side.{Side}
 use Rattle.match_counts.specs.Flips.{row_on, point_row_at}
 
 -- lanes of a side that two masks have, where the pin at a place is the one that the point sees

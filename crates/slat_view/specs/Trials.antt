@@ -5,7 +5,7 @@ use Rattle.scan_model.specs.declared.fault.Fault.{Fault}
 use Rattle.scan_model.specs.ScanTest.{ScanTest}
 use Rattle.scan_model.specs.Universe.{universe}
 use Rattle.lane_rows.specs.Lanes.{lane}
-use Rattle.fault_effects.specs.declared.point_row.PointRow.{PointRow}
+use Rattle.log_rows.specs.declared.point_row.PointRow.{PointRow}
 use Rattle.fault_effects.specs.declared.share.Share.{Share}
 use Rattle.fault_effects.specs.FaultModel.{Table, point_model, fails_in}
 use Rattle.match_counts.specs.Flips.{point_row_at}

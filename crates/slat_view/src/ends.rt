@@ -2,8 +2,8 @@
 ghost use Rattle.std.specs.Prelude.{◌≡◌, length, IfOk};
 ghost use Rattle.slat_view.specs.Ends.{AreFirsts, AreLasts};
 
-use fault_effects::PointRow;
 use lane_rows::Row;
+use log_rows::PointRow;
 use scan_model::{NoMemory, Rows};
 use std::alloc::Global;
 

@@ -5,8 +5,8 @@ ghost use Rattle.fault_effects.specs.FaultModel.{no_places};
 ghost use Rattle.slat_view.specs.Trials.{any_failing, AreBad};
 
 use crate::lane_counter::LaneCounter;
-use fault_effects::PointRow;
 use lane_rows::Row;
+use log_rows::PointRow;
 use scan_model::NoMemory;
 use std::alloc::Global;
 

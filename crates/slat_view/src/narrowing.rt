@@ -12,10 +12,10 @@ ghost use Rattle.slat_view.specs.Tests.{HaveAllFits};
 use crate::ends::{first_failing, last_failing};
 use crate::failing::failing_lanes;
 use back_trace::{mark_both, marked_places};
-use fault_effects::rows_of_points;
 use fault_universe::universe_len;
 use lane_rows::{Block, GoodRows};
 use log_join::Joined;
+use log_rows::rows_of_points;
 use scan_model::{Expected, NoMemory, Parts, Rows};
 use std::alloc::Global;
 

@@ -16,12 +16,12 @@ use Rattle.scan_model.specs.Classes.{class_of}
 use Rattle.scan_model.specs.ReportText.{no_fault}
 use Rattle.lane_rows.specs.Lanes.{lane}
 use Rattle.lane_rows.specs.GoodRows.{pattern_of}
-use Rattle.fault_effects.specs.declared.point_row.PointRow.{PointRow}
-use Rattle.fault_effects.specs.declared.side.Side.{Side}
-use Rattle.fault_effects.specs.declared.side.Side.TheVariants.{Failing, Passing}
+use Rattle.log_rows.specs.declared.point_row.PointRow.{PointRow}
+use Rattle.log_rows.specs.declared.side.Side.{Side}
+use Rattle.log_rows.specs.declared.side.Side.TheVariants.{Failing, Passing}
 use Rattle.fault_effects.specs.declared.suspect.Suspect.{Suspect}
-use Rattle.fault_effects.specs.PointRows.{is_on, is_on_at}
-use Rattle.fault_effects.specs.PlaceRows.{ArePlaceRows}
+use Rattle.log_rows.specs.PointRows.{is_on, is_on_at}
+use Rattle.log_rows.specs.PlaceRows.{ArePlaceRows}
 use Rattle.fault_effects.specs.Owners.{owner, IsSuspectOf}
 use Rattle.fault_effects.proofs.Owned.{IsBridgeOrCell, not_past}
 use Rattle.match_counts.specs.Flips.{row_on, point_row_at}

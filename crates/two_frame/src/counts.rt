@@ -15,12 +15,11 @@ use crate::fails::slow_len;
 use crate::frame_good::FrameGood;
 use crate::frame_observer::FrameCounts;
 use crate::reach::{is_reaching, reaching_nets};
-use fault_effects::{
-    BlockWork, Suspect, logic_parts, owned_nets, owners_of, reads_of, rows_of_places,
-};
+use fault_effects::{BlockWork, Suspect, logic_parts, owned_nets, owners_of, reads_of};
 use fault_universe::fault_at;
 use lane_rows::Groups;
 use log_join::Joined;
+use log_rows::rows_of_places;
 use match_counts::{BlockTotals, PointCounts, list_candidates};
 use scan_model::{Expected, NoMemory, Parts, Rows, Scored};
 use std::alloc::Global;

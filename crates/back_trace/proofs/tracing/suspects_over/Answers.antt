@@ -4,7 +4,6 @@ use Rattle.std.specs.List.{range_with_len}
 use Rattle.std.proofs.lemmas.List.{take_at, get_or_default, length-replicate}
 use Rattle.scan_model.specs.declared.fault.Fault.{Fault}
 use Rattle.scan_model.specs.Marks.{is_marked}
-use Rattle.scan_model.specs.ScanTest.{points_of}
 use Rattle.scan_model.specs.Universe.{universe}
 use Rattle.scan_model.specs.MatchCounts.{counts_of}
 use Rattle.scan_model.specs.Suspect.{suspects}
@@ -13,8 +12,11 @@ use Rattle.lane_rows.specs.GoodRows.{AreBlockRows, no_block}
 use Rattle.back_trace.proofs.SuspectMarks.{block_more, marked_none, blank_marks, marks_are_suspects, outside_counts_none, if_ok}
 use Rattle.back_trace.proofs.tracing.suspects_over.Goals as goal
 
-pub fail_rows-requires-clause-expected : goal.fail_rows-requires-clause-expected
-fail_rows-requires-clause-expected c = fits_expected c.args.parts.now c.args.expected.now c.args.joined.now c.requires.expected c.requires.joined
+pub side_rows-requires-clause-expected : goal.side_rows-requires-clause-expected
+side_rows-requires-clause-expected c = fits_expected c.args.parts.now c.args.expected.now c.args.joined.now c.requires.expected c.requires.joined
+
+pub side_rows-requires-clause-block : goal.side_rows-requires-clause-block
+side_rows-requires-clause-block c = omega (arith, c.loop-b-test.true, ap length c.blocks-blocks.ensures, c.requires.good.count, c.circuit.ensures.fits.patterns.few)
 
 pub loop-b-init : goal.loop-b-init
 loop-b-init c =
@@ -38,12 +40,10 @@ loop-b-preserved c =
     let lt : b < length blocks = rw c.blocks-blocks.ensures at c.loop-b-test.true in
     let block_is : block ≡ get_or blocks b no_block = rw c.blocks-blocks.ensures at c.index-blocks-b.is ∙ get_or_default blocks b block no_block lt in
     let good : AreBlockRows t b block = subst (AreBlockRows t b) (sym block_is) (c.requires.good.each b lt) in
-    let points_is : c.len-points.result ≡ length (points_of t) = c.len-points.ensures ∙ ap length c.points.ensures.value in
-    let patterns_is : c.len-patterns.result ≡ length t.patterns = c.len-patterns.ensures ∙ ap length c.patterns.ensures.value in
     record {
       len = ap length whole ∙ c.mark_block.auto.marks ∙ ap length c.deref_mut.ensures.value ∙ c.loop-b.invariant.len;
-      marked = λ logs stands. rw whole (block_more t logs b c.in_ok-fails.fails old new c.args.expected.now block c.requires.expected (c.in_ok-fails.ensures.len ∙ points_is)
-          (rw (points_is, patterns_is) at (c.in_ok-fails.ensures.fails logs stands)) good (rw c.deref_mut.ensures.value at c.in_ok-mark_block.ensures) (c.loop-b.invariant.marked logs stands));
+      marked = λ logs stands. rw whole (block_more t logs b c.in_ok-fails.fails old new c.args.expected.now block c.requires.expected c.args.joined.now.patterns c.args.joined.now.points c.in_ok-fails.ensures.len c.requires.joined
+          (c.in_ok-fails.ensures.lanes logs stands) good (rw c.deref_mut.ensures.value at c.in_ok-mark_block.ensures) (c.loop-b.invariant.marked logs stands));
     }
 
 pub returns-clause-suspects : goal.returns-clause-suspects
@@ -62,4 +62,4 @@ returns-clause-outside c = λ logs stands.
     let listed = marks_are_suspects t logs c.loop-b.b marks whole c.loop-b.invariant.len (c.loop-b.invariant.marked logs stands) in
     if_ok c.marked_places.result (λ places. places ≡ filter (is_marked marks) (range_with_len 0 (length marks)))
     (λ places. (k : ℕ) (f : Fault) → slice_get (universe t) k ≡ Some f → ¬ (Contains places k) → (counts_of t logs f).tfsf ≡ 0)
-    (λ places is k f there out. outside_counts_none t logs c.points.ensures.fits c.order-order.result.now (rw c.circuit.ensures.value at c.order-order.ensures) places k f (is ∙ listed) there out) (rw c.deref-2.ensures.value at c.marked_places.ensures)
+    (λ places is k f there out. outside_counts_none t logs c.circuit.ensures.fits c.order-order.result.now (rw c.circuit.ensures.value at c.order-order.ensures) places k f (is ∙ listed) there out) (rw c.deref-2.ensures.value at c.marked_places.ensures)

@@ -14,9 +14,9 @@ use Rattle.lane_rows.specs.declared.block.Block.{Block}
 use Rattle.lane_rows.specs.Planes.{Planes}
 use Rattle.lane_rows.specs.GoodRows.{no_block, AreBlockRows}
 use Rattle.packed_sim.specs.Belongs.{block_at}
-use Rattle.fault_effects.specs.declared.point_row.PointRow.{PointRow}
+use Rattle.log_rows.specs.declared.point_row.PointRow.{PointRow}
 use Rattle.fault_effects.specs.declared.share.Share.{Share}
-use Rattle.fault_effects.specs.PlaceRows.{ArePlaceRows}
+use Rattle.log_rows.specs.PlaceRows.{ArePlaceRows}
 use Rattle.fault_effects.specs.Shares.{Shares}
 use Rattle.fault_effects.specs.Owners.{owner, suspect_at, no_suspect}
 use Rattle.fault_effects.proofs.PointModel.{all_in_universe}

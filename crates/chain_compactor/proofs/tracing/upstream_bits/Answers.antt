@@ -7,8 +7,8 @@ use Rattle.scan_model.specs.Classes.{class_with, is_failing}
 use Rattle.log_join.specs.Joining.{FitsExpected}
 use Rattle.lane_rows.specs.Lanes.{lane}
 use Rattle.lane_rows.specs.GoodRows.{pattern_of}
-use Rattle.fault_effects.specs.declared.point_row.PointRow.{PointRow}
-use Rattle.fault_effects.specs.PlaceRows.{ArePlaceRows}
+use Rattle.log_rows.specs.declared.point_row.PointRow.{PointRow}
+use Rattle.log_rows.specs.PlaceRows.{ArePlaceRows}
 use Rattle.chain_compactor.proofs.CompactRows.{rows_fit}
 use Rattle.chain_compactor.proofs.tracing.upstream_bits.Goals as goal
 

@@ -18,11 +18,11 @@ loop-word-preserved c =
       classes = λ logs stands.
           let classes = class_with c.args.expected.now logs in
           let before = block_bits 0 (min n (64 * word)) joined.points in
-          tally_more classes before (word_block n word points) c.count_failing.result c.count_passing.result c.loop-word.tally c.list_word.new.tally (inv.classes logs stands)
-          (c.count_failing.ensures.count logs stands) (c.count_passing.ensures.count logs stands) (c.in_ok-list_word.ensures.listed logs stands)
+          tally_more classes before (word_block n word points) c.count_side-failing.result c.count_side-passing.result c.loop-word.tally c.list_word.new.tally (inv.classes logs stands)
+          (c.count_side-failing.ensures.count logs stands) (c.count_side-passing.ensures.count logs stands) (c.in_ok-list_word.ensures.listed logs stands)
           ∙ ap (tally_over classes) (ap (λ (k : ℕ). before ++ word_block n word k) same ∙ word_more joined.points n word inside);
       tally = c.in_ok-list_word.ensures.tally ((word + 1) * 64 * 2 ^ 32)
-          (IsTallyOf-counted joined.points (word * 64 * 2 ^ 32) ((word + 1) * 64 * 2 ^ 32) c.count_failing.result c.count_passing.result c.loop-word.tally (omega (arith, same)) (omega (arith, same, c.count_failing.ensures.few)) (omega (arith, same, c.count_passing.ensures.few)) inv.tally);
+          (IsTallyOf-counted joined.points (word * 64 * 2 ^ 32) ((word + 1) * 64 * 2 ^ 32) c.count_side-failing.result c.count_side-passing.result c.loop-word.tally (omega (arith, same)) (omega (arith, same, c.count_side-failing.ensures.few)) (omega (arith, same, c.count_side-passing.ensures.few)) inv.tally);
     }
 
 pub returns-clause-classes : goal.returns-clause-classes

@@ -1,7 +1,7 @@
 use Rattle.std.proofs.Common.{◌≡◌, ◌≤◌, ◌&&◌, arith}
 use Rattle.lane_rows.specs.Lanes.{lane, count_lanes}
-use Rattle.fault_effects.specs.declared.side.Side.{Side}
-use Rattle.fault_effects.specs.declared.side.Side.TheVariants.{Failing, Passing}
+use Rattle.log_rows.specs.declared.side.Side.{Side}
+use Rattle.log_rows.specs.declared.side.Side.TheVariants.{Failing, Passing}
 use Rattle.match_counts.specs.Flips.{count_on, row_on}
 use Rattle.match_counts.proofs.LaneSums.{few_lanes}
 use Rattle.match_counts.proofs.chain_counts.count_row.Goals as goal

@@ -6,10 +6,10 @@ use Rattle.scan_model.specs.Walks.{IsEvaluationOrder}
 use Rattle.scan_model.specs.Universe.{universe}
 use Rattle.scan_model.specs.Response.{predicts_fail}
 use Rattle.scan_model.specs.Classes.{class}
-use Rattle.fault_effects.specs.declared.point_row.PointRow.{PointRow}
+use Rattle.log_rows.specs.declared.point_row.PointRow.{PointRow}
 use Rattle.fault_effects.specs.declared.share.Share.{Share}
 use Rattle.fault_effects.specs.FaultModel.{point_model}
-use Rattle.fault_effects.specs.PointRows.{ArePointRows}
+use Rattle.log_rows.specs.PointRows.{ArePointRows}
 use Rattle.fault_effects.specs.Shares.{Shares}
 use Rattle.fault_effects.specs.Owners.{owner, suspect_at, no_suspect}
 use Rattle.fault_effects.proofs.PointModel.{point_model-logic, point_model-chain, all_in_universe}

@@ -2,7 +2,7 @@ use Rattle.std.proofs.Common.{ℕ, ◌+◌, take, sym, ap, ◌∙◌, arith}
 use Rattle.std.specs.Prelude.{sum_by}
 use Rattle.std.proofs.lemmas.List.Sums.{sum_by_more}
 use Rattle.lane_rows.specs.Lanes.{lane, count_lanes}
-use Rattle.fault_effects.specs.declared.point_row.PointRow.{PointRow}
+use Rattle.log_rows.specs.declared.point_row.PointRow.{PointRow}
 use Rattle.match_counts.proofs.LaneSums.{few_lanes}
 use Rattle.match_counts.proofs.lane_tally.failing_count.Goals as goal
 

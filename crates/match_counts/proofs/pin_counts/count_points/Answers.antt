@@ -8,8 +8,8 @@ use Rattle.scan_model.specs.ScanTest.{point_at}
 use Rattle.scan_model.specs.Masks.{place_is_point}
 use Rattle.scan_model.proofs.counting.Shown.{point_at-IsPoint}
 use Rattle.lane_rows.specs.Lanes.{lane, count_lanes}
-use Rattle.fault_effects.specs.declared.point_row.PointRow.{PointRow}
-use Rattle.fault_effects.specs.PointRows.{no_point_row}
+use Rattle.log_rows.specs.declared.point_row.PointRow.{PointRow}
+use Rattle.log_rows.specs.PointRows.{no_point_row}
 use Rattle.match_counts.specs.Flips.{count_on, pin_lanes, row_on, point_row_at}
 use Rattle.match_counts.proofs.LaneSums.{few_lanes}
 use Rattle.match_counts.proofs.Sums.{sum_next}

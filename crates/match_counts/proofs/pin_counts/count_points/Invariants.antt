@@ -1,6 +1,6 @@
 use Rattle.std.proofs.Common.{◌≡◌, ◌*◌, ◌≤◌, take}
 use Rattle.std.specs.Prelude.{sum_by}
-use Rattle.fault_effects.specs.declared.side.Side.{Side}
+use Rattle.log_rows.specs.declared.side.Side.{Side}
 use Rattle.match_counts.specs.Flips.{count_on, pin_lanes}
 use Rattle.match_counts.proofs.pin_counts.count_points.Given as goal
 

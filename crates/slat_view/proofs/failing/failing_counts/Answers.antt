@@ -3,8 +3,8 @@ use Rattle.std.specs.Prelude.{sum_by}
 use Rattle.std.specs.List.{range_with_len}
 use Rattle.std.proofs.lemmas.List.{get_or_default}
 use Rattle.lane_rows.specs.Lanes.{lane}
-use Rattle.fault_effects.specs.declared.point_row.PointRow.{PointRow}
-use Rattle.fault_effects.specs.PointRows.{no_point_row}
+use Rattle.log_rows.specs.declared.point_row.PointRow.{PointRow}
+use Rattle.log_rows.specs.PointRows.{no_point_row}
 use Rattle.match_counts.specs.Flips.{point_row_at}
 use Rattle.slat_view.specs.Places.{bad}
 use Rattle.slat_view.specs.Sliced.{one}

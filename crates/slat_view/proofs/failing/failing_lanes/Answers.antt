@@ -2,9 +2,9 @@ use Rattle.std.proofs.Common.{◌≡◌, ℕ, ◌||◌, length, get_or, sym, ap,
 use Rattle.std.specs.List.{list_any, range_with_len}
 use Rattle.std.proofs.lemmas.List.{get_or_default}
 use Rattle.lane_rows.specs.Lanes.{lane}
-use Rattle.fault_effects.specs.declared.point_row.PointRow.{PointRow}
+use Rattle.log_rows.specs.declared.point_row.PointRow.{PointRow}
 use Rattle.match_counts.specs.Flips.{point_row_at}
-use Rattle.fault_effects.specs.PointRows.{no_point_row}
+use Rattle.log_rows.specs.PointRows.{no_point_row}
 use Rattle.slat_view.proofs.Ranges.{any_more}
 use Rattle.slat_view.proofs.failing.failing_lanes.Goals as goal
 

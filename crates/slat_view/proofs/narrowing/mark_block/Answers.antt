@@ -1,8 +1,8 @@
 use Rattle.std.proofs.Common.{◌∙◌, List, length, sym, ap, subst}
 use Rattle.scan_model.specs.Netlist.{Netlist}
 use Rattle.scan_model.specs.Walks.{IsEvaluationOrder}
-use Rattle.fault_effects.specs.declared.point_row.PointRow.{PointRow}
-use Rattle.fault_effects.specs.PointRows.{ArePointRows}
+use Rattle.log_rows.specs.declared.point_row.PointRow.{PointRow}
+use Rattle.log_rows.specs.PointRows.{ArePointRows}
 use Rattle.slat_view.specs.Ends.{AreFirsts, AreLasts}
 use Rattle.slat_view.proofs.NarrowedMarks.{firsts_within, lasts_within, marked_here, none_marked}
 use Rattle.slat_view.proofs.narrowing.mark_block.Goals as goal

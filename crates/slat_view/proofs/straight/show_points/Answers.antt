@@ -6,8 +6,8 @@ use Rattle.scan_model.specs.Netlist.{pin_at}
 use Rattle.scan_model.specs.ScanTest.{point_at}
 use Rattle.scan_model.specs.Masks.{place_is_point}
 use Rattle.lane_rows.specs.Lanes.{lane, count_lanes}
-use Rattle.fault_effects.specs.declared.point_row.PointRow.{PointRow}
-use Rattle.fault_effects.specs.PointRows.{no_point_row}
+use Rattle.log_rows.specs.declared.point_row.PointRow.{PointRow}
+use Rattle.log_rows.specs.PointRows.{no_point_row}
 use Rattle.match_counts.specs.Flips.{tallied, list_on, row_on, point_row_at}
 use Rattle.match_counts.proofs.Sums.{sum_step}
 use Rattle.slat_view.specs.Straight.{shown_at}

@@ -12,8 +12,8 @@ use Rattle.lane_rows.specs.Lanes.{lane}
 use Rattle.lane_rows.specs.GoodRows.{no_block, pattern_of}
 use Rattle.packed_sim.specs.Belongs.{block_at, points_of_net, observed_at}
 use Rattle.fault_effects.proofs.NetPoints.{filtered}
-use Rattle.fault_effects.specs.declared.side.Side.{Side}
-use Rattle.fault_effects.specs.declared.side.Side.TheVariants.{Failing, Passing}
+use Rattle.log_rows.specs.declared.side.Side.{Side}
+use Rattle.log_rows.specs.declared.side.Side.TheVariants.{Failing, Passing}
 use Rattle.match_counts.specs.declared.flip_rows.FlipRows.{FlipRows}
 use Rattle.match_counts.specs.Flips.{tallied, list_on}
 use Rattle.slat_view.specs.Straight.{shown_at}

@@ -3,9 +3,9 @@ use Rattle.std.specs.Prelude.{Contains}
 use Rattle.std.proofs.lemmas.List.Elements.{All-nil}
 use Rattle.scan_model.specs.Netlist.{Netlist}
 use Rattle.scan_model.specs.Walks.{IsEvaluationOrder}
-use Rattle.fault_effects.specs.declared.point_row.PointRow.{PointRow}
+use Rattle.log_rows.specs.declared.point_row.PointRow.{PointRow}
 use Rattle.fault_effects.specs.declared.share.Share.{Share}
-use Rattle.fault_effects.specs.PlaceRows.{ArePlaceRows}
+use Rattle.log_rows.specs.PlaceRows.{ArePlaceRows}
 use Rattle.fault_effects.specs.Shares.{Shares, suspect_fails}
 use Rattle.fault_effects.specs.Owners.{owner, suspect_at, no_suspect}
 use Rattle.match_counts.specs.declared.block_count.BlockCount.{BlockCount}

@@ -1,7 +1,7 @@
 use Rattle.std.proofs.Common.{◌≡◌, ℕ, ◌-◌, ◌≤◌, Bool, ◌&&◌, length}
 use Rattle.std.specs.Prelude.{sum_by}
 use Rattle.std.specs.List.{range_with_len}
-use Rattle.fault_effects.specs.declared.side.Side.{Side}
+use Rattle.log_rows.specs.declared.side.Side.{Side}
 use Rattle.match_counts.specs.Flips.{tallied, list_on}
 use Rattle.match_counts.specs.Tables.{lanes_of}
 use Rattle.chain_compactor.specs.CompactCounts.{differs_in, within_set}

@@ -1,8 +1,8 @@
 use Rattle.std.proofs.Common.{◌≡◌, ◌<◌, ◌&&◌, List, length, get_or, sym, ap, subst, ◌∙◌, arith}
 use Rattle.std.proofs.lemmas.List.{get_or_default}
 use Rattle.lane_rows.specs.Lanes.{lane, count_lanes}
-use Rattle.fault_effects.specs.declared.point_row.PointRow.{PointRow}
-use Rattle.fault_effects.specs.PointRows.{no_point_row}
+use Rattle.log_rows.specs.declared.point_row.PointRow.{PointRow}
+use Rattle.log_rows.specs.PointRows.{no_point_row}
 use Rattle.fault_effects.specs.Tables.{put_row}
 use Rattle.match_counts.specs.declared.block_count.BlockCount.{BlockCount}
 use Rattle.match_counts.specs.Flips.{row_on, point_row_at}

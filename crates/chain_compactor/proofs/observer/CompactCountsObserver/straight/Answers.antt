@@ -6,8 +6,8 @@ use Rattle.scan_model.specs.declared.fault.Fault.TheVariants as fault
 use Rattle.scan_model.specs.Netlist.{Netlist, pin_at}
 use Rattle.scan_model.specs.NetValue.{good_value}
 use Rattle.scan_model.specs.Suspect.{observed_net}
-use Rattle.fault_effects.specs.declared.side.Side.{Side}
-use Rattle.fault_effects.specs.declared.side.Side.TheVariants.{Failing, Passing}
+use Rattle.log_rows.specs.declared.side.Side.{Side}
+use Rattle.log_rows.specs.declared.side.Side.TheVariants.{Failing, Passing}
 use Rattle.fault_effects.specs.FaultModel.{Table, straight_in}
 use Rattle.match_counts.specs.declared.block_count.BlockCount.{BlockCount}
 use Rattle.match_counts.specs.Flips.{count_on}

@@ -1,8 +1,8 @@
 use Rattle.std.proofs.Common.{◌≡◌, ℕ, ◌+◌, Bool, ◌&&◌, ap, ◌∙◌}
 use Rattle.lane_rows.specs.Lanes.{lane, count_lanes}
 use Rattle.lane_rows.proofs.LaneCounts.{same_lanes}
-use Rattle.fault_effects.specs.declared.side.Side.{Side}
-use Rattle.fault_effects.specs.declared.side.Side.TheVariants.{Failing, Passing}
+use Rattle.log_rows.specs.declared.side.Side.{Side}
+use Rattle.log_rows.specs.declared.side.Side.TheVariants.{Failing, Passing}
 use Rattle.match_counts.specs.Flips.{tallied, list_on, row_on}
 use Rattle.match_counts.proofs.flip_rows.FlipRows.add_point.Goals as goal
 

@@ -2,8 +2,8 @@ use Rattle.std.proofs.Common.{◌≡◌, ℕ, ◌+◌, ◌<◌, ◌&&◌, length
 use Rattle.std.proofs.lemmas.List.{get_or_read}
 use Rattle.std.proofs.lemmas.List.Sums.{sum_by_more}
 use Rattle.lane_rows.specs.Lanes.{lane, count_lanes}
-use Rattle.fault_effects.specs.declared.point_row.PointRow.{PointRow}
-use Rattle.fault_effects.specs.PointRows.{no_point_row}
+use Rattle.log_rows.specs.declared.point_row.PointRow.{PointRow}
+use Rattle.log_rows.specs.PointRows.{no_point_row}
 use Rattle.match_counts.specs.Flips.{tallied, row_on, point_row_at, list_on}
 use Rattle.match_counts.proofs.Sums.{sum_step}
 use Rattle.match_counts.proofs.flip_rows.FlipRows.add_points.Goals as goal

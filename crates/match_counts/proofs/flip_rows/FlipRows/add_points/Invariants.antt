@@ -1,7 +1,7 @@
 use Rattle.std.proofs.Common.{◌≡◌, ℕ, ◌+◌, ◌&&◌, Bool, take}
 use Rattle.std.specs.Prelude.{sum_by}
 use Rattle.lane_rows.specs.Lanes.{lane, count_lanes}
-use Rattle.fault_effects.specs.declared.side.Side.{Side}
+use Rattle.log_rows.specs.declared.side.Side.{Side}
 use Rattle.match_counts.specs.Flips.{tallied, row_on, point_row_at, list_on}
 use Rattle.match_counts.proofs.flip_rows.FlipRows.add_points.Given as goal
 

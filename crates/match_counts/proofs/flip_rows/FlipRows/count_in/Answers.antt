@@ -1,8 +1,8 @@
 use Rattle.std.proofs.Common.{◌^◌, ◌<◌}
-use Rattle.fault_effects.specs.declared.side.Side.{Side}
+use Rattle.log_rows.specs.declared.side.Side.{Side}
 use Rattle.match_counts.specs.Flips.{count_on}
 use Rattle.lane_rows.specs.Lanes.{lane}
-use Rattle.fault_effects.specs.declared.side.Side.TheVariants as side
+use Rattle.log_rows.specs.declared.side.Side.TheVariants as side
 use Rattle.match_counts.proofs.LaneSums.{few_more}
 use Rattle.match_counts.proofs.flip_rows.FlipRows.count_in.Goals as goal
 

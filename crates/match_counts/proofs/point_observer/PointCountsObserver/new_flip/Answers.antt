@@ -1,7 +1,7 @@
 use Rattle.std.proofs.Common.{◌≡◌, ℕ, Bool, ◌&&◌, List, refl, sym, ap, ◌∙◌}
 use Rattle.fault_effects.specs.FaultModel.{no_places}
-use Rattle.fault_effects.specs.declared.side.Side.{Side}
-use Rattle.fault_effects.specs.declared.side.Side.TheVariants.{Failing, Passing}
+use Rattle.log_rows.specs.declared.side.Side.{Side}
+use Rattle.log_rows.specs.declared.side.Side.TheVariants.{Failing, Passing}
 use Rattle.match_counts.specs.Flips.{tallied, list_on}
 use Rattle.match_counts.specs.Tables.{sum_of_table}
 use Rattle.match_counts.proofs.TableSums.{none_sum}

@@ -1,9 +1,9 @@
 use Rattle.std.proofs.Common.{◌≡◌, ℕ, ◌<◌, List, length, get_or}
 use Rattle.scan_model.specs.declared.logs.LogFacts.{LogFacts}
 use Rattle.log_join.specs.Joining.{StandsFor}
-use Rattle.fault_effects.specs.PointRows.{no_point_row}
-use Rattle.fault_effects.specs.PlaceRows.{IsPlaceRow}
-use Rattle.fault_effects.proofs.point_rows.rows_of_places.Given as goal
+use Rattle.log_rows.specs.PointRows.{no_point_row}
+use Rattle.log_rows.specs.PlaceRows.{IsPlaceRow}
+use Rattle.log_rows.proofs.point_rows.rows_of_places.Given as goal
 
 abbrev pub invariant-loop-place : goal.invariant-loop-place
 invariant-loop-place l = record {

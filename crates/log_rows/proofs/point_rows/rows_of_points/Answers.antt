@@ -1,9 +1,9 @@
 use Rattle.std.proofs.lemmas.Result.{IfOk-weaker}
 use Rattle.log_join.proofs.Fitting.{fits_expected}
-use Rattle.fault_effects.specs.PointRows.{ArePointRows}
-use Rattle.fault_effects.specs.PlaceRows.{ArePlaceRows}
-use Rattle.fault_effects.proofs.SideRows.{point_rows}
-use Rattle.fault_effects.proofs.point_rows.rows_of_points.Goals as goal
+use Rattle.log_rows.specs.PointRows.{ArePointRows}
+use Rattle.log_rows.specs.PlaceRows.{ArePlaceRows}
+use Rattle.log_rows.proofs.SideRows.{point_rows}
+use Rattle.log_rows.proofs.point_rows.rows_of_points.Goals as goal
 
 pub rows_of_places-requires-clause-expected : goal.rows_of_places-requires-clause-expected
 rows_of_places-requires-clause-expected c = fits_expected c.args.parts.now c.args.expected.now c.args.joined.now c.requires.expected c.requires.joined

@@ -2,8 +2,8 @@ use Rattle.std.proofs.Common.{◌≡◌, ℕ, ◌+◌, ◌*◌, ◌<◌, List, l
 use Rattle.scan_model.specs.declared.logs.LogFacts.{LogFacts}
 use Rattle.log_join.specs.Joining.{StandsFor}
 use Rattle.lane_rows.specs.Lanes.{lane}
-use Rattle.fault_effects.specs.PointRows.{is_on_at}
-use Rattle.fault_effects.proofs.point_rows.side_row.Given as goal
+use Rattle.log_rows.specs.PointRows.{is_on_at}
+use Rattle.log_rows.proofs.side_rows.side_row.Given as goal
 
 abbrev pub invariant-loop-at : goal.invariant-loop-at
 invariant-loop-at l = record {

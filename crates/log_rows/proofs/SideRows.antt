@@ -13,11 +13,11 @@ use Rattle.scan_model.specs.Classes.{class_of}
 use Rattle.scan_model.proofs.ExpectedRows.{expected_row}
 use Rattle.lane_rows.specs.Lanes.{lane}
 use Rattle.lane_rows.specs.GoodRows.{pattern_of}
-use Rattle.fault_effects.specs.declared.point_row.PointRow.{PointRow}
-use Rattle.fault_effects.specs.declared.side.Side.{Side}
-use Rattle.fault_effects.specs.declared.side.Side.TheVariants.{Failing, Passing}
-use Rattle.fault_effects.specs.PointRows.{is_on, is_on_at, counts_on, ArePointRows}
-use Rattle.fault_effects.specs.PlaceRows.{ArePlaceRows}
+use Rattle.log_rows.specs.declared.point_row.PointRow.{PointRow}
+use Rattle.log_rows.specs.declared.side.Side.{Side}
+use Rattle.log_rows.specs.declared.side.Side.TheVariants.{Failing, Passing}
+use Rattle.log_rows.specs.PointRows.{is_on, is_on_at, counts_on, ArePointRows}
+use Rattle.log_rows.specs.PlaceRows.{ArePlaceRows}
 
 -- one word more
 pub lanes_more : (f : ℕ → Bool) (ws : List ℕ) (at x : ℕ) → at < length ws → ((j : ℕ) → j < 64 * at → lane ws j ≡ f j) → ((i : ℕ) → i < 64 → eqb (bit_at x i) 1 ≡ f (64 * at + i))
@@ -38,7 +38,7 @@ on_side t logs side w k = elim (cases_Bool (ltb w (length t.patterns))) [
   | inr past ↦ rw past refl
 ]
 
-on_side_of : (t : ScanTest) (logs : List LogFacts) (rows : List (List Tri)) (patterns : ℕ) (side : Side) (w k : ℕ) → rows ≡ expected_rows t → patterns ≡ length t.patterns
+pub on_side_of : (t : ScanTest) (logs : List LogFacts) (rows : List (List Tri)) (patterns : ℕ) (side : Side) (w k : ℕ) → rows ≡ expected_rows t → patterns ≡ length t.patterns
     → is_on_at logs rows patterns side w k ≡ (ltb w (length t.patterns) && counts_on t logs side (bit_of w k))
 on_side_of t logs rows patterns side w k is_rows is_patterns = rw (is_rows, is_patterns) (on_side t logs side w k)
 

@@ -1,10 +1,10 @@
 use Rattle.std.proofs.Common.{ℕ, ◌+◌, ◌*◌, length, ap, ◌∙◌, arith}
 use Rattle.std.proofs.lemmas.List.{length_push}
-use Rattle.fault_effects.specs.declared.side.Side.TheVariants.{Failing, Passing}
-use Rattle.fault_effects.specs.PointRows.{is_on_at, no_point_row}
-use Rattle.fault_effects.specs.PlaceRows.{IsPlaceRow}
-use Rattle.fault_effects.proofs.SideRows.{each_pushed}
-use Rattle.fault_effects.proofs.point_rows.rows_of_places.Goals as goal
+use Rattle.log_rows.specs.declared.side.Side.TheVariants.{Failing, Passing}
+use Rattle.log_rows.specs.PointRows.{is_on_at, no_point_row}
+use Rattle.log_rows.specs.PlaceRows.{IsPlaceRow}
+use Rattle.log_rows.proofs.SideRows.{each_pushed}
+use Rattle.log_rows.proofs.point_rows.rows_of_places.Goals as goal
 
 pub loop-place-preserved : goal.loop-place-preserved
 loop-place-preserved c =
