@@ -5,9 +5,9 @@
 mod point_row;
 mod point_rows;
 mod side;
-mod side_rows;
+mod sides;
 
 pub use point_row::PointRow;
 pub use point_rows::{rows_of_places, rows_of_points};
 pub use side::Side;
-pub use side_rows::{side_rows, side_word};
+pub use sides::{side_rows, side_word};

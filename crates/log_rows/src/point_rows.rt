@@ -9,7 +9,7 @@ ghost use Rattle.log_rows.specs.PlaceRows.{ArePlaceRows};
 
 use crate::point_row::PointRow;
 use crate::side::Side;
-use crate::side_rows::side_row;
+use crate::sides::side_row;
 use log_join::Joined;
 use scan_model::{Expected, NoMemory, Parts, Rows};
 use std::alloc::Global;

@@ -4,9 +4,6 @@ use Rattle.log_rows.specs.PointRows.{is_on, is_on_at}
 use Rattle.diag_report.proofs.TallySteps.{count_none, count_next, few_ones}
 use Rattle.diag_report.proofs.tally.count_side.Goals as goal
 
-pub side_word-requires-clause-word : goal.side_word-requires-clause-word
-side_word-requires-clause-word c = omega (arith, c.requires.word, c.requires.patterns)
-
 pub loop-point-init : goal.loop-point-init
 loop-point-init c = record {
   count = λ logs stands. sym (count_none (λ b. is_on c.args.side (class_with c.args.expected.now logs b)) c.args.joined.now.patterns c.args.word);

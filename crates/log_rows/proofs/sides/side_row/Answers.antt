@@ -2,7 +2,7 @@ use Rattle.std.proofs.Common.{ℕ, ◌+◌, ◌*◌, ap, ◌∙◌, arith}
 use Rattle.std.proofs.lemmas.List.{length-set}
 use Rattle.log_rows.specs.PointRows.{is_on_at}
 use Rattle.log_rows.proofs.SideRows.{lanes_more}
-use Rattle.log_rows.proofs.side_rows.side_row.Goals as goal
+use Rattle.log_rows.proofs.sides.side_row.Goals as goal
 
 pub loop-at-preserved : goal.loop-at-preserved
 loop-at-preserved c =

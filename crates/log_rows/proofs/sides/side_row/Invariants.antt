@@ -3,7 +3,7 @@ use Rattle.scan_model.specs.declared.logs.LogFacts.{LogFacts}
 use Rattle.log_join.specs.Joining.{StandsFor}
 use Rattle.lane_rows.specs.Lanes.{lane}
 use Rattle.log_rows.specs.PointRows.{is_on_at}
-use Rattle.log_rows.proofs.side_rows.side_row.Given as goal
+use Rattle.log_rows.proofs.sides.side_row.Given as goal
 
 abbrev pub invariant-loop-at : goal.invariant-loop-at
 invariant-loop-at l = record {
