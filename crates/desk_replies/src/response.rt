@@ -1,7 +1,7 @@
 //! What a request is answered.
 ghost use Rattle.std.specs.Prelude.{◌≡◌, Ok, IfErr, OnOk};
 ghost use Rattle.std.specs.Arc.{arc_value};
-ghost use Rattle.scan_model.specs.ReportText.{joined};
+ghost use Rattle.scan_model.specs.ReportText.{concatenated};
 ghost use Rattle.book.specs.declared.answers.LookFault.TheVariants as look_fault;
 ghost use Rattle.book.specs.declared.answers.PutFault.TheVariants as put_fault;
 ghost use Rattle.diagnosis.specs.declared.put.Put.TheVariants.{Created, Same};
@@ -76,7 +76,7 @@ impl Body {
 
     /// The lines of a whole report.
     pub fn report(report: Arc<WholeReport>) -> Body
-        ensures { result ≡ joined (arc_value report) }
+        ensures { result ≡ concatenated (arc_value report) }
     {
         Body {
             place: Place::Report(report),
