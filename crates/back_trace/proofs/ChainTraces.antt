@@ -181,18 +181,18 @@ other_point row shift h g i c j other = rw (ne_eqb g h (λ e. other (sym e))) (a
 
 pub taken_in : (firsts : List (Option ℕ)) (row shift : List ℕ) (g i : ℕ) (point : Point) (one new : Option ℕ) → point ≡ Cell g i → g < length firsts
     → ((c : ℕ) → Tells (is_from one c) (λ j. lane row j && (leb i c || (lane shift j && ltb c i)))) → ((c : ℕ) → is_from new c ≡ (is_from (get_or firsts g None) c || is_from one c))
-    → (h c : ℕ) (passes : ℕ → Bool) → h < length firsts → Tells (is_from (get_or firsts h None) c) passes
-    → Tells (is_from (get_or (set firsts g new) h None) c) (λ j. passes j || (lane row j && is_shifted_through shift j h c point))
-taken_in firsts row shift g i point one new at lt tells is h c passes lh so_far = rw at (elim (cases_eq h g) [
+    → (h c : ℕ) (told : ℕ → Bool) → h < length firsts → Tells (is_from (get_or firsts h None) c) told
+    → Tells (is_from (get_or (set firsts g new) h None) c) (λ j. told j || (lane row j && is_shifted_through shift j h c point))
+taken_in firsts row shift g i point one new at lt tells is h c told lh so_far = rw at (elim (cases_eq h g) [
   | inl same ↦
       let new_at : get_or (set firsts g new) h None ≡ new = ap (λ (k : ℕ). get_or (set firsts g new) k None) same ∙ get_or-set_same firsts g new None lt in
       let old_at : get_or firsts g None ≡ get_or firsts h None = ap (λ (k : ℕ). get_or firsts k None) (sym same) in
       let joined : is_from (get_or (set firsts g new) h None) c ≡ (is_from (get_or firsts h None) c || is_from one c) = ap (λ (o : Option ℕ). is_from o c) new_at ∙ is c ∙ ap (λ (o : Option ℕ). is_from o c || is_from one c) old_at in
-      tells_same (is_from (get_or (set firsts g new) h None) c) (λ j. passes j || (lane row j && (leb i c || (lane shift j && ltb c i)))) (λ j. passes j || (lane row j && is_shifted_through shift j h c (Cell g i)))
-      (λ j lj. ap (λ (b : Bool). passes j || b) (same_point row shift h g i c j same))
-      (tells_or (is_from (get_or firsts h None) c) (is_from one c) (is_from (get_or (set firsts g new) h None) c) passes (λ j. lane row j && (leb i c || (lane shift j && ltb c i))) so_far (tells c) joined)
+      tells_same (is_from (get_or (set firsts g new) h None) c) (λ j. told j || (lane row j && (leb i c || (lane shift j && ltb c i)))) (λ j. told j || (lane row j && is_shifted_through shift j h c (Cell g i)))
+      (λ j lj. ap (λ (b : Bool). told j || b) (same_point row shift h g i c j same))
+      (tells_or (is_from (get_or firsts h None) c) (is_from one c) (is_from (get_or (set firsts g new) h None) c) told (λ j. lane row j && (leb i c || (lane shift j && ltb c i))) so_far (tells c) joined)
   | inr other ↦
-      tells_same (is_from (get_or (set firsts g new) h None) c) passes (λ j. passes j || (lane row j && is_shifted_through shift j h c (Cell g i)))
-      (λ j lj. sym (ap (λ (b : Bool). passes j || b) (other_point row shift h g i c j other) ∙ to_true (passes j)))
-      (subst (λ (o : Option ℕ). Tells (is_from o c) passes) (sym (get_or-set_other firsts g h new None other)) so_far)
+      tells_same (is_from (get_or (set firsts g new) h None) c) told (λ j. told j || (lane row j && is_shifted_through shift j h c (Cell g i)))
+      (λ j lj. sym (ap (λ (b : Bool). told j || b) (other_point row shift h g i c j other) ∙ to_true (told j)))
+      (subst (λ (o : Option ℕ). Tells (is_from o c) told) (sym (get_or-set_other firsts g h new None other)) so_far)
 ])

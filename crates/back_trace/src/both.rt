@@ -34,7 +34,7 @@ fn explains_both(parts: &Parts, block: &Block, ones: &Trace, others: &Trace, fau
     !lanes.and(more).is_empty()
 }
 
-/// The same of the fault at a place.
+/// Whether the fault at a place explains a bit of each of two traces, in one lane if it is a fault of the logic.
 fn explains_both_at(parts: &Parts, block: &Block, ones: &Trace, others: &Trace, place: u32) -> bool
     requires ones { IsTraced parts.now block.now ones.now }
     requires others { IsTraced parts.now block.now others.now }
@@ -48,7 +48,7 @@ fn explains_both_at(parts: &Parts, block: &Block, ones: &Trace, others: &Trace, 
     }
 }
 
-/// Marks those of all faults.
+/// Marks all faults that explain a bit of each of two traces.
 fn mark_traced(marks: &mut [bool], parts: &Parts, block: &Block, ones: &Trace, others: &Trace)
     requires ones { IsTraced parts.now block.now ones.now }
     requires others { IsTraced parts.now block.now others.now }

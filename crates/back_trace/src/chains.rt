@@ -37,8 +37,8 @@ fn earlier(a: Option<u32>, b: Option<u32>) -> Option<u32>
 
 /// Takes in the failing bits of a point.
 fn take_in(firsts: &mut [Option<u32>], point: Point, fails: Row, shift: Row)
-    ensures { (h c : ℕ) (passes : ℕ → Bool) → h < length firsts.old → Tells (is_from (slice_index_or firsts.old h None) c) passes
-        → Tells (is_from (slice_index_or firsts.new h None) c) (λ j. passes j || (lane fails j && is_shifted_through shift j h c point)) }
+    ensures { (h c : ℕ) (told : ℕ → Bool) → h < length firsts.old → Tells (is_from (slice_index_or firsts.old h None) c) told
+        → Tells (is_from (slice_index_or firsts.new h None) c) (λ j. told j || (lane fails j && is_shifted_through shift j h c point)) }
 {
     if let Point::Cell { chain, pos } = point {
         let at = chain as usize;

@@ -43,7 +43,7 @@ tokens_name b (c ∷ cs) e = step b (c ∷ cs) e ∙ go (is_name_byte c) refl (t
         ap (λ z. cond z (onto_name b (tokens (c ∷ cs))) (name (b ∷ []) ∷ tokens (c ∷ cs))) t
         ∙ sym (ap (λ n. name_of_len (1 + n) (b ∷ c ∷ cs)) (prefix_none c cs t))
 
--- the same of a list that is not empty
+-- the tokens of a list that is not empty and begins with a name byte: its longest name, and what follows
 pub tokens_front : (xs : List ℕ) → 1 ≤ length xs → is_name_byte (get_or xs 0 0) ≡ true → tokens xs ≡ name_of_len (prefix_len is_name_byte xs) xs
 tokens_front [] h e = absurd (omega arith)
 tokens_front (b ∷ bs) h e = tokens_name b bs e

@@ -110,7 +110,7 @@ module _ (t : ScanTest) (sound : IsScanTest t) (order : List ℕ) (ordered : IsE
       logic = λ f there logic w q within is. by_kind f there logic w q within is (pattern_at t w).kind refl;
       apart = λ f n w q logic touched. straight_apart t f n w (members_at t c q) logic touched;
       one_net = λ a b w kind. masks_apart t w a b kind;
-      behind = λ w n r sole q within captured.
+      downstream = λ w n r sole q within captured.
           sole_through w r.pin n r.gate sole.operand.index sole.operand.kind sole.only.there sole.only.net sole.operand.at sole.operand.drives sole.only.one
           (pin_flips-is t sound order ordered (source_of t None w) n r sole) (members_at t c q) (behind_all q within);
     }

@@ -9,7 +9,7 @@ use Rattle.scan_model.specs.declared.logs.Scored.{Scored}
 use Rattle.scan_model.specs.ScanTest.{ScanTest}
 use Rattle.scan_model.specs.Universe.{universe}
 use Rattle.scan_model.specs.Ranking.{ranked}
-use Rattle.scan_model.specs.ReportText.{ReportForm, point_words, fault_words, no_fault, layout_with, joined}
+use Rattle.scan_model.specs.ReportText.{ReportForm, point_words, fault_words, no_fault, layout_with, concatenated}
 use Rattle.fail_logs.specs.FrameFacts.{point_among}
 use Rattle.chain_compactor.specs.Channels.{Compactor, channel_at}
 use Rattle.chain_compactor.specs.Compaction.{compact_bits, compact_class, compact_candidates}
@@ -31,4 +31,4 @@ compact_layout t c design die count classes rows = layout_with (compact_form t c
 
 -- the report over all modelled faults: those that explain a failing bit, in ranking order
 abbrev pub compact_report : ScanTest → Compactor → List ℕ → List ℕ → List LogFacts → List ℕ
-compact_report t c design die logs = joined (compact_layout t c design die (length logs) (compact_class t c logs) (ranked (compact_candidates t c logs)))
+compact_report t c design die logs = concatenated (compact_layout t c design die (length logs) (compact_class t c logs) (ranked (compact_candidates t c logs)))

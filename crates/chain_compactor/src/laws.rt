@@ -31,7 +31,7 @@ pub fn compact_flips(parts: &Parts, compact: &Compact)
     ensures capture { (f : Fault) (w q : ℕ) → Contains (universe parts.now) f → IsLogic f → q < length compact.now.points → (pattern_at parts.now w).kind ≡ Capture
         → predicts_compact_fail parts.now compact.now f (bit_of w q) ≡ (list_any (λ n. mask parts.now f w n && flip_shows_through parts.now compact.now w n q) (touched_nets parts.now f) || straight_through parts.now compact.now f w q) }
     ensures shift { (f : Fault) (w q : ℕ) → IsLogic f → q < length compact.now.points → (pattern_at parts.now w).kind ≡ Shift → predicts_compact_fail parts.now compact.now f (bit_of w q) ≡ false }
-    ensures behind { (w q p n g i : ℕ) (kind : GateKind) → q < length compact.now.points → p < length parts.now.netlist.pins → (pin_at parts.now.netlist p).net ≡ n → (pin_at parts.now.netlist p).place ≡ place.Operand g i
+    ensures downstream { (w q p n g i : ℕ) (kind : GateKind) → q < length compact.now.points → p < length parts.now.netlist.pins → (pin_at parts.now.netlist p).net ≡ n → (pin_at parts.now.netlist p).place ≡ place.Operand g i
         → driver_of parts.now.netlist g ≡ Gate kind → ((r : ℕ) → r < length parts.now.netlist.pins → (pin_at parts.now.netlist r).net ≡ n → r ≡ p)
         → flip_shows_through parts.now compact.now w n q ≡ (senses kind (operand_values parts.now w g) i && flip_shows_through parts.now compact.now w g q) }
 {

@@ -100,7 +100,7 @@ impl Observer for CompactCounts<'_> {
         }
     }
 
-    fn behind(&self, pin: u32) -> Row {
+    fn downstream(&self, pin: u32) -> Row {
         let zero = self
             .good
             .branch_mask(self.parts, self.block, pin, Stuck::Zero);
@@ -173,18 +173,18 @@ impl ChainObserver for CompactCounts<'_> {
             .place_seeing(self.parts, self.compact, point, nth)
     }
 
-    fn row(&self, scratch: &Scratch, behind: (u32, u32), kind: CellKind, place: u32) -> Row {
+    fn row(&self, scratch: &Scratch, cell: (u32, u32), kind: CellKind, place: u32) -> Row {
         let _ = self.parts.chains();
-        let cell = CellChanges {
+        let changes = CellChanges {
             parts: self.parts,
             good: self.good,
             block: self.block,
-            behind,
+            cell,
             kind,
             scratch,
         };
         let there = self.good.patterns(self.parts, self.block);
-        self.differing_row(&cell, there, place)
+        self.differing_row(&changes, there, place)
     }
 
     fn new_sum(&self, alloc: Global) -> Result<PlaceCounts, NoMemory> {

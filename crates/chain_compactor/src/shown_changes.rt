@@ -98,7 +98,7 @@ pub(crate) struct CellChanges<'a> {
     pub(crate) parts: &'a Parts,
     pub(crate) good: &'a PackedGood,
     pub(crate) block: usize,
-    pub(crate) behind: (u32, u32),
+    pub(crate) cell: (u32, u32),
     pub(crate) kind: CellKind,
     pub(crate) scratch: &'a Scratch,
 }
@@ -112,17 +112,17 @@ impl Changes for CellChanges<'_> {
 
     ghost test = { λ o. o.parts.now };
 
-    ghost ready = { λ o. ShowsCell o.parts.now o.good.now o.block o.behind.0 o.behind.1 o.kind o.scratch.now };
+    ghost ready = { λ o. ShowsCell o.parts.now o.good.now o.block o.cell.0 o.cell.1 o.kind o.scratch.now };
 
     ghost tells = { λ o j. pattern_of o.block j < length o.parts.now.patterns };
 
     ghost good = { λ o j p. observed o.parts.now None (pattern_of o.block j) p };
 
-    ghost shown = { λ o j p. observed o.parts.now (Some (fault.Cell o.behind.0 o.behind.1 o.kind)) (pattern_of o.block j) p };
+    ghost shown = { λ o j p. observed o.parts.now (Some (fault.Cell o.cell.0 o.cell.1 o.kind)) (pattern_of o.block j) p };
 
     fn change(&self, point: Point, net: u32) -> Option<Packed> {
         let _ = self.parts.chains();
-        match own_position(point, self.behind.0) {
+        match own_position(point, self.cell.0) {
             Some(_) => self.shown(point),
             None => match self.good.change(self.parts, self.scratch, self.block, net) {
                 Some(_) => self.shown(point),
@@ -145,16 +145,16 @@ fn own_position(point: Point, chain: u32) -> Option<u32>
 impl CellChanges<'_> {
     /// How what a point shows differs from what it shows without a fault.
     fn shown(&self, point: Point) -> Option<Packed>
-        requires ready { ShowsCell self.now.parts.now self.now.good.now self.now.block self.now.behind.0 self.now.behind.1 self.now.kind self.now.scratch.now }
+        requires ready { ShowsCell self.now.parts.now self.now.good.now self.now.block self.now.cell.0 self.now.cell.1 self.now.kind self.now.scratch.now }
         requires point { IsPoint self.now.parts.now point }
-        ensures { MatchOption result (IsSameShown self.now.parts.now self.now.block (fault.Cell self.now.behind.0 self.now.behind.1 self.now.kind) point)
-            (IsShownChange self.now.parts.now self.now.block (fault.Cell self.now.behind.0 self.now.behind.1 self.now.kind) point) }
+        ensures { MatchOption result (IsSameShown self.now.parts.now self.now.block (fault.Cell self.now.cell.0 self.now.cell.1 self.now.kind) point)
+            (IsShownChange self.now.parts.now self.now.block (fault.Cell self.now.cell.0 self.now.cell.1 self.now.kind) point) }
     {
         self.good.shown_change(
             self.parts,
             self.scratch,
             self.block,
-            self.behind,
+            self.cell,
             self.kind,
             point,
         )

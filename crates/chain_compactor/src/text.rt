@@ -34,7 +34,7 @@ pub fn compact_text(
     requires expected { FitsExpected expected.now joined.now }
     requires joined { IsJoinedOf (length parts.now.patterns) (length compact.now.points) joined.now }
     requires places { All (λ row. row.place < length (universe parts.now)) ranked.now }
-    ensures layout { (logs : List LogFacts) → StandsFor logs joined.now → IfOk result (λ text. text ≡ text_of.joined (compact_layout parts.now compact.now head.now.design head.now.die head.now.logs (class_with expected.now logs) ranked.now)) }
+    ensures layout { (logs : List LogFacts) → StandsFor logs joined.now → IfOk result (λ text. text ≡ text_of.concatenated (compact_layout parts.now compact.now head.now.design head.now.die head.now.logs (class_with expected.now logs) ranked.now)) }
     ensures report { (logs : List LogFacts) → StandsFor logs joined.now → expected.now ≡ compact_rows parts.now compact.now → head.now.logs ≡ length logs → ranked.now ≡ ranking.ranked (compact_candidates parts.now compact.now logs) → IfOk result (λ text. text ≡ compact_report parts.now compact.now head.now.design head.now.die logs) }
 {
     let _ = parts.patterns();

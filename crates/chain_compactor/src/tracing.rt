@@ -185,9 +185,9 @@ pub(crate) fn traced_places(
         return Ok(None);
     }
     let log = log_of(alloc, patterns, bits)?;
-    let mut behind = Joined::make(alloc, patterns, parts.points().len() as u32)?;
-    behind.add(&log);
+    let mut upstream_log = Joined::make(alloc, patterns, parts.points().len() as u32)?;
+    upstream_log.add(&log);
     let responses = expected_at_points(alloc, parts, good.rows())?;
-    let places = suspects_over(alloc, parts, good.rows(), &responses, &behind)?;
+    let places = suspects_over(alloc, parts, good.rows(), &responses, &upstream_log)?;
     Ok(Some(places))
 }

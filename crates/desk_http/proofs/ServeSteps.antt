@@ -10,7 +10,7 @@ use Rattle.desk_http.specs.declared.sessions.requests.SessionEnd.{SessionEnd}
 use Rattle.desk_http.specs.Seats.{SeatFacts}
 use Rattle.desk_http.specs.Sessions.{text, IsSession}
 use Rattle.desk_http.proofs.SeatSteps.{did_on}
-use Rattle.desk_http.specs.Serving.{DidSome, is_unserved, IsServed, AreServed, with_served, Serves}
+use Rattle.desk_http.specs.ServedConnections.{DidSome, is_unserved, IsServed, AreServed, with_served, Serves}
 
 -- ---- a door
 

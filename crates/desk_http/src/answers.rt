@@ -29,7 +29,7 @@ use crate::routes::resource::Resource;
 use crate::sessions::seat::SeatAt;
 use desk_heads::Method;
 use desk_outside::Gate;
-use desk_replies::{Refusal, Response, Unanswered};
+use desk_replies::{AnswerFault, Refusal, Response};
 use report_cache::ReportCache;
 use scan_model::NoMemory;
 use std::alloc::Global;
@@ -54,7 +54,7 @@ pub fn answer<R: Threads + Sync, D, S: SeatAt<R, D>, G: Gate>(
     cache: &mut ReportCache,
     gate: &mut G,
     request: &Request<'_>,
-) -> Result<Response, Unanswered>
+) -> Result<Response, AnswerFault>
     requires ascii { IsAscii request.now.target.now }
     requires belongs { S.belongs seat.old desk.now }
     requires cache { IsTrueFor cache.old (S.facts seat.old desk.now).seen }
@@ -77,7 +77,7 @@ fn answer_found<R: Threads + Sync, D, S: SeatAt<R, D>, G: Gate>(
     gate: &mut G,
     found: &Option<Resource>,
     request: &Request<'_>,
-) -> Result<Response, Unanswered>
+) -> Result<Response, AnswerFault>
     requires found { resource_of request.now.target.now ≡ found.now }
     requires belongs { S.belongs seat.old desk.now }
     requires cache { IsTrueFor cache.old (S.facts seat.old desk.now).seen }
@@ -102,7 +102,7 @@ fn answer_at<R: Threads + Sync, D, S: SeatAt<R, D>, G: Gate>(
     gate: &mut G,
     resource: &Resource,
     request: &Request<'_>,
-) -> Result<Response, Unanswered>
+) -> Result<Response, AnswerFault>
     requires named { resource_of request.now.target.now ≡ Some resource.now }
     requires belongs { S.belongs seat.old desk.now }
     requires cache { IsTrueFor cache.old (S.facts seat.old desk.now).seen }
@@ -208,7 +208,7 @@ fn change_at<R: Threads + Sync, D, S: SeatAt<R, D>, G: Gate>(
     gate: &mut G,
     resource: &Resource,
     request: &Request<'_>,
-) -> Result<Response, Unanswered>
+) -> Result<Response, AnswerFault>
     requires tags { HasTags resource.now }
     requires allowed { allows (methods_of resource.now) request.now.method ≡ true }
     requires changes { ¬ (request.now.method ≡ method.Get) }

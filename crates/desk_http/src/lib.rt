@@ -11,7 +11,7 @@ pub use desk_heads::{
     BodyRead, Head, HeadFault, HeadRead, HeadSeen, Inbox, Method, read_head, read_to,
 };
 pub use desk_replies::{
-    Body, Methods, Refusal, Reply, Response, ShortText, Status, TextKind, Unanswered, design_body,
+    AnswerFault, Body, Methods, Refusal, Reply, Response, ShortText, Status, TextKind, design_body,
     design_head, digest_differs_body, full_body, interim, keeper_fault, log_body, name_taken_body,
     no_memory, sign_off_body, sign_off_line, text_fault_body, unknown_fault_body,
     unknown_line_body, unknown_pattern_body, unknown_revision_body, unknown_sign_body,

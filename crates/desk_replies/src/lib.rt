@@ -15,6 +15,6 @@ pub use bodies::{
 };
 pub use methods::Methods;
 pub use reply::{Reply, interim, keeper_fault, no_memory};
-pub use response::{Body, Response, Unanswered, put_response, refused_look};
+pub use response::{AnswerFault, Body, Response, put_response, refused_look};
 pub use short::ShortText;
 pub use status::Status;

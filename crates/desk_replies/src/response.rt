@@ -1,11 +1,11 @@
 //! What a request is answered.
 ghost use Rattle.std.specs.Prelude.{◌≡◌, Ok, IfErr, OnOk};
 ghost use Rattle.std.specs.Arc.{arc_value};
-ghost use Rattle.scan_model.specs.ReportText.{joined};
+ghost use Rattle.scan_model.specs.ReportText.{concatenated};
 ghost use Rattle.book.specs.declared.answers.LookFault.TheVariants as look_fault;
 ghost use Rattle.book.specs.declared.answers.PutFault.TheVariants as put_fault;
 ghost use Rattle.diagnosis.specs.declared.put.Put.TheVariants.{Created, Same};
-ghost use Rattle.desk_replies.specs.declared.response.Unanswered.TheVariants as unanswered;
+ghost use Rattle.desk_replies.specs.declared.response.AnswerFault.TheVariants as answer_fault;
 ghost use Rattle.desk_replies.specs.Answers.{plain, refused, other_method, unprocessable};
 ghost use Rattle.desk_replies.specs.Responses.{response_of, RefusedLook, RefusedPut, PutAnswered};
 ghost use Rattle.desk_replies.specs.Bodies.{entry_body};
@@ -76,7 +76,7 @@ impl Body {
 
     /// The lines of a whole report.
     pub fn report(report: Arc<WholeReport>) -> Body
-        ensures { result ≡ joined (arc_value report) }
+        ensures { result ≡ concatenated (arc_value report) }
     {
         Body {
             place: Place::Report(report),
@@ -106,18 +106,18 @@ pub struct Response {
 
 /// Why a request got no answer of its own. Nothing was done.
 #[derive(Clone, Copy, Debug, PartialEq, Eq)]
-pub enum Unanswered {
+pub enum AnswerFault {
     /// The keeper failed, and its count of faults rose.
     KeeperFault,
     /// Memory ran out.
     NoMemory,
 }
 
-impl From<NoMemory> for Unanswered {
-    ghost from_gives = { λ _ e. e ≡ unanswered.NoMemory };
+impl From<NoMemory> for AnswerFault {
+    ghost from_gives = { λ _ e. e ≡ answer_fault.NoMemory };
 
     fn from(_: NoMemory) -> Self {
-        Unanswered::NoMemory
+        AnswerFault::NoMemory
     }
 }
 
@@ -185,7 +185,7 @@ pub fn refused_look(fault: LookFault) -> Result<Response, NoMemory>
 }
 
 /// The answer to a change. An error says that the keeper failed or memory ran out.
-pub fn put_response(entry: Entry, put: Result<Put, PutFault>) -> Result<Response, Unanswered>
+pub fn put_response(entry: Entry, put: Result<Put, PutFault>) -> Result<Response, AnswerFault>
     ensures { PutAnswered (entry_body entry) put result }
 {
     match put {
@@ -196,7 +196,7 @@ pub fn put_response(entry: Entry, put: Result<Put, PutFault>) -> Result<Response
 }
 
 // The answer to a change that was refused. An error says that its fault was the keeper's failure or want of memory.
-fn refused_put(fault: PutFault) -> Result<Response, Unanswered>
+fn refused_put(fault: PutFault) -> Result<Response, AnswerFault>
     ensures answer { RefusedPut fault result }
     ensures keeper { OnOk result (¬ (fault ≡ put_fault.Failed)) }
     ensures memory { OnOk result (¬ (fault ≡ put_fault.NoMemory)) }
@@ -208,7 +208,7 @@ fn refused_put(fault: PutFault) -> Result<Response, Unanswered>
             Response::short(Status::Conflict, digest_differs_body(&right))
         }
         PutFault::Full { limit } => Response::short(Status::Conflict, full_body(u64::from(limit))),
-        PutFault::Failed => return Err(Unanswered::KeeperFault),
-        PutFault::NoMemory => return Err(Unanswered::NoMemory),
+        PutFault::Failed => return Err(AnswerFault::KeeperFault),
+        PutFault::NoMemory => return Err(AnswerFault::NoMemory),
     })
 }

@@ -11,7 +11,7 @@ use Rattle.shared_desk.specs.Seats.{DeskFacts, SeatFacts as DeskSeatFacts, faile
 use Rattle.shared_desk.specs.Starting.{fresh_seat, HasOwn}
 use Rattle.desk_http.specs.Seats.{SeatFacts, Did}
 use Rattle.desk_http.specs.DeskSeats.{of_desk}
-use Rattle.desk_http.specs.Serving.{AreServed, Serves}
+use Rattle.desk_http.specs.ServedConnections.{AreServed, Serves}
 use Rattle.desk_http.proofs.SeatSteps.{did_nothing, did_on}
 use Rattle.desk_serve.specs.HomeDoors.{replied_deeds, replied_faults, IsServedBy, AreServedBy}
 use Rattle.desk_serve.specs.Doors.{IsFreshDoor, Tells, has_failed, told_or_fresh, home_of}

@@ -5,7 +5,7 @@ use Rattle.desk_outside.specs.declared.door.LinkHome.{LinkHome}
 use Rattle.desk_outside.specs.declared.street.DoorHome.{DoorHome}
 use Rattle.desk_http.specs.Seats.{IsPrefix, SeatFacts}
 use Rattle.desk_http.specs.Sessions.{own_deeds, turn_deeds, turn_failures}
-use Rattle.desk_http.specs.Serving.{AreServed}
+use Rattle.desk_http.specs.ServedConnections.{AreServed}
 
 -- the deeds of the final replies that made one, in order, over the connections of a door
 abbrev pub replied_deeds : (old : SeatFacts) (given : List (List ℕ)) (done : List LinkHome) (unserved : ℕ) (new : SeatFacts) → AreServed old given done unserved new → List Deed

@@ -27,7 +27,7 @@ use Rattle.scan_model.specs.ScanTest.{ScanTest, name_of, no_chain, chain_at, poi
 use Rattle.scan_model.specs.Lines.{pieces}
 use Rattle.scan_model.specs.Words.{is_filled, is_tag}
 use Rattle.scan_model.specs.Classes.{is_conflict, is_masked, is_failing, is_passing}
-use Rattle.scan_model.specs.ReportText.{spaced, line, joined, stuck_word, cell_word, bridge_word, branch_words, fault_words, point_words, bit_line, no_fault, candidate_line, bits_in, layout_by_class}
+use Rattle.scan_model.specs.ReportText.{spaced, line, concatenated, stuck_word, cell_word, bridge_word, branch_words, fault_words, point_words, bit_line, no_fault, candidate_line, bits_in, layout_by_class}
 use Rattle.diag_report.specs.PredictedLog.{is_word_name, HasWordNames}
 use Rattle.diag_report.specs.Layout.{score_words}
 use Rattle.diag_report.proofs.Bools.{right_true}
@@ -53,9 +53,9 @@ IsPiece l = (body : List ℕ) × (l ≡ body ++ 10 ∷ []) × Unbroken body
 abbrev ArePieces : List (List ℕ) → Type 0
 ArePieces ls = AllByRecursion IsPiece ls
 
-pieces_of : (ls : List (List ℕ)) → ArePieces ls → pieces (joined ls) ≡ ls
+pieces_of : (ls : List (List ℕ)) → ArePieces ls → pieces (concatenated ls) ≡ ls
 pieces_of [] all = refl
-pieces_of (l ∷ ls) all = rw all.0.1 (pieces_of_line all.0.0 (joined ls) all.0.2 ∙ ap (λ (more : List (List ℕ)). (all.0.0 ++ 10 ∷ []) ∷ more) (pieces_of ls all.1))
+pieces_of (l ∷ ls) all = rw all.0.1 (pieces_of_line all.0.0 (concatenated ls) all.0.2 ∙ ap (λ (more : List (List ℕ)). (all.0.0 ++ 10 ∷ []) ∷ more) (pieces_of ls all.1))
 
 both_pieces : (xs ys : List (List ℕ)) → ArePieces xs → ArePieces ys → ArePieces (xs ++ ys)
 both_pieces [] ys a b = b
@@ -191,7 +191,7 @@ module _ (t : ScanTest) (names : HasWordNames t) where
 
   -- the text of a layout, cut behind each line feed, is its lines
   pub layout_cut : (faults : List Fault) (design die : List ℕ) (count : ℕ) (classes : Bit → BitClass) (rows : List Scored) → is_tag design ≡ true → is_tag die ≡ true
-      → pieces (joined (layout_by_class faults t design die count classes rows)) ≡ layout_by_class faults t design die count classes rows
+      → pieces (concatenated (layout_by_class faults t design die count classes rows)) ≡ layout_by_class faults t design die count classes rows
   layout_cut faults design die count classes rows design_tag die_tag =
       pieces_of (layout_by_class faults t design die count classes rows) (
         labelled (codes "REPORT") refl 1,

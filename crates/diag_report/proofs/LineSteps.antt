@@ -8,7 +8,7 @@ use Rattle.std.proofs.Math.Seq.{take-append_seam, drop-append_seam}
 use Rattle.scan_model.specs.declared.fault.Fault.{Fault}
 use Rattle.scan_model.specs.declared.fault.Fault.TheVariants.{Stem, Branch, Bridge, Cell}
 use Rattle.scan_model.specs.ScanTest.{ScanTest}
-use Rattle.scan_model.specs.ReportText.{joined, fault_words}
+use Rattle.scan_model.specs.ReportText.{concatenated, fault_words}
 use Rattle.fault_universe.proofs.BitSteps.{enumerate_push}
 use Rattle.diag_report.specs.declared.draft.Draft.{Draft}
 use Rattle.diag_report.specs.LineEnds.{ends_from, cut_at, HasLines, AddsLines}
@@ -24,22 +24,22 @@ words_there t (Cell h i kind) = omega arith
 
 -- ---- lines
 
-ends_push : (a : ℕ) (ls : List (List ℕ)) (l : List ℕ) → ends_from a (ls ++ l ∷ []) ≡ ends_from a ls ++ (a + length (joined ls) + length l) ∷ []
+ends_push : (a : ℕ) (ls : List (List ℕ)) (l : List ℕ) → ends_from a (ls ++ l ∷ []) ≡ ends_from a ls ++ (a + length (concatenated ls) + length l) ∷ []
 ends_push a [] l = ap (λ (n : ℕ). n ∷ []) (omega arith)
 ends_push a (m ∷ ms) l =
     ap (λ (ns : List ℕ). (a + length m) ∷ ns)
-    (ends_push (a + length m) ms l ∙ ap (λ (n : ℕ). ends_from (a + length m) ms ++ n ∷ []) (omega (arith, length-append m (joined ms))))
+    (ends_push (a + length m) ms l ∙ ap (λ (n : ℕ). ends_from (a + length m) ms ++ n ∷ []) (omega (arith, length-append m (concatenated ms))))
 
-joined_push : (ls : List (List ℕ)) (l : List ℕ) → joined (ls ++ l ∷ []) ≡ joined ls ++ l
-joined_push ls l = flat_map-append (λ piece. piece) ls (l ∷ []) ∙ ap (λ (bs : List ℕ). joined ls ++ bs) (append-nil l)
+concatenated_push : (ls : List (List ℕ)) (l : List ℕ) → concatenated (ls ++ l ∷ []) ≡ concatenated ls ++ l
+concatenated_push ls l = flat_map-append (λ piece. piece) ls (l ∷ []) ∙ ap (λ (bs : List ℕ). concatenated ls ++ bs) (append-nil l)
 
 pub added_line : (old new : Draft) (l : List ℕ) → new.text ≡ old.text ++ l → new.ends ≡ old.ends ++ length new.text ∷ [] → AddsLines (l ∷ []) old new
 added_line old new l text ends = record {
   added = λ before has.
-      let whole : new.text ≡ joined before ++ l = text ∙ ap (λ (bs : List ℕ). bs ++ l) has.text_is in
-      let len : length new.text ≡ 0 + length (joined before) + length l = ap length whole ∙ length-append (joined before) l ∙ omega arith in
+      let whole : new.text ≡ concatenated before ++ l = text ∙ ap (λ (bs : List ℕ). bs ++ l) has.text_is in
+      let len : length new.text ≡ 0 + length (concatenated before) + length l = ap length whole ∙ length-append (concatenated before) l ∙ omega arith in
       record {
-        text_is = whole ∙ sym (joined_push before l);
+        text_is = whole ∙ sym (concatenated_push before l);
         ends_are = ends ∙ ap (λ (ns : List ℕ). ns ++ length new.text ∷ []) has.ends_are ∙ ap (λ (n : ℕ). ends_from 0 before ++ n ∷ []) len ∙ sym (ends_push 0 before l);
       };
 }
@@ -101,11 +101,11 @@ numbered_more f xs k d a b c lt first then =
 
 -- ---- a text cut at the places behind its lines
 
-cut_at_ends : (a : ℕ) (ls : List (List ℕ)) → cut_at a (ends_from a ls) (joined ls) ≡ ls
+cut_at_ends : (a : ℕ) (ls : List (List ℕ)) → cut_at a (ends_from a ls) (concatenated ls) ≡ ls
 cut_at_ends a [] = refl
 cut_at_ends a (l ∷ ls) =
     let e : (a + length l) - a ≡ length l = omega arith in
-    rw (e, take-append_seam l (joined ls), drop-append_seam l (joined ls), cut_at_ends (a + length l) ls) refl
+    rw (e, take-append_seam l (concatenated ls), drop-append_seam l (concatenated ls), cut_at_ends (a + length l) ls) refl
 
 pub cut_is : (lines : List (List ℕ)) (text ends : List ℕ) → HasLines lines text ends → cut_at 0 ends text ≡ lines
 cut_is lines text ends has = rw (has.text_is, has.ends_are) (cut_at_ends 0 lines)

@@ -9,7 +9,7 @@ use Rattle.scan_model.specs.declared.fault.Fault.{Fault}
 use Rattle.scan_model.specs.declared.logs.Bit.{Bit}
 use Rattle.scan_model.specs.ScanTest.{ScanTest, name_of, chain_at, point_at}
 use Rattle.scan_model.specs.Words.{number_of}
-use Rattle.scan_model.specs.ReportText.{line, bit_line, joined, point_words}
+use Rattle.scan_model.specs.ReportText.{line, bit_line, concatenated, point_words}
 use Rattle.scan_model.specs.declared.logs.Range.{Range}
 use Rattle.scan_model.specs.declared.logs.LogForm.TheVariants.{FailLog}
 use Rattle.scan_model.specs.declared.logs.LogVersion.TheVariants.{First}
@@ -39,8 +39,8 @@ tail_lines : (t : ScanTest) (bits : List Bit) → map (bit_line t (codes "fail")
 tail_lines t [] = refl
 tail_lines t (b ∷ bits) = ap (λ (ls : List (List ℕ)). bit_line t (codes "fail") b ∷ ls) (tail_lines t bits)
 
-pub log_is : (t : ScanTest) (design die : List ℕ) (f : Fault) → predicted_log t design die f ≡ joined (map line (log_words t design die (predicted_bits t f)))
-log_is t design die f = ap (λ (ls : List (List ℕ)). joined (head_lines t design die ++ ls)) (tail_lines t (predicted_bits t f))
+pub log_is : (t : ScanTest) (design die : List ℕ) (f : Fault) → predicted_log t design die f ≡ concatenated (map line (log_words t design die (predicted_bits t f)))
+log_is t design die f = ap (λ (ls : List (List ℕ)). concatenated (head_lines t design die ++ ls)) (tail_lines t (predicted_bits t f))
 
 -- ---- forms
 

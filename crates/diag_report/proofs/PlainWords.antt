@@ -14,7 +14,7 @@ use Rattle.scan_model.specs.Lines.{text_lines, is_blank, is_accepted, has_refuse
 use Rattle.scan_model.specs.Words.{words, word_lines, has_words, is_filled, is_name_byte, is_digit, is_letter, is_tag_byte, is_tag}
 use Rattle.scan_model.specs.declared.logs.LogForm.{LogForm}
 use Rattle.scan_model.specs.LogText.{later_lines, lines_after, filled_lines, first_version, title_of, version_of, log_line}
-use Rattle.scan_model.specs.ReportText.{spaced, line, joined}
+use Rattle.scan_model.specs.ReportText.{spaced, line, concatenated}
 use Rattle.diag_report.specs.PredictedLog.{is_word_name}
 use Rattle.diag_report.proofs.Bools.{left_true, right_true, both_true}
 
@@ -109,10 +109,10 @@ IsLine ws = (has_words ws ≡ true) × AreNames ws
 abbrev pub AreLines : List (List (List ℕ)) → Type 0
 AreLines wss = AllByRecursion IsLine wss
 
-pub lines_back : (wss : List (List (List ℕ))) → AreLines wss → text_lines (joined (map line wss)) ≡ map spaced wss
+pub lines_back : (wss : List (List (List ℕ))) → AreLines wss → text_lines (concatenated (map line wss)) ≡ map spaced wss
 lines_back [] names = refl
 lines_back (ws ∷ wss) names =
-    let rest : List ℕ = joined (map line wss) in
+    let rest : List ℕ = concatenated (map line wss) in
     ap lines (append_assoc (spaced ws) (10 ∷ []) rest)
     ∙ first_line (spaced ws) rest (line_lacks (λ b. eqb b 10) refl (not_byte 10 refl) ws names.0.1) (line_lacks (λ b. eqb b 13) refl (not_byte 13 refl) ws names.0.1)
     ∙ ap (λ (ls : List (List ℕ)). spaced ws ∷ ls) (lines_back wss names.1)

@@ -1,7 +1,7 @@
 -- The lines of a summary, one after another.
 use Rattle.std.proofs.Common.{◌≡◌, ℕ, ◌+◌, ◌<◌, List, [], ◌∷◌, ◌++◌, length, map, take, get_or, ap, sym, subst, ◌∙◌}
 use Rattle.std.proofs.lemmas.List.{map-append, take_more}
-use Rattle.scan_model.specs.ReportText.{joined}
+use Rattle.scan_model.specs.ReportText.{concatenated}
 use Rattle.diag_report.specs.declared.draft.Draft.{Draft}
 use Rattle.diag_report.specs.LineEnds.{AddsLines}
 use Rattle.diag_report.specs.Summary.{count_line}
@@ -12,7 +12,7 @@ pub count_added : (ls : List (List ℕ)) (word : List ℕ) (n m : ℕ) (a b c : 
 count_added ls word n m a b c same first then = both_added ls (count_line word m ∷ []) a b c first (subst (λ (k : ℕ). AddsLines (count_line word k ∷ []) b c) same then)
 
 -- what stands in a text that was empty before
-pub text_written : (ls : List (List ℕ)) (a b : Draft) → a.text ≡ [] → a.ends ≡ [] → AddsLines ls a b → b.text ≡ joined ls
+pub text_written : (ls : List (List ℕ)) (a b : Draft) → a.text ≡ [] → a.ends ≡ [] → AddsLines ls a b → b.text ≡ concatenated ls
 text_written ls a b no_text no_ends adds = (adds.added [] (record { text_is = no_text; ends_are = no_ends })).text_is
 
 -- the line of one more item

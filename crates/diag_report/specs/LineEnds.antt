@@ -1,7 +1,7 @@
 -- A text with the places behind its lines.
 use Rattle.std.specs.Prelude.{◌≡◌, ℕ, ◌+◌, ◌-◌, List, [], ◌∷◌, ◌++◌, length, take, drop}
 use Rattle.diag_report.specs.declared.draft.Draft.{Draft}
-use Rattle.scan_model.specs.ReportText.{joined}
+use Rattle.scan_model.specs.ReportText.{concatenated}
 
 -- the places behind each of some lines that begin at a place
 abbrev pub ends_from : ℕ → List (List ℕ) → List ℕ
@@ -14,7 +14,7 @@ cut_at place [] text = []
 cut_at place (e ∷ es) text = take (e - place) text ∷ cut_at e es (drop (e - place) text)
 
 pub record HasLines (lines : List (List ℕ)) (text ends : List ℕ) : Type 0 where
-  pub text_is : text ≡ joined lines
+  pub text_is : text ≡ concatenated lines
   pub ends_are : ends ≡ ends_from 0 lines
 
 -- lines are added at the end of what was written

@@ -11,7 +11,7 @@ use Rattle.scan_model.specs.Universe.{universe}
 use Rattle.scan_model.specs.Coverage.{bits_of}
 use Rattle.scan_model.specs.MatchCounts.{counts_of}
 use Rattle.scan_model.specs.Words.{is_filled, is_name_byte}
-use Rattle.scan_model.specs.ReportText.{line, bit_line, joined, no_fault}
+use Rattle.scan_model.specs.ReportText.{line, bit_line, concatenated, no_fault}
 
 -- the fault at a place of the list of all modelled faults
 abbrev pub fault_of : ScanTest → ℕ → Fault
@@ -44,7 +44,7 @@ abbrev pub predicted_lines : ScanTest → List ℕ → List ℕ → Fault → Li
 predicted_lines t design die f = head_lines t design die ++ (fail_lines t f (bits_of t) ++ end_line ∷ [])
 
 abbrev pub predicted_log : ScanTest → List ℕ → List ℕ → Fault → List ℕ
-predicted_log t design die f = joined (predicted_lines t design die f)
+predicted_log t design die f = concatenated (predicted_lines t design die f)
 
 -- ---- what the log stands for
 

@@ -3,7 +3,7 @@ use Rattle.std.specs.Prelude.{ℕ, List, [], ◌∷◌, ◌++◌, map, length, d
 use Rattle.scan_model.specs.declared.parts.Pair.{Pair}
 use Rattle.scan_model.specs.ScanTest.{ScanTest, name_of, cells_of}
 use Rattle.scan_model.specs.Universe.{universe}
-use Rattle.scan_model.specs.ReportText.{line, joined}
+use Rattle.scan_model.specs.ReportText.{line, concatenated}
 
 abbrev pub count_line : List ℕ → ℕ → List ℕ
 count_line word count = line (word ∷ decimal count ∷ [])
@@ -38,4 +38,4 @@ abbrev pub summary_lines : ScanTest → List (List ℕ)
 summary_lines t = circuit_lines t ++ (test_lines t ++ map (left_out_line t) t.pairs.left_out)
 
 abbrev pub summary_text : ScanTest → List ℕ
-summary_text t = joined (summary_lines t)
+summary_text t = concatenated (summary_lines t)

@@ -48,14 +48,14 @@ pub(crate) fn finished(draft: Draft) -> Report
 impl Report {
     /// The whole text.
     pub fn bytes(&self) -> &[u8]
-        ensures { result.now ≡ text_of.joined self.now }
+        ensures { result.now ≡ text_of.concatenated self.now }
     {
         self.text.as_slice()
     }
 
     /// The whole text, given away.
     pub fn into_text(self) -> Name
-        ensures { result ≡ text_of.joined self }
+        ensures { result ≡ text_of.concatenated self }
     {
         let Report { text, .. } = self;
         text
@@ -71,7 +71,7 @@ impl Report {
     /// The place behind the first lines.
     fn end_of(&self, lines: usize) -> usize
         requires { lines ≤ length self.now }
-        ensures { result ≡ length (text_of.joined (take lines self.now)) }
+        ensures { result ≡ length (text_of.concatenated (take lines self.now)) }
     {
         end_behind(self.ends.as_slice(), lines)
     }
@@ -96,7 +96,7 @@ impl Report {
 
     /// The number of pages. Those from lines 1, 101, 201 and so on, laid end to end, are the whole text.
     pub fn pages(&self) -> u64
-        ensures whole { text_of.joined (map (λ k. text_of.page_of self.now (100 * k + 1)) (range_with_len 0 result)) ≡ text_of.joined self.now }
+        ensures whole { text_of.concatenated (map (λ k. text_of.page_of self.now (100 * k + 1)) (range_with_len 0 result)) ≡ text_of.concatenated self.now }
         ensures none_empty { 100 * result < length self.now + 100 }
     {
         let lines = self.lines();

@@ -21,7 +21,7 @@ use Rattle.scan_model.specs.Classes.{class, is_conflict, is_masked, is_failing, 
 use Rattle.scan_model.specs.Universe.{universe}
 use Rattle.scan_model.specs.MatchCounts.{counts_of, candidates_among, is_candidate}
 use Rattle.scan_model.specs.LogText.{log_frame, log_reading}
-use Rattle.scan_model.specs.ReportText.{bits_that, report_lines_among, joined}
+use Rattle.scan_model.specs.ReportText.{bits_that, report_lines_among, concatenated}
 use Rattle.scan_model.specs.DieReport.{different, accepted, logs_of_texts, die_report}
 use Rattle.log_join.proofs.AnyOrder.{list_any-same_members}
 use Rattle.diagnosis.specs.Designs.{HaveSameTexts}
@@ -113,4 +113,4 @@ module _ (t : ScanTest) (logs others : List LogFacts) (alike : (p : LogFacts →
 -- texts that differ in order and repeats alone have one report
 pub one_report : (t : ScanTest) (design die : List ℕ) (texts others : List (List ℕ)) → HaveSameTexts texts others → die_report t design die texts ≡ die_report t design die others
 one_report t design die texts others same =
-    ap joined (report_alike t (logs_of_texts t design die texts) (logs_of_texts t design die others) (some_log_alike texts others same t design die) (universe t) design die (same_number_of_logs texts others same t design die))
+    ap concatenated (report_alike t (logs_of_texts t design die texts) (logs_of_texts t design die others) (some_log_alike texts others same t design die) (universe t) design die (same_number_of_logs texts others same t design die))

@@ -6,7 +6,8 @@ use Rattle.std.specs.Str.Lines.{strip_carriage_return}
 use Rattle.std.specs.Cmp.Lexicographic.{bytes_decides}
 use Rattle.std.proofs.lemmas.List.{length-map}
 use Rattle.std.proofs.lemmas.List.Splits.{length-slice_split, slice_split-cons_yes, slice_split-cons_no}
-use Rattle.diagnosis.specs.Bundle.{is_mark, pieces, joined, sections}
+use Rattle.scan_model.specs.ReportText.{concatenated}
+use Rattle.diagnosis.specs.Bundle.{is_mark, pieces, sections}
 use Rattle.diagnosis.specs.BundleRest.{marker, line_in, is_wrong, fault_after}
 
 -- ---- which lines begin with `%`
@@ -51,21 +52,21 @@ abbrev pub onto_text : List ℕ → List (List ℕ) → List (List ℕ)
 onto_text before [] = (before ++ []) ∷ []
 onto_text before (text ∷ texts) = (before ++ text) ∷ texts
 
-joined-onto_first : (piece : List ℕ) (parts : List (List (List ℕ))) → map joined (onto_first piece parts) ≡ onto_text piece (map joined parts)
-joined-onto_first piece [] = refl
-joined-onto_first piece (part ∷ parts) = refl
+concatenated-onto_first : (piece : List ℕ) (parts : List (List (List ℕ))) → map concatenated (onto_first piece parts) ≡ onto_text piece (map concatenated parts)
+concatenated-onto_first piece [] = refl
+concatenated-onto_first piece (part ∷ parts) = refl
 
 pub onto_text-onto_text : (a b : List ℕ) (texts : List (List ℕ)) → onto_text a (onto_text b texts) ≡ onto_text (a ++ b) texts
 onto_text-onto_text a b [] = ap (λ t. t ∷ []) (sym (append_assoc a b []))
 onto_text-onto_text a b (text ∷ texts) = ap (λ t. t ∷ texts) (sym (append_assoc a b text))
 
 pub sections-mark : (text piece rest : List ℕ) → pieces text ≡ piece ∷ pieces rest → is_mark piece ≡ true → sections text ≡ [] ∷ sections rest
-sections-mark text piece rest e mark = ap (λ p. map joined (slice_split is_mark p)) e ∙ ap (map joined) (slice_split-cons_yes is_mark piece (pieces rest) mark)
+sections-mark text piece rest e mark = ap (λ p. map concatenated (slice_split is_mark p)) e ∙ ap (map concatenated) (slice_split-cons_yes is_mark piece (pieces rest) mark)
 
 pub sections-line : (text piece rest : List ℕ) → pieces text ≡ piece ∷ pieces rest → is_mark piece ≡ false → sections text ≡ onto_text piece (sections rest)
 sections-line text piece rest e plain =
-    ap (λ p. map joined (slice_split is_mark p)) e ∙ ap (map joined) (slice_split-cons_no is_mark piece (pieces rest) plain)
-    ∙ joined-onto_first piece (slice_split is_mark (pieces rest))
+    ap (λ p. map concatenated (slice_split is_mark p)) e ∙ ap (map concatenated) (slice_split-cons_no is_mark piece (pieces rest) plain)
+    ∙ concatenated-onto_first piece (slice_split is_mark (pieces rest))
 
 -- what is left of a text behind some of its lines, of which none begins with `%`
 pub record IsBefore (whole rest : List ℕ) : Type 0 where
@@ -74,7 +75,7 @@ pub record IsBefore (whole rest : List ℕ) : Type 0 where
   pub texts : sections whole ≡ onto_text before (sections rest)
 
 pub sections-some : (text : List ℕ) → 0 < length (sections text)
-sections-some text = omega (arith, length-map (slice_split is_mark (pieces text)) joined, length-slice_split is_mark (pieces text))
+sections-some text = omega (arith, length-map (slice_split is_mark (pieces text)) concatenated, length-slice_split is_mark (pieces text))
 
 onto_text-none : (texts : List (List ℕ)) → 0 < length texts → texts ≡ onto_text [] texts
 onto_text-none [] some = absurd (omega arith)

@@ -5,8 +5,9 @@ use Rattle.std.specs.Str.Lines.{strip_carriage_return}
 use Rattle.std.proofs.Math.Seq.{get_or-append_seam}
 use Rattle.std.proofs.lemmas.List.Elements.{All-nil, All-cons, All-head, All-tail}
 use Rattle.scan_model.specs.Lines.{text_lines}
+use Rattle.scan_model.specs.ReportText.{concatenated}
 use Rattle.text_parts.specs.TextEnd.{is_ended, ended}
-use Rattle.diagnosis.specs.Bundle.{is_mark, pieces, joined}
+use Rattle.diagnosis.specs.Bundle.{is_mark, pieces}
 use Rattle.diagnosis.proofs.LineEnds.{HasNoEnd, with_ends, with_end, with_ends-append, in_lines, lines-with_ends, pieces-with_ends}
 
 with_end-is_ended : (bs : List ℕ) → is_ended (with_end bs) ≡ true
@@ -69,12 +70,12 @@ module _ (text : List ℕ) (e : is_ended text ≡ true) where
   pub pieces_behind : (rest : List ℕ) → pieces (text ++ rest) ≡ pieces text ++ pieces rest
   pieces_behind rest = ap pieces (parted rest) ∙ pieces-with_ends of.lines rest of.each ∙ ap (λ ps. ps ++ pieces rest) (sym pieces_are)
 
-  pub joined_pieces : joined (pieces text) ≡ text
-  joined_pieces = ap joined pieces_are ∙ go of.lines ∙ sym of.whole
+  pub concatenated_pieces : concatenated (pieces text) ≡ text
+  concatenated_pieces = ap concatenated pieces_are ∙ go of.lines ∙ sym of.whole
     where
-      go : (ls : List (List ℕ)) → joined (map with_end ls) ≡ with_ends ls []
+      go : (ls : List (List ℕ)) → concatenated (map with_end ls) ≡ with_ends ls []
       go [] = refl
-      go (l ∷ ls) = append_assoc l (10 ∷ []) (joined (map with_end ls)) ∙ ap (λ bs. l ++ 10 ∷ bs) (go ls)
+      go (l ∷ ls) = append_assoc l (10 ∷ []) (concatenated (map with_end ls)) ∙ ap (λ bs. l ++ 10 ∷ bs) (go ls)
 
   -- a line begins as its piece does
   pub unmarked_lines : All (λ piece. is_mark piece ≡ false) (pieces text) → All (λ line. is_mark line ≡ false) (text_lines text)

@@ -9,10 +9,11 @@ use Rattle.scan_model.specs.declared.fault.Profile.TheVariants.{One, Two}
 use Rattle.scan_model.specs.ScanTest.{ScanTest}
 use Rattle.scan_model.specs.Lines.{text_lines, line_at}
 use Rattle.scan_model.specs.TextFaults.{first_fault}
+use Rattle.scan_model.specs.ReportText.{concatenated}
 use Rattle.text_parts.specs.TextEnd.{is_ended, ended}
 use Rattle.diagnosis.specs.Texts.{FourTexts}
-use Rattle.diagnosis.specs.Bundle.{is_mark, pieces, joined, sections, texts_in, bundle_rule, marks_fault, profile_line, profile_of, behind_line, marked_part, lines_on, lines_before, bundle_fault, bundle_texts, marked_text, named_text, bundle_text, texts_reading, refused_or_read, bundle_reading}
-use Rattle.diagnosis.proofs.Ended.{ended-is_ended, lines_behind, pieces_behind, joined_pieces, unmarked_lines}
+use Rattle.diagnosis.specs.Bundle.{is_mark, pieces, sections, texts_in, bundle_rule, marks_fault, profile_line, profile_of, behind_line, marked_part, lines_on, lines_before, bundle_fault, bundle_texts, marked_text, named_text, bundle_text, texts_reading, refused_or_read, bundle_reading}
+use Rattle.diagnosis.proofs.Ended.{ended-is_ended, lines_behind, pieces_behind, concatenated_pieces, unmarked_lines}
 use Rattle.diagnosis.proofs.EndedReadings.{ended_texts, ended_read}
 use Rattle.diagnosis.proofs.AreUnmarked.{AreUnmarked}
 use Rattle.diagnosis.proofs.Markers.{markers_in_order}
@@ -52,8 +53,8 @@ split_at_markers netlist scan patterns neighbours n s p g =
     ∙ ap (λ parts. [] ∷ netlist ∷ scan ∷ parts) (slice_split_at is_mark patterns (codes "%neighbours\n") neighbours p refl)
     ∙ ap (λ parts. [] ∷ netlist ∷ scan ∷ patterns ∷ parts) (slice_split_none is_mark neighbours g)
 
-whole : (text : List ℕ) → joined (pieces (ended text)) ≡ ended text
-whole text = joined_pieces (ended text) (ended-is_ended text)
+whole : (text : List ℕ) → concatenated (pieces (ended text)) ≡ ended text
+whole text = concatenated_pieces (ended text) (ended-is_ended text)
 
 module _ (texts : FourTexts) (unmarked : AreUnmarked texts) where
   pub no_mark_fault : marks_fault (marked_text texts) ≡ None
@@ -67,8 +68,8 @@ module _ (texts : FourTexts) (unmarked : AreUnmarked texts) where
 
   pub sections_are : sections (marked_text texts) ≡ [] ∷ ended texts.netlist ∷ ended texts.scan ∷ ended texts.patterns ∷ ended texts.neighbours ∷ []
   sections_are =
-      ap (λ ps. map joined (slice_split is_mark ps)) (cut_bundle pieces pieces_behind texts)
-      ∙ ap (map joined) (split_at_markers (pieces (ended texts.netlist)) (pieces (ended texts.scan)) (pieces (ended texts.patterns)) (pieces (ended texts.neighbours)) unmarked.netlist unmarked.scan unmarked.patterns unmarked.neighbours)
+      ap (λ ps. map concatenated (slice_split is_mark ps)) (cut_bundle pieces pieces_behind texts)
+      ∙ ap (map concatenated) (split_at_markers (pieces (ended texts.netlist)) (pieces (ended texts.scan)) (pieces (ended texts.patterns)) (pieces (ended texts.neighbours)) unmarked.netlist unmarked.scan unmarked.patterns unmarked.neighbours)
       ∙ rw (whole texts.netlist, whole texts.scan, whole texts.patterns, whole texts.neighbours) refl
 
   pub texts_are : texts_in texts.profile (marked_text texts) ≡ ended_texts texts

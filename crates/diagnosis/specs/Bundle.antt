@@ -1,5 +1,5 @@
 -- Bundles: the profile of a design and its four texts in one text.
-use Rattle.std.specs.Prelude.{ℕ, ◌+◌, ◌==◌, Bool, not, ◌&&◌, ◌||◌, nat_lt, if◌then◌else◌, List, [], ◌∷◌, ◌++◌, length, map, filter, flat_map, take, cond, slice_index_or, codes, Option, Some, None, Result, Ok, Err}
+use Rattle.std.specs.Prelude.{ℕ, ◌+◌, ◌==◌, Bool, not, ◌&&◌, ◌||◌, nat_lt, if◌then◌else◌, List, [], ◌∷◌, ◌++◌, length, map, filter, take, cond, slice_index_or, codes, Option, Some, None, Result, Ok, Err}
 use Rattle.std.specs.List.{slice_split, after_first}
 use Rattle.std.specs.Option.{option_map}
 use Rattle.std.specs.Str.{bytes_eq}
@@ -8,6 +8,7 @@ use Rattle.scan_model.specs.declared.fault.Profile.TheVariants.{One, Two}
 use Rattle.scan_model.specs.ScanTest.{ScanTest}
 use Rattle.scan_model.specs.Lines.{text_lines, line_at}
 use Rattle.scan_model.specs.TextFaults.{first_fault}
+use Rattle.scan_model.specs.ReportText.{concatenated}
 use Rattle.text_parts.specs.TextEnd.{ended}
 use Rattle.diagnosis.specs.declared.section.Section.{Section}
 use Rattle.diagnosis.specs.declared.section.Section.TheVariants.{Bundle, Netlist, Scan, Patterns, Neighbours}
@@ -50,12 +51,9 @@ pieces (b ∷ bs) = cond (b == 10) ((b ∷ []) ∷ pieces bs) (onto b (pieces bs
     onto b [] = (b ∷ []) ∷ []
     onto b (piece ∷ more) = (b ∷ piece) ∷ more
 
-abbrev pub joined : List (List ℕ) → List ℕ
-joined parts = flat_map (λ part. part) parts
-
 -- the bytes before the first marker, and behind each marker up to the next
 abbrev pub sections : List ℕ → List (List ℕ)
-sections bytes = map joined (slice_split is_mark (pieces bytes))
+sections bytes = map concatenated (slice_split is_mark (pieces bytes))
 
 abbrev pub section_at : List ℕ → ℕ → List ℕ
 section_at bytes i = slice_index_or (sections bytes) i []

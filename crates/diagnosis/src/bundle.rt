@@ -88,9 +88,9 @@ impl<'a> Rest<'a> {
         requires due { due < 4 }
         requires place { is_due self.now ≡ true }
         requires room { HasRoom self.now }
-        ensures sections { IfSome result (λ behind. sections self.now.text.now ≡ [] ∷ sections behind.text.now) }
-        ensures fault { IfSome result (λ behind. rest_fault due self.now ≡ rest_fault (due + 1) behind) }
-        ensures line { IfSome result (λ behind. 0 < self.now.line → 1 < behind.line) }
+        ensures sections { IfSome result (λ rest. sections self.now.text.now ≡ [] ∷ sections rest.text.now) }
+        ensures fault { IfSome result (λ rest. rest_fault due self.now ≡ rest_fault (due + 1) rest) }
+        ensures line { IfSome result (λ rest. 0 < self.now.line → 1 < rest.line) }
         ensures room { IfSome result HasRoom }
         ensures none { IfNone result (rest_fault due self.now ≡ Some (self.now.line, 81)) }
     {
@@ -144,7 +144,7 @@ impl<'a> Rest<'a> {
         ensures small { IfErr result (λ f. f.line ≤ 2 ^ 63) }
     {
         match self.behind_marker(due) {
-            Some(behind) => Ok(behind.text_before_mark()),
+            Some(rest) => Ok(rest.text_before_mark()),
             None => Err(self.fault()),
         }
     }

@@ -217,7 +217,7 @@ pub fn case_diagnosis<R: Threads + Sync>(
     case: &Case,
 ) -> Result<Diagnosis, NoMemory>
     ensures lines { IfOk result (λ d. d.report ≡ case_lines case.now) }
-    ensures report { IfOk result (λ d. text_of.joined d.report ≡ case_report case.now) }
+    ensures report { IfOk result (λ d. text_of.concatenated d.report ≡ case_report case.now) }
     ensures candidates { IfOk result (λ d. d.candidates ≡ ranked (candidates case.now.test (facts_of case.now.logs))) }
 {
     diagnosis_of(rt, alloc, &case.subject())
@@ -231,8 +231,8 @@ pub fn case_report<R: Threads + Sync>(
     case: &Case,
 ) -> Result<Report, NoMemory>
     ensures lines { IfOk result (λ report. report ≡ case_lines case.now) }
-    ensures report { IfOk result (λ report. text_of.joined report ≡ case_report case.now) }
-    ensures any_order { (others : List (List ℕ)) → HaveSameTexts (texts_of case.now.logs) others → IfOk result (λ report. text_of.joined report ≡ die_report case.now.test case.now.design case.now.die others) }
+    ensures report { IfOk result (λ report. text_of.concatenated report ≡ case_report case.now) }
+    ensures any_order { (others : List (List ℕ)) → HaveSameTexts (texts_of case.now.logs) others → IfOk result (λ report. text_of.concatenated report ≡ die_report case.now.test case.now.design case.now.die others) }
 {
     let diagnosis = case_diagnosis(rt, alloc, case)?;
     Ok(diagnosis.report)

@@ -25,7 +25,7 @@ pub fn make_diagnosis<R: Threads + Sync>(
     view: &DieView,
 ) -> Result<Diagnosis, NoMemory>
     ensures lines { IfOk result (λ d. d.report ≡ view_lines view.now) }
-    ensures report { IfOk result (λ d. text_of.joined d.report ≡ view_report view.now) }
+    ensures report { IfOk result (λ d. text_of.concatenated d.report ≡ view_report view.now) }
     ensures cut { IfOk result (λ d. pieces (view_report view.now) ≡ d.report) }
     ensures candidates { IfOk result (λ d. d.candidates ≡ ranked (candidates view.now.design.test (facts_of view.now.logs))) }
 {
@@ -51,9 +51,9 @@ pub fn make_report<R: Threads + Sync>(
     view: &DieView,
 ) -> Result<Report, NoMemory>
     ensures lines { IfOk result (λ report. report ≡ view_lines view.now) }
-    ensures report { IfOk result (λ report. text_of.joined report ≡ view_report view.now) }
+    ensures report { IfOk result (λ report. text_of.concatenated report ≡ view_report view.now) }
     ensures cut { IfOk result (λ report. pieces (view_report view.now) ≡ report) }
-    ensures any_order { (others : List (List ℕ)) → HaveSameTexts (texts_of view.now.logs) others → IfOk result (λ report. text_of.joined report ≡ die_report view.now.design.test view.now.design.name view.now.die others) }
+    ensures any_order { (others : List (List ℕ)) → HaveSameTexts (texts_of view.now.logs) others → IfOk result (λ report. text_of.concatenated report ≡ die_report view.now.design.test view.now.design.name view.now.die others) }
 {
     let diagnosis = make_diagnosis(rt, alloc, view)?;
     Ok(diagnosis.report)
@@ -105,7 +105,7 @@ impl CheckedView {
 }
 
 fn digest_of(report: &Report) -> Digest
-    ensures { result ≡ sha256 (text_of.joined report.now) }
+    ensures { result ≡ sha256 (text_of.concatenated report.now) }
 {
     Digest::from_bytes(<Sha256 as sha2::Digest>::digest(report.bytes()))
 }

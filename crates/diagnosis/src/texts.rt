@@ -238,16 +238,16 @@ fn whole<T: Drop>(
     alloc: Global,
     profile: Profile,
     netlist: T,
-    behind: DesignReadings<T>,
+    readings: DesignReadings<T>,
 ) -> Result<ReadDesign<T>, NoMemory>
-    requires circuit { IsCircuit behind.circuit }
-    requires chains { AreChains behind.circuit behind.over.chains.value }
-    requires patterns { ArePatterns behind.circuit behind.over.chains.value behind.over.patterns.value }
-    requires pairs { ArePairs behind.circuit behind.over.pairs.value }
-    ensures texts { IfOk result (λ d. (d.netlist ≡ netlist) × (d.scan ≡ behind.over.chains.text) × (d.patterns ≡ behind.over.patterns.text) × (d.neighbours ≡ behind.over.pairs.text)) }
-    ensures parts { IfOk result (λ d. d.parts ≡ scan_test profile behind.circuit behind.over.chains.value behind.over.patterns.value behind.over.pairs.value) }
+    requires circuit { IsCircuit readings.circuit }
+    requires chains { AreChains readings.circuit readings.over.chains.value }
+    requires patterns { ArePatterns readings.circuit readings.over.chains.value readings.over.patterns.value }
+    requires pairs { ArePairs readings.circuit readings.over.pairs.value }
+    ensures texts { IfOk result (λ d. (d.netlist ≡ netlist) × (d.scan ≡ readings.over.chains.text) × (d.patterns ≡ readings.over.patterns.text) × (d.neighbours ≡ readings.over.pairs.text)) }
+    ensures parts { IfOk result (λ d. d.parts ≡ scan_test profile readings.circuit readings.over.chains.value readings.over.patterns.value readings.over.pairs.value) }
 {
-    let DesignReadings { circuit, over } = behind;
+    let DesignReadings { circuit, over } = readings;
     let TestReadings {
         chains,
         patterns,
@@ -284,8 +284,8 @@ pub fn read_from<O, S: TextSource<O>>(
     ensures later { S.faults outside.old ≤ S.faults outside.new }
 {
     let netlist = source.text(alloc, outside, DesignText::Netlist)?;
-    let behind = read_over(alloc, source, outside, &netlist)?;
-    match whole(alloc, source.profile(), netlist, behind) {
+    let readings = read_over(alloc, source, outside, &netlist)?;
+    match whole(alloc, source.profile(), netlist, readings) {
         Ok(design) => Ok(design),
         Err(NoMemory) => Err(source.stop_for_memory()),
     }

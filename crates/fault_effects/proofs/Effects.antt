@@ -74,7 +74,7 @@ module _ (t : ScanTest) (faults : List Fault) (m : FaultModel) (law : IsFaultMod
       → ((j : ℕ) → j < 512 → lane both j ≡ (lane above j && lane lanes j)) → ShowsAs m b root r.gate above → ShowsAs m b root n both
   behind_reader root n r above lanes both sole are of_both shows q j within lt =
       let w = pattern_of b j in
-      behind_bits (m.captures w) (m.shows w n q) (m.shows w r.gate q) (lane lanes j) (m.pin_flips w r.pin r.gate) (law.behind w n r sole q within) (are j lt)
+      behind_bits (m.captures w) (m.shows w n q) (m.shows w r.gate q) (lane lanes j) (m.pin_flips w r.pin r.gate) (law.downstream w n r sole q within) (are j lt)
       ∙ ap (λ (x : Bool). x && lane lanes j) (shows q j within lt)
       ∙ and_assoc (root q j) (lane above j) (lane lanes j)
       ∙ ap (λ (x : Bool). root q j && x) (sym (of_both j lt))

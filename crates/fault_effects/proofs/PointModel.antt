@@ -61,7 +61,7 @@ point_model-logic t sound order ordered = record {
   logic = λ f there logic w q within is. by_kind f there logic w q within is (pattern_at t w).kind refl;
   apart = straight_apart t;
   one_net = λ a b w kind. masks_apart t w a b kind;
-  behind = λ w n r sole q within captured. sole_at t sound order ordered w n r sole (point_at t q) (point_at-IsPoint t sound q within);
+  downstream = λ w n r sole q within captured. sole_at t sound order ordered w n r sole (point_at t q) (point_at-IsPoint t sound q within);
 }
   where
     by_kind : (f : Fault) → Contains (universe t) f → IsLogic f → (w q : ℕ) → q < length (points_of t) → ltb w (length t.patterns) ≡ true → (kind : PatternKind) → (pattern_at t w).kind ≡ kind

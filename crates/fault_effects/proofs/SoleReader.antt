@@ -83,6 +83,6 @@ module _ (t : ScanTest) (sound : IsScanTest t) (order : List ℕ) (ordered : IsE
       go Zero is = by_gate ∙ ap (λ (b : Bool). b && flip_shows_from c s g o) (sym (pin_flips-is Zero is))
       go One is = by_gate ∙ ap (λ (b : Bool). b && flip_shows_from c s g o) (sym (pin_flips-is One is ∙ first sensed))
 
--- the same in a pattern
+-- where the net shows at a point, in a pattern
 pub sole_at : (t : ScanTest) → IsScanTest t → (order : List ℕ) → IsEvaluationOrder t.netlist order → (w n : ℕ) (r : SoleReader) → IsSoleReader t n r → (point : Point) → IsPoint t point → flip_shows_at t w n point ≡ (pin_flips t w r.pin r.gate && flip_shows_at t w r.gate point)
 sole_at t sound order ordered w n r sole point is_point = sole_from t sound order ordered (source_of t None w) n r sole point is_point

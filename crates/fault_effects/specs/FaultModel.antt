@@ -51,7 +51,7 @@ pub record IsFaultModel (t : ScanTest) (faults : List Fault) (m : FaultModel) : 
       → m.fails f w q ≡ (m.captures w && (list_any (λ n. m.flips f w n && m.shows w n q) (touched_nets t f) || m.straight f w q))
   pub apart : (f : Fault) (n w q : ℕ) → IsLogic f → Contains (touched_nets t f) n → m.straight f w q ≡ false
   pub one_net : (a b w : ℕ) (kind : BridgeKind) → (m.flips (Bridge a b kind) w a && m.flips (Bridge a b kind) w b) ≡ false
-  pub behind : (w n : ℕ) (r : SoleReader) → IsSoleReader t n r → (q : ℕ) → q < m.places → m.captures w ≡ true → m.shows w n q ≡ (m.pin_flips w r.pin r.gate && m.shows w r.gate q)
+  pub downstream : (w n : ℕ) (r : SoleReader) → IsSoleReader t n r → (q : ℕ) → q < m.places → m.captures w ≡ true → m.shows w n q ≡ (m.pin_flips w r.pin r.gate && m.shows w r.gate q)
 
 -- What holds of faults of shift paths: a place tells two apart, or one from none, by the points that it sees.
 pub record IsChainModel (t : ScanTest) (m : FaultModel) : Type 0 where

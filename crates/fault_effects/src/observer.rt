@@ -74,7 +74,7 @@ pub trait Observer {
         ensures { (j : ℕ) → j < 512 → (model self.now).captures (pattern_of (block self.now) j) ≡ true → lane result j ≡ (model self.now).flips fault.now (pattern_of (block self.now) j) net };
 
     /// The lanes in which a flip of a pin flips the gate that reads through it.
-    fn behind(&self, pin: u32) -> Row
+    fn downstream(&self, pin: u32) -> Row
         requires ready { ready self.now }
         requires pin { pin < length (test self.now).netlist.pins }
         ensures { (g j : ℕ) → IsPinOf (test self.now) pin g → j < 512 → (model self.now).captures (pattern_of (block self.now) j) ≡ true → lane result j ≡ (model self.now).pin_flips (pattern_of (block self.now) j) pin g };
@@ -129,13 +129,13 @@ pub trait ChainObserver: Observer {
         ensures few { length (seeing self.now point) < 2 ^ 32 };
 
     /// The lanes in which a fault fails at a place, given a scratch in which its chain is loaded as it loads it.
-    fn row(&self, scratch: &Scratch, behind: (u32, u32), kind: CellKind, place: u32) -> Row
+    fn row(&self, scratch: &Scratch, cell: (u32, u32), kind: CellKind, place: u32) -> Row
         requires ready { Self.ready self.now }
-        requires chain { behind.0 < length (Self.test self.now).chains }
-        requires pos { behind.1 < length (chain_at (Self.test self.now) behind.0).cells }
-        requires loaded { IsLoaded (Self.test self.now) (good self.now) (Self.block self.now) behind.0 behind.1 kind scratch.now }
+        requires chain { cell.0 < length (Self.test self.now).chains }
+        requires pos { cell.1 < length (chain_at (Self.test self.now) cell.0).cells }
+        requires loaded { IsLoaded (Self.test self.now) (good self.now) (Self.block self.now) cell.0 cell.1 kind scratch.now }
         requires place { place < (Self.model self.now).places }
-        ensures { (j : ℕ) → j < 512 → lane result j ≡ fails_in (Self.model self.now) (Self.block self.now) (fault.Cell behind.0 behind.1 kind) place j };
+        ensures { (j : ℕ) → j < 512 → lane result j ≡ fails_in (Self.model self.now) (Self.block self.now) (fault.Cell cell.0 cell.1 kind) place j };
 
     /// The sum of nothing. The only error is want of memory.
     fn new_sum(&self, alloc: Global) -> Result<Self::Sum, NoMemory>

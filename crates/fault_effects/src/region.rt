@@ -105,7 +105,7 @@ fn upstream_lanes<O: Observer>(
     if reader.gate != last.net {
         return None;
     }
-    let lanes = work.observer.behind(reader.pin);
+    let lanes = work.observer.downstream(reader.pin);
     Some(last.lanes.and(lanes))
 }
 

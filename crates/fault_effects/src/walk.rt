@@ -44,26 +44,26 @@ fn clear_marks(scratch: &mut Scratch, nets: usize)
 fn begin<O: ChainObserver, L: Ledger>(
     work: &BlockWork<'_, O>,
     scratch: &mut Scratch,
-    behind: (u32, u32),
+    cell: (u32, u32),
     kind: CellKind,
     notes: &mut Notes<O::Sum>,
     steps: &mut Steps<L>,
 ) -> Result<(), NoMemory>
     requires work { IsChainWork O.test O.good O.block O.model O.ready work.now }
     requires scratch { IsScratchOf work.now.good.now scratch.old }
-    requires chain { behind.0 < length work.now.parts.now.chains }
-    requires pos { behind.1 < length (chain_at work.now.parts.now behind.0).cells }
+    requires chain { cell.0 < length work.now.parts.now.chains }
+    requires pos { cell.1 < length (chain_at work.now.parts.now cell.0).cells }
     ensures scratch { IsScratchIn work.now.good.now scratch.new }
-    ensures walk { OnOk result (IsWalkAt work.now.parts.now work.now.good.now (O.model work.now.observer.now) (O.sums work.now.observer.now) work.now.block behind.0 behind.1 kind scratch.new notes.new) }
+    ensures walk { OnOk result (IsWalkAt work.now.parts.now work.now.good.now (O.model work.now.observer.now) (O.sums work.now.observer.now) work.now.block cell.0 cell.1 kind scratch.new notes.new) }
 {
     work.good
-        .load(work.parts, scratch, work.block, behind, kind, steps);
+        .load(work.parts, scratch, work.block, cell, kind, steps);
     clear_marks(scratch, work.parts.circuit().nets().len());
     let loaded = LoadedChain {
         work,
         scratch,
-        chain: behind.0,
-        pos: behind.1,
+        chain: cell.0,
+        pos: cell.1,
         kind,
     };
     loaded.note_all(notes)
@@ -73,29 +73,29 @@ fn begin<O: ChainObserver, L: Ledger>(
 fn note_step<O: ChainObserver>(
     work: &BlockWork<'_, O>,
     scratch: &Scratch,
-    behind: (u32, u32),
+    cell: (u32, u32),
     above: u32,
     kind: CellKind,
     notes: &mut Notes<O::Sum>,
 )
     requires work { IsChainWork O.test O.good O.block O.model O.ready work.now }
-    requires chain { behind.0 < length work.now.parts.now.chains }
-    requires pos { above < length (chain_at work.now.parts.now behind.0).cells }
-    requires above { above ≡ behind.1 + 1 }
-    requires loaded { IsLoaded work.now.parts.now work.now.good.now work.now.block behind.0 behind.1 kind scratch.now }
+    requires chain { cell.0 < length work.now.parts.now.chains }
+    requires pos { above < length (chain_at work.now.parts.now cell.0).cells }
+    requires above { above ≡ cell.1 + 1 }
+    requires loaded { IsLoaded work.now.parts.now work.now.good.now work.now.block cell.0 cell.1 kind scratch.now }
     requires notes { AreNotes (O.sums work.now.observer.now) (O.model work.now.observer.now).places notes.old }
     ensures notes { AreNotes (O.sums work.now.observer.now) (O.model work.now.observer.now).places notes.new }
-    ensures step { IsStepNoted work.now.parts.now (O.model work.now.observer.now) work.now.block behind.0 behind.1 kind scratch.now notes.old.rows.items notes.new.rows.items }
+    ensures step { IsStepNoted work.now.parts.now (O.model work.now.observer.now) work.now.block cell.0 cell.1 kind scratch.now notes.old.rows.items notes.new.rows.items }
 {
     let loaded = LoadedChain {
         work,
         scratch,
-        chain: behind.0,
-        pos: behind.1,
+        chain: cell.0,
+        pos: cell.1,
         kind,
     };
     loaded.note_moved(notes);
-    loaded.note_position(notes, behind.1);
+    loaded.note_position(notes, cell.1);
     loaded.note_position(notes, above);
 }
 
@@ -103,21 +103,21 @@ fn note_step<O: ChainObserver>(
 fn step<O: ChainObserver, L: Ledger>(
     work: &BlockWork<'_, O>,
     scratch: &mut Scratch,
-    behind: (u32, u32),
+    cell: (u32, u32),
     above: u32,
     kind: CellKind,
     notes: &mut Notes<O::Sum>,
     steps: &mut Steps<L>,
 )
     requires work { IsChainWork O.test O.good O.block O.model O.ready work.now }
-    requires above { above ≡ behind.1 + 1 }
-    requires walk { IsWalkAt work.now.parts.now work.now.good.now (O.model work.now.observer.now) (O.sums work.now.observer.now) work.now.block behind.0 (behind.1 + 1) kind scratch.old notes.old }
-    ensures { IsWalkAt work.now.parts.now work.now.good.now (O.model work.now.observer.now) (O.sums work.now.observer.now) work.now.block behind.0 behind.1 kind scratch.new notes.new }
+    requires above { above ≡ cell.1 + 1 }
+    requires walk { IsWalkAt work.now.parts.now work.now.good.now (O.model work.now.observer.now) (O.sums work.now.observer.now) work.now.block cell.0 (cell.1 + 1) kind scratch.old notes.old }
+    ensures { IsWalkAt work.now.parts.now work.now.good.now (O.model work.now.observer.now) (O.sums work.now.observer.now) work.now.block cell.0 cell.1 kind scratch.new notes.new }
 {
     let _ = work.parts.chains();
     work.good
-        .load_more(work.parts, scratch, work.block, behind, kind, steps);
-    note_step(work, scratch, behind, above, kind, notes);
+        .load_more(work.parts, scratch, work.block, cell, kind, steps);
+    note_step(work, scratch, cell, above, kind, notes);
     clear_marks(scratch, work.parts.circuit().nets().len());
 }
 
@@ -149,24 +149,24 @@ pub(crate) fn reach<O: ChainObserver, L: Ledger>(
     work: &BlockWork<'_, O>,
     scratch: &mut Scratch,
     at: Option<(u32, u32)>,
-    behind: (u32, u32),
+    cell: (u32, u32),
     kind: CellKind,
     notes: &mut Notes<O::Sum>,
     steps: &mut Steps<L>,
 ) -> Result<(), NoMemory>
     requires work { IsChainWork O.test O.good O.block O.model O.ready work.now }
-    requires chain { behind.0 < length work.now.parts.now.chains }
-    requires pos { behind.1 < length (chain_at work.now.parts.now behind.0).cells }
+    requires chain { cell.0 < length work.now.parts.now.chains }
+    requires pos { cell.1 < length (chain_at work.now.parts.now cell.0).cells }
     requires walk { IsWalk work.now.parts.now work.now.good.now (O.model work.now.observer.now) (O.sums work.now.observer.now) work.now.block kind scratch.old notes.old at }
     ensures scratch { IsScratchIn work.now.good.now scratch.new }
-    ensures walk { OnOk result (IsWalkAt work.now.parts.now work.now.good.now (O.model work.now.observer.now) (O.sums work.now.observer.now) work.now.block behind.0 behind.1 kind scratch.new notes.new) }
+    ensures walk { OnOk result (IsWalkAt work.now.parts.now work.now.good.now (O.model work.now.observer.now) (O.sums work.now.observer.now) work.now.block cell.0 cell.1 kind scratch.new notes.new) }
 {
     if let Some(from) = at {
-        if from.0 == behind.0 && from.1 >= behind.1 {
-            descend(work, scratch, from, behind.1, kind, notes, steps);
+        if from.0 == cell.0 && from.1 >= cell.1 {
+            descend(work, scratch, from, cell.1, kind, notes, steps);
             return Ok(());
         }
     }
     work.good.clear(scratch);
-    begin(work, scratch, behind, kind, notes, steps)
+    begin(work, scratch, cell, kind, notes, steps)
 }

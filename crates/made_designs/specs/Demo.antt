@@ -9,7 +9,7 @@ use Rattle.scan_model.specs.ScanTest.{ScanTest}
 use Rattle.scan_model.specs.Universe.{universe}
 use Rattle.scan_model.specs.MatchCounts.{candidates}
 use Rattle.scan_model.specs.Ranking.{ranked}
-use Rattle.scan_model.specs.ReportText.{line, joined, fault_words}
+use Rattle.scan_model.specs.ReportText.{line, concatenated, fault_words}
 use Rattle.scan_model.specs.DieReport.{die_report}
 use Rattle.diag_report.specs.PredictedLog.{fault_of, predicted_bits, predicted_log, predicted_facts}
 use Rattle.diag_report.specs.Summary.{count_line}
@@ -81,7 +81,7 @@ demo_lines seed blocks t =
 
 -- over what texts stand for: those of 1 to 200 blocks break no rule, so that there is a test
 abbrev pub text_over : ℕ → ℕ → Result ScanTest (Section × (ℕ × ℕ)) → List ℕ
-text_over seed blocks (Ok t) = joined (demo_lines seed blocks t)
+text_over seed blocks (Ok t) = concatenated (demo_lines seed blocks t)
 text_over seed blocks (Err refused) = []
 
 abbrev pub demo_written : ℕ → ℕ → List ℕ

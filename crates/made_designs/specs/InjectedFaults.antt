@@ -3,7 +3,7 @@ use Rattle.std.specs.Prelude.{◌≡◌, ℕ, ◌<◌, List, [], ◌∷◌, leng
 use Rattle.scan_model.specs.declared.fault.Fault.{Fault}
 use Rattle.scan_model.specs.ScanTest.{ScanTest}
 use Rattle.scan_model.specs.Universe.{universe}
-use Rattle.scan_model.specs.ReportText.{line, joined}
+use Rattle.scan_model.specs.ReportText.{line, concatenated}
 use Rattle.diag_report.specs.PredictedLog.{fault_of, predicted_log, predicted_facts}
 use Rattle.diag_report.specs.Summary.{count_line}
 use Rattle.diagnosis.specs.Texts.{FourTexts}
@@ -63,7 +63,7 @@ pub record IsDrawn (seed blocks : ℕ) (t : ScanTest) (place : Option ℕ) : Typ
 
 -- the text over a scan test
 pub record IsText (seed blocks : ℕ) (t : ScanTest) (text : List ℕ) : Type 0 where
-  pub is : text ≡ joined (demo_lines seed blocks t)
+  pub is : text ≡ concatenated (demo_lines seed blocks t)
 
 -- the texts that were made
 abbrev pub texts_of : MadeDesign → FourTexts

@@ -62,8 +62,8 @@ fn add_ranking(
     place: u32,
 ) -> Result<(), NoMemory>
     ensures { OnOk result (text.new ≡ ((text.old ++ count_line (codes "candidates") (length diagnosis.now.candidates))
-        ++ text_of.joined (rank_lines diagnosis.now.candidates place))
-        ++ text_of.line (codes "digest" ∷ encode_lower (sha256 (text_of.joined diagnosis.now.report)) ∷ [])) }
+        ++ text_of.concatenated (rank_lines diagnosis.now.candidates place))
+        ++ text_of.line (codes "digest" ∷ encode_lower (sha256 (text_of.concatenated diagnosis.now.report)) ∷ [])) }
 {
     let candidates = &diagnosis.candidates;
     add_count(alloc, text, "candidates", candidates.len() as u64)?;
@@ -81,7 +81,7 @@ fn add_diagnosis<R: Threads + Sync>(
 ) -> Result<(), NoMemory>
     requires case { IsDemoCase case.old }
     requires found { IsFound case.old.test injected }
-    ensures { OnOk result (text.new ≡ text.old ++ text_of.joined (injected_lines case.old.test (Some injected.place))) }
+    ensures { OnOk result (text.new ≡ text.old ++ text_of.concatenated (injected_lines case.old.test (Some injected.place))) }
 {
     let place = injected.place;
     add_fault(alloc, text, case.parts(), &injected)?;
@@ -99,7 +99,7 @@ fn add_found<R: Threads + Sync>(
 ) -> Result<(), NoMemory>
     requires case { IsDemoCase case.old }
     requires found { IfSome injected (IsFound case.old.test) }
-    ensures { OnOk result (text.new ≡ text.old ++ text_of.joined (injected_lines case.old.test (place_of injected))) }
+    ensures { OnOk result (text.new ≡ text.old ++ text_of.concatenated (injected_lines case.old.test (place_of injected))) }
 {
     match injected {
         None => text.append(b"injected none\n"),

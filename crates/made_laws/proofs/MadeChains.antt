@@ -21,7 +21,7 @@ use Rattle.made_laws.proofs.Plans.{IsNetName, AreKeyed}
 use Rattle.made_laws.proofs.Keyed.{keyed_append, keyed_new}
 use Rattle.made_laws.proofs.MadeNames.{numbers_in, numbers_back, is_name, read_number, number_read, name_bytes, few_digits}
 use Rattle.made_laws.proofs.PlanRanges.{all_range, flat_range}
-use Rattle.made_laws.proofs.WordTexts.{spaced_is, joined_range, text_is, line_count, words_before, all_words, words_here, accepted_here}
+use Rattle.made_laws.proofs.WordTexts.{spaced_is, concatenated_range, text_is, line_count, words_before, all_words, words_here, accepted_here}
 
 -- ---- words
 
@@ -225,7 +225,7 @@ module _ (blocks : ℕ) (few : blocks ≤ 200) where
         (none_fails (is_flop_net nets) (chain_cells blocks h) (each_cell (is_flop_net nets) are_flops h lt)) (not_taken h lt) (few_titles h lt)
 
     scan_text_lines : text_lines (made_scan blocks) ≡ scan_lines
-    scan_text_lines = ap text_lines (sym (joined_range (chain_words blocks) (chain_line blocks) (line_is blocks) 0 (chain_count blocks))) ∙ text_is (chain_words blocks) (chain_count blocks) is_line
+    scan_text_lines = ap text_lines (sym (concatenated_range (chain_words blocks) (chain_line blocks) (line_is blocks) 0 (chain_count blocks))) ∙ text_is (chain_words blocks) (chain_count blocks) is_line
 
     pub scan_stands : scan_reading nets (made_scan blocks) ≡ Ok (map (numbered nets) (map (made_chain blocks) (range_with_len 0 (chain_count blocks))))
     scan_stands =

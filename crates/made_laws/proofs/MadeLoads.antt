@@ -16,7 +16,7 @@ use Rattle.scan_model.proofs.FaultSteps.{fault_from_none}
 use Rattle.diag_report.proofs.PlainWords.{IsLine}
 use Rattle.made_laws.specs.MadeScan.{chain_count, chain_blocks}
 use Rattle.made_laws.specs.MadePatterns.{first_draw, pattern_line, made_patterns}
-use Rattle.made_laws.proofs.WordTexts.{joined_range, text_is, line_count, words_before, all_words, words_here, accepted_here}
+use Rattle.made_laws.proofs.WordTexts.{concatenated_range, text_is, line_count, words_before, all_words, words_here, accepted_here}
 use Rattle.made_laws.proofs.PatternWords.{digit_values, digit_count, shift_words, capture_words, pattern_words, of_words, line_is, is_line, load_count, loads_fit, loads_valued}
 
 -- what the patterns are for
@@ -129,7 +129,7 @@ module _ (seed blocks : ℕ) (some : 0 < blocks) (few : blocks ≤ 200) where
     loads_stand =
         let count : length ls ≡ n = line_count (pattern_words seed blocks) n each_line in
         let lines : text_lines (flat_map (pattern_line seed blocks) (range_with_len 0 n)) ≡ ls =
-        ap text_lines (sym (joined_range (pattern_words seed blocks) (pattern_line seed blocks) (line_is seed blocks) 0 n)) ∙ text_is (pattern_words seed blocks) n each_line in
+        ap text_lines (sym (concatenated_range (pattern_words seed blocks) (pattern_line seed blocks) (line_is seed blocks) 0 n)) ∙ text_is (pattern_words seed blocks) n each_line in
         let none : first_fault (pattern_rule frame ls) (length ls + 1) ≡ None =
         ap (λ (k : ℕ). fault_from (pattern_rule frame ls) 0 (k + 1)) count ∙ fault_from_none (pattern_rule frame ls) 0 (n + 1) (λ k low high. rule_at k (omega arith)) in
         ap (λ (xs : List (List ℕ)). refused_or (first_fault (pattern_rule frame xs) (length xs + 1)) (patterns_of frame xs)) lines

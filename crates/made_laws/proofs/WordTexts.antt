@@ -6,7 +6,7 @@ use Rattle.std.proofs.lemmas.List.{length-map}
 use Rattle.std.proofs.lemmas.List.FromFn.{length-range_with_len, take-map-range_with_len}
 use Rattle.scan_model.specs.Lines.{text_lines, line_at, has_refused_byte}
 use Rattle.scan_model.specs.Words.{words, word_lines}
-use Rattle.scan_model.specs.ReportText.{spaced, line, joined}
+use Rattle.scan_model.specs.ReportText.{spaced, line, concatenated}
 use Rattle.diag_report.proofs.PlainWords.{IsLine, AreLines, lines_back, words_of_line, word_lines_back, none_refused}
 
 -- words after the first, each after a space
@@ -33,9 +33,9 @@ pub flat_map_range : {X : Type 0} (t : X → List ℕ) (f : ℕ → X) (a n : �
 flat_map_range t f a zero = refl
 flat_map_range t f a (suc n) = ap (λ (bs : List ℕ). t (f a) ++ bs) (flat_map_range t f (a + 1) n)
 
-pub joined_range : (f : ℕ → List (List ℕ)) (g : ℕ → List ℕ) → ((x : ℕ) → line (f x) ≡ g x) → (a n : ℕ) → joined (map line (map f (range_with_len a n))) ≡ flat_map g (range_with_len a n)
-joined_range f g each a zero = refl
-joined_range f g each a (suc n) = ap₂ (λ (xs ys : List ℕ). xs ++ ys) (each a) (joined_range f g each (a + 1) n)
+pub concatenated_range : (f : ℕ → List (List ℕ)) (g : ℕ → List ℕ) → ((x : ℕ) → line (f x) ≡ g x) → (a n : ℕ) → concatenated (map line (map f (range_with_len a n))) ≡ flat_map g (range_with_len a n)
+concatenated_range f g each a zero = refl
+concatenated_range f g each a (suc n) = ap₂ (λ (xs ys : List ℕ). xs ++ ys) (each a) (concatenated_range f g each (a + 1) n)
 
 -- ---- the lines of such a text
 
@@ -46,7 +46,7 @@ module _ (f : ℕ → List (List ℕ)) (n : ℕ) (lines : (x : ℕ) → x < n �
   abbrev pub line_list : List (List ℕ)
   line_list = map (λ x. spaced (f x)) (range_with_len 0 n)
 
-  pub text_is : text_lines (joined (map line (map f (range_with_len 0 n)))) ≡ line_list
+  pub text_is : text_lines (concatenated (map line (map f (range_with_len 0 n)))) ≡ line_list
   text_is = lines_back (map f (range_with_len 0 n)) (are_lines n (omega arith)) ∙ map_twice spaced f 0 n
 
   pub line_count : length line_list ≡ n

@@ -28,8 +28,8 @@ abbrev pub point_row_at : List PointRow → ℕ → PointRow
 point_row_at rows k = slice_index_or rows k no_point_row
 
 abbrev pub list_on : Side → FlipRows → List (List ℕ)
-list_on Failing shown = shown.fails.items
-list_on Passing shown = shown.passes.items
+list_on Failing shown = shown.failing.items
+list_on Passing shown = shown.passing.items
 
 abbrev pub count_on : Side → BlockCount → ℕ
 count_on Failing count = count.tfsf

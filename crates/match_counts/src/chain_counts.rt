@@ -54,15 +54,8 @@ impl ChainObserver for PointCounts<'_> {
         if nth == 0 { Some(point) } else { None }
     }
 
-    fn row(&self, scratch: &Scratch, behind: (u32, u32), kind: CellKind, place: u32) -> Row {
-        self.good.predicted_row(
-            self.parts,
-            scratch,
-            self.block,
-            behind,
-            kind,
-            place as usize,
-        )
+    fn row(&self, scratch: &Scratch, cell: (u32, u32), kind: CellKind, place: u32) -> Row {
+        self.good.predicted_row(self.parts, scratch, self.block, cell, kind, place as usize)
     }
 
     fn new_sum(&self, alloc: Global) -> Result<PlaceCounts, NoMemory> {

@@ -7,17 +7,17 @@ use lane_rows::Row;
 /// Rows without a lane are left out.
 #[derive(Debug, Drop)]
 pub struct FlipRows {
-    pub fails: Vec<Row>,
-    pub passes: Vec<Row>,
+    pub failing: Vec<Row>,
+    pub passing: Vec<Row>,
 }
 
 impl FlipRows {
     /// Drops what was kept.
     pub fn clear(&mut self)
-        ensures fails { self.new.fails.items ≡ [] }
-        ensures passes { self.new.passes.items ≡ [] }
+        ensures failing { self.new.failing.items ≡ [] }
+        ensures passing { self.new.passing.items ≡ [] }
     {
-        self.fails.clear();
-        self.passes.clear();
+        self.failing.clear();
+        self.passing.clear();
     }
 }

@@ -30,12 +30,12 @@ fn push_some(rows: &mut Vec<Row>, row: Row) -> Result<(), NoMemory>
 impl FlipRows {
     /// Room for a flip, with nothing kept.
     pub fn new(alloc: Global) -> FlipRows
-        ensures fails { result.fails.items ≡ [] }
-        ensures passes { result.passes.items ≡ [] }
+        ensures failing { result.failing.items ≡ [] }
+        ensures passing { result.passing.items ≡ [] }
     {
         FlipRows {
-            fails: Vec::new(alloc),
-            passes: Vec::new(alloc),
+            failing: Vec::new(alloc),
+            passing: Vec::new(alloc),
         }
     }
 
@@ -44,8 +44,8 @@ impl FlipRows {
         ensures { OnOk result ((side : Side) (m : ℕ → Bool) → tallied (list_on side self.new) m
             ≡ tallied (list_on side self.old) m + count_lanes (λ j. (lane caught j && lane (row_on side row.now) j) && m j)) }
     {
-        push_some(&mut self.fails, caught.and(row.failing))?;
-        push_some(&mut self.passes, caught.and(row.passing))?;
+        push_some(&mut self.failing, caught.and(row.failing))?;
+        push_some(&mut self.passing, caught.and(row.passing))?;
         Ok(())
     }
 
@@ -72,8 +72,8 @@ impl FlipRows {
         ensures { OnOk result (IsShown counts.now.parts.now counts.now.good.now scratch.now counts.now.block counts.now.rows.now self.new) }
     {
         let _ = counts.parts.points();
-        self.fails.clear();
-        self.passes.clear();
+        self.failing.clear();
+        self.passing.clear();
         let capture = counts.good.blocks()[counts.block].capture;
         let nets = scratch.nets();
         for net in nets {
@@ -97,8 +97,8 @@ impl FlipRows {
         ensures few { (side : Side) → count_on side result < 2 ^ 31 }
     {
         BlockCount {
-            tfsf: tally(&self.fails, mask),
-            tpsf: tally(&self.passes, mask),
+            tfsf: tally(&self.failing, mask),
+            tpsf: tally(&self.passing, mask),
         }
     }
 }

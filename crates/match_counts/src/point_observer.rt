@@ -74,7 +74,7 @@ impl Observer for PointCounts<'_> {
         }
     }
 
-    fn behind(&self, pin: u32) -> Row {
+    fn downstream(&self, pin: u32) -> Row {
         self.flips_behind(pin)
     }
 

@@ -68,20 +68,20 @@ impl PackedGood {
         parts: &Parts,
         scratch: &Scratch,
         block: usize,
-        behind: (u32, u32),
+        cell: (u32, u32),
         kind: CellKind,
         at: u32,
     ) -> Row
         requires good { BelongsTo parts.now self.now }
         requires block { block < length self.now.rows }
-        requires chain { behind.0 < length parts.now.chains }
-        requires loaded { IsLoaded parts.now self.now block behind.0 behind.1 kind scratch.now }
-        requires at { at < length (chain_at parts.now behind.0).cells }
+        requires chain { cell.0 < length parts.now.chains }
+        requires loaded { IsLoaded parts.now self.now block cell.0 cell.1 kind scratch.now }
+        requires at { at < length (chain_at parts.now cell.0).cells }
         ensures { (j : ℕ) → j < 512 → lane result j ≡ (nat_lt (pattern_of block j) (length parts.now.patterns)
-            && are_opposite (observed parts.now None (pattern_of block j) (point.Cell behind.0 at)) (observed parts.now (Some (fault.Cell behind.0 behind.1 kind)) (pattern_of block j) (point.Cell behind.0 at))) }
+            && are_opposite (observed parts.now None (pattern_of block j) (point.Cell cell.0 at)) (observed parts.now (Some (fault.Cell cell.0 cell.1 kind)) (pattern_of block j) (point.Cell cell.0 at))) }
     {
-        let expected = self.expected_row(parts, block, behind.0, at);
-        let shown = self.shown(parts, scratch, block, behind, kind, at);
+        let expected = self.expected_row(parts, block, cell.0, at);
+        let shown = self.shown(parts, scratch, block, cell, kind, at);
         let differs = expected.opposite(shown);
         let there = self.patterns(parts, block);
         there.and(differs)
@@ -93,21 +93,21 @@ impl PackedGood {
         parts: &Parts,
         scratch: &Scratch,
         block: usize,
-        behind: (u32, u32),
+        cell: (u32, u32),
         kind: CellKind,
         k: usize,
     ) -> Row
         requires good { BelongsTo parts.now self.now }
         requires block { block < length self.now.rows }
-        requires chain { behind.0 < length parts.now.chains }
-        requires loaded { IsLoaded parts.now self.now block behind.0 behind.1 kind scratch.now }
+        requires chain { cell.0 < length parts.now.chains }
+        requires loaded { IsLoaded parts.now self.now block cell.0 cell.1 kind scratch.now }
         requires point { k < length (points_of parts.now) }
-        ensures { (j : ℕ) → j < 512 → lane result j ≡ (nat_lt (pattern_of block j) (length parts.now.patterns) && predicts_fail parts.now (fault.Cell behind.0 behind.1 kind) (bit_of (pattern_of block j) k)) }
+        ensures { (j : ℕ) → j < 512 → lane result j ≡ (nat_lt (pattern_of block j) (length parts.now.patterns) && predicts_fail parts.now (fault.Cell cell.0 cell.1 kind) (bit_of (pattern_of block j) k)) }
     {
         let _ = parts.chains();
         let point = point_of(parts, k);
-        match position_in(point, behind.0) {
-            Some(at) => self.position_row(parts, scratch, block, behind, kind, at),
+        match position_in(point, cell.0) {
+            Some(at) => self.position_row(parts, scratch, block, cell, kind, at),
             None => {
                 let net = self.observed[k];
                 let differs = self.difference(parts, scratch, block, net);
@@ -124,22 +124,22 @@ impl PackedGood {
         parts: &Parts,
         scratch: &Scratch,
         block: usize,
-        behind: (u32, u32),
+        cell: (u32, u32),
         kind: CellKind,
         point: Point,
     ) -> Option<Packed>
         requires good { BelongsTo parts.now self.now }
         requires block { block < length self.now.rows }
-        requires chain { behind.0 < length parts.now.chains }
-        requires loaded { IsLoaded parts.now self.now block behind.0 behind.1 kind scratch.now }
+        requires chain { cell.0 < length parts.now.chains }
+        requires loaded { IsLoaded parts.now self.now block cell.0 cell.1 kind scratch.now }
         requires point { IsPoint parts.now point }
-        ensures { MatchOption result (IsSameShown parts.now block (fault.Cell behind.0 behind.1 kind) point) (IsShownChange parts.now block (fault.Cell behind.0 behind.1 kind) point) }
+        ensures { MatchOption result (IsSameShown parts.now block (fault.Cell cell.0 cell.1 kind) point) (IsShownChange parts.now block (fault.Cell cell.0 cell.1 kind) point) }
     {
         let _ = parts.chains();
-        match position_in(point, behind.0) {
+        match position_in(point, cell.0) {
             Some(at) => {
-                let expected = self.expected_row(parts, block, behind.0, at);
-                let shown = self.shown(parts, scratch, block, behind, kind, at);
+                let expected = self.expected_row(parts, block, cell.0, at);
+                let shown = self.shown(parts, scratch, block, cell, kind, at);
                 Some(expected.xor(shown))
             }
             None => {
@@ -161,19 +161,19 @@ impl PackedGood {
         &self,
         parts: &Parts,
         scratch: &Scratch,
-        behind: (u32, u32),
+        cell: (u32, u32),
         kind: CellKind,
         word: u32,
         k: usize,
     ) -> u64
         requires good { BelongsTo parts.now self.now }
-        requires chain { behind.0 < length parts.now.chains }
-        requires loaded { IsLoaded parts.now self.now (word / 8) behind.0 behind.1 kind scratch.now }
+        requires chain { cell.0 < length parts.now.chains }
+        requires loaded { IsLoaded parts.now self.now (word / 8) cell.0 cell.1 kind scratch.now }
         requires word { 64 * word < length parts.now.patterns }
         requires point { k < length (points_of parts.now) }
-        ensures { (i : ℕ) → i < 64 → (bit_at result i == 1) ≡ (nat_lt (64 * word + i) (length parts.now.patterns) && predicts_fail parts.now (fault.Cell behind.0 behind.1 kind) (bit_of (64 * word + i) k)) }
+        ensures { (i : ℕ) → i < 64 → (bit_at result i == 1) ≡ (nat_lt (64 * word + i) (length parts.now.patterns) && predicts_fail parts.now (fault.Cell cell.0 cell.1 kind) (bit_of (64 * word + i) k)) }
     {
-        let row = self.predicted_row(parts, scratch, word as usize / 8, behind, kind, k);
+        let row = self.predicted_row(parts, scratch, word as usize / 8, cell, kind, k);
         row.word(word as usize % 8)
     }
 

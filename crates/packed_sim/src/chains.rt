@@ -160,22 +160,22 @@ impl PackedGood {
         parts: &Parts,
         scratch: &mut Scratch,
         block: usize,
-        behind: (u32, u32),
+        fault_cell: (u32, u32),
         kind: CellKind,
         steps: &mut Steps<L>,
     )
         requires good { BelongsTo parts.now self.now }
         requires scratch { IsScratchOf self.now scratch.old }
         requires block { block < length self.now.rows }
-        requires chain { behind.0 < length parts.now.chains }
-        requires pos { behind.1 < length (chain_at parts.now behind.0).cells }
-        ensures loaded { IsLoaded parts.now self.now block behind.0 behind.1 kind scratch.new }
-        ensures steps { steps.new ≤ steps.old + length (gates_downstream parts.now (drop (behind.1 + 1) (chain_at parts.now behind.0).cells)) }
+        requires chain { fault_cell.0 < length parts.now.chains }
+        requires pos { fault_cell.1 < length (chain_at parts.now fault_cell.0).cells }
+        ensures loaded { IsLoaded parts.now self.now block fault_cell.0 fault_cell.1 kind scratch.new }
+        ensures steps { steps.new ≤ steps.old + length (gates_downstream parts.now (drop (fault_cell.1 + 1) (chain_at parts.now fault_cell.0).cells)) }
     {
         let _ = parts.chains();
-        let mut at = chain_len(parts, behind.0) - 1;
-        while at > behind.1 as usize {
-            self.load_cell(parts, scratch, block, behind.0, kind, at);
+        let mut at = chain_len(parts, fault_cell.0) - 1;
+        while at > fault_cell.1 as usize {
+            self.load_cell(parts, scratch, block, fault_cell.0, kind, at);
             at -= 1;
         }
         let circuit = parts.circuit();
@@ -183,26 +183,33 @@ impl PackedGood {
         scratch.settle(circuit, &self.wiring, good, steps);
     }
 
-    /// From the fault after position `behind.1` + 1 to that after `behind.1`: one cell is loaded otherwise.
+    /// From the fault after position `fault_cell.1` + 1 to that after `fault_cell.1`: one cell is loaded otherwise.
     pub fn load_more<L: Ledger>(
         &self,
         parts: &Parts,
         scratch: &mut Scratch,
         block: usize,
-        behind: (u32, u32),
+        fault_cell: (u32, u32),
         kind: CellKind,
         steps: &mut Steps<L>,
     )
         requires good { BelongsTo parts.now self.now }
         requires block { block < length self.now.rows }
-        requires chain { behind.0 < length parts.now.chains }
-        requires pos { behind.1 + 1 < length (chain_at parts.now behind.0).cells }
-        requires loaded { IsLoaded parts.now self.now block behind.0 (behind.1 + 1) kind scratch.old }
-        ensures loaded { IsLoaded parts.now self.now block behind.0 behind.1 kind scratch.new }
+        requires chain { fault_cell.0 < length parts.now.chains }
+        requires pos { fault_cell.1 + 1 < length (chain_at parts.now fault_cell.0).cells }
+        requires loaded { IsLoaded parts.now self.now block fault_cell.0 (fault_cell.1 + 1) kind scratch.old }
+        ensures loaded { IsLoaded parts.now self.now block fault_cell.0 fault_cell.1 kind scratch.new }
         ensures moved { HasMoved (block_at self.now block).values scratch.old scratch.new }
     {
         let _ = parts.chains();
-        self.load_cell(parts, scratch, block, behind.0, kind, behind.1 as usize + 1);
+        self.load_cell(
+            parts,
+            scratch,
+            block,
+            fault_cell.0,
+            kind,
+            fault_cell.1 as usize + 1,
+        );
         let circuit = parts.circuit();
         let good = self.values(block);
         scratch.settle(circuit, &self.wiring, good, steps);
@@ -276,21 +283,21 @@ impl PackedGood {
         parts: &Parts,
         scratch: &Scratch,
         block: usize,
-        behind: (u32, u32),
+        fault_cell: (u32, u32),
         kind: CellKind,
         at: u32,
     ) -> Packed
         requires good { BelongsTo parts.now self.now }
         requires block { block < length self.now.rows }
-        requires chain { behind.0 < length parts.now.chains }
-        requires loaded { IsLoaded parts.now self.now block behind.0 behind.1 kind scratch.now }
-        requires at { at < length (chain_at parts.now behind.0).cells }
-        ensures { (j : ℕ) → j < 512 → pattern_of block j < length parts.now.patterns → held result j ≡ observed parts.now (Some (fault.Cell behind.0 behind.1 kind)) (pattern_of block j) (point.Cell behind.0 at) }
+        requires chain { fault_cell.0 < length parts.now.chains }
+        requires loaded { IsLoaded parts.now self.now block fault_cell.0 fault_cell.1 kind scratch.now }
+        requires at { at < length (chain_at parts.now fault_cell.0).cells }
+        ensures { (j : ℕ) → j < 512 → pattern_of block j < length parts.now.patterns → held result j ≡ observed parts.now (Some (fault.Cell fault_cell.0 fault_cell.1 kind)) (pattern_of block j) (point.Cell fault_cell.0 at) }
     {
         let _ = parts.chains();
-        let here = self.held_row(parts, scratch, block, behind.0, at as usize);
-        let next = self.held_row(parts, scratch, block, behind.0, at as usize + 1);
-        let passes = passes_out(kind, behind.1, at);
+        let here = self.held_row(parts, scratch, block, fault_cell.0, at as usize);
+        let next = self.held_row(parts, scratch, block, fault_cell.0, at as usize + 1);
+        let passes = passes_out(kind, fault_cell.1, at);
         let passed = passed_by(kind, here, next);
         if passes { passed } else { here }
     }

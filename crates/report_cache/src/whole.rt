@@ -1,7 +1,7 @@
 //! A report with its digest.
 ghost use Rattle.std.specs.Prelude.{◌≡◌};
 ghost use Rattle.sha2.specs.Sha256.{sha256};
-ghost use Rattle.scan_model.specs.ReportText.{joined};
+ghost use Rattle.scan_model.specs.ReportText.{concatenated};
 
 use diag_report::Report;
 use scan_model::Digest;
@@ -18,13 +18,13 @@ pub struct WholeReport {
 impl Model for WholeReport {
     ghost use Rattle.std.specs.Prelude.{◌≡◌, List, ℕ};
     ghost use Rattle.sha2.specs.Sha256.{sha256};
-    ghost use Rattle.scan_model.specs.ReportText.{joined};
+    ghost use Rattle.scan_model.specs.ReportText.{concatenated};
 
     ghost Value = { List (List ℕ) };
 
     ghost view = { λ w. w.report };
 
-    ghost invariant = { λ w. w.digest ≡ sha256 (joined w.report) };
+    ghost invariant = { λ w. w.digest ≡ sha256 (concatenated w.report) };
 }
 
 impl WholeReport {
@@ -46,7 +46,7 @@ impl WholeReport {
 
     /// The digest of its bytes.
     pub fn digest(&self) -> &Digest
-        ensures { result.now ≡ sha256 (joined self.now) }
+        ensures { result.now ≡ sha256 (concatenated self.now) }
     {
         &self.digest
     }

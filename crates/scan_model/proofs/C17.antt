@@ -24,7 +24,7 @@ use Rattle.scan_model.specs.declared.logs.BitClass.TheVariants.{Failing, Passing
 use Rattle.scan_model.specs.Universe.{universe}
 use Rattle.scan_model.specs.Classes.{class}
 use Rattle.scan_model.specs.MatchCounts.{candidates}
-use Rattle.scan_model.specs.ReportText.{report_text, joined, line}
+use Rattle.scan_model.specs.ReportText.{report_text, concatenated, line}
 use Rattle.scan_model.specs.Suspect.{suspects}
 
 abbrev pub input : List ℕ → Net
@@ -108,9 +108,9 @@ lines =
     ∷ line (codes "candidate 3 fault 18 tfsf 1 tfsp 0 tpsf 0 stem 22 sa0" ∷ [])
     ∷ line (codes "candidate 4 fault 22 tfsf 1 tfsp 0 tpsf 0 branch 3 to 10 2 sa0" ∷ []) ∷ []
 
-report : report_text c17_test (codes "c17") (codes "D1") (fails_22 ∷ []) ≡ joined lines
+report : report_text c17_test (codes "c17") (codes "D1") (fails_22 ∷ []) ≡ concatenated lines
 unfolding values_of digits
 report = refl
 
-report_len : length (joined lines) ≡ 311
+report_len : length (concatenated lines) ≡ 311
 report_len = refl

@@ -147,19 +147,19 @@ abbrev pub report_lines_among : List Fault → ScanTest → List ℕ → List �
 report_lines_among faults t design die logs = report_layout faults t design die (length logs) logs (ranked (candidates_among faults t logs))
 
 -- pieces laid end to end
-abbrev pub joined : List (List ℕ) → List ℕ
-joined pieces = flat_map (λ piece. piece) pieces
+abbrev pub concatenated : List (List ℕ) → List ℕ
+concatenated pieces = flat_map (λ piece. piece) pieces
 
 abbrev pub report_text_among : List Fault → ScanTest → List ℕ → List ℕ → List LogFacts → List ℕ
-report_text_among faults t design die logs = joined (report_lines_among faults t design die logs)
+report_text_among faults t design die logs = concatenated (report_lines_among faults t design die logs)
 
 -- the report over all modelled faults
 abbrev pub report_lines : ScanTest → List ℕ → List ℕ → List LogFacts → List (List ℕ)
 report_lines t design die logs = report_lines_among (universe t) t design die logs
 
 abbrev pub report_text : ScanTest → List ℕ → List ℕ → List LogFacts → List ℕ
-report_text t design die logs = joined (report_lines t design die logs)
+report_text t design die logs = concatenated (report_lines t design die logs)
 
 -- a hundred lines of a text from line number from on, counted from 1, or those that are left
 abbrev pub page_of : List (List ℕ) → ℕ → List ℕ
-page_of lines from = joined (take 100 (drop (from - 1) lines))
+page_of lines from = concatenated (take 100 (drop (from - 1) lines))

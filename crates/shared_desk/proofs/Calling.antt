@@ -14,8 +14,8 @@ use Rattle.book.specs.LegalDeeds.{is_legal}
 use Rattle.diagnosis.specs.Designs.{ReadLogFacts, ViewFacts}
 use Rattle.book.specs.Deeds.{design_text}
 use Rattle.book.specs.Changes.{BookFacts, IsBook, Answered, Changed, after, StandsIn, IsViewIn}
-use Rattle.shared_desk.specs.declared.turns.About.{About}
-use Rattle.shared_desk.specs.declared.turns.View.{View}
+use Rattle.shared_desk.specs.declared.turns.DeskTerms.{DeskTerms}
+use Rattle.shared_desk.specs.declared.turns.SeatView.{SeatView}
 use Rattle.shared_desk.specs.Entries.{mine_of, failed_of}
 use Rattle.shared_desk.specs.OpenBooks.{OpenBookFacts, faults_after}
 use Rattle.shared_desk.specs.Turns.{Slot, at_turn, with_lists}
@@ -67,14 +67,14 @@ answered_anyway (Err NoMemory) answer rose a = tt
 
 -- ---- changes
 
-same_head : (v w : View) (vs ws : List View) → v ∷ vs ≡ w ∷ ws → v ≡ w
+same_head : (v w : SeatView) (vs ws : List SeatView) → v ∷ vs ≡ w ∷ ws → v ≡ w
 same_head v w vs ws e = cc
 
-pub sits_of : (number kept : ℕ) (views : List View) (old : View) → IsDeskSeat number kept views → views ≡ old ∷ [] → IsSeatView number old
+pub sits_of : (number kept : ℕ) (views : List SeatView) (old : SeatView) → IsDeskSeat number kept views → views ≡ old ∷ [] → IsSeatView number old
 sits_of number kept views old sits one = subst (IsSeatView number) (same_head sits.0 old [] [] (sym sits.1 ∙ one)) sits.2
 
 module _ (answer : ℕ → List Deed → Result Put PutFault) (deed : ℕ → Deed) (by : (n : ℕ) → (deed n).by ≡ n) where
-  of_views : (place : TableId) (old turn : View) (b0 b1 : OpenBookFacts) (mark : ℕ) (result : Result Put PutFault) → Took old turn b0
+  of_views : (place : TableId) (old turn : SeatView) (b0 b1 : OpenBookFacts) (mark : ℕ) (result : Result Put PutFault) → Took old turn b0
       → Changed (answer b0.book.limit b0.book.deeds) (deed old.number) result b0.book b1.book → b1.faults ≡ faults_after result b0.faults old.number → mark ≡ length b1.book.deeds → IsBook b1.book
       → Changes (answer old.about.limit) (deed old.number) (seat_of place old) (seat_of place (at_turn (with_lists turn b1.book.deeds b1.faults) false 0 false)) mark result
   of_views place old turn b0 b1 mark result took changed faulted marked book =
@@ -82,9 +82,9 @@ module _ (answer : ℕ → List Deed → Result Put PutFault) (deed : ℕ → De
       let d = deed n in
       let deeds : b1.book.deeds ≡ after result turn.seen d = changed.deeds ∙ ap (λ ds. after result ds d) took.lists.deeds in
       let faults : b1.faults ≡ faults_after result turn.faults n = faulted ∙ ap (λ fs. faults_after result fs n) took.lists.faults in
-      let limit : b1.book.limit ≡ turn.about.limit = changed.limit ∙ (took.lists.limit ∙ sym (ap (λ (a : About). a.limit) took.about)) in
+      let limit : b1.book.limit ≡ turn.about.limit = changed.limit ∙ (took.lists.limit ∙ sym (ap (λ (a : DeskTerms). a.limit) took.about)) in
       let mine_same : mine_of turn.about.base turn.number b1.book.deeds ≡ mine_of old.about.base n b1.book.deeds =
-      ap (λ (a : About). mine_of a.base turn.number b1.book.deeds) took.about ∙ ap (λ k. mine_of old.about.base k b1.book.deeds) took.number in
+      ap (λ (a : DeskTerms). mine_of a.base turn.number b1.book.deeds) took.about ∙ ap (λ k. mine_of old.about.base k b1.book.deeds) took.number in
       record {
         more = record {
           desk = ap (desk_facts place) took.about;
@@ -106,7 +106,7 @@ module _ (answer : ℕ → List Deed → Result Put PutFault) (deed : ℕ → De
         own_faults = ap (λ k. failed_of k b1.faults) took.number ∙ (ap (failed_of n) faults ∙ (failed_after result n turn.faults ∙ ap (λ k. k + length (faults_after result [] n)) took.failed));
       }
 
-  pub changes_seat : (desk : DeskFacts) (seat : SeatFacts) (number kept : ℕ) (place : TableId) (views : List View) (old turn : View) (b0 b1 : OpenBookFacts) (mark : ℕ) (result : Result Put PutFault) (place' : TableId) (views' : List View)
+  pub changes_seat : (desk : DeskFacts) (seat : SeatFacts) (number kept : ℕ) (place : TableId) (views : List SeatView) (old turn : SeatView) (b0 b1 : OpenBookFacts) (mark : ℕ) (result : Result Put PutFault) (place' : TableId) (views' : List SeatView)
       → seat ≡ seat_facts place views → seat.desk ≡ desk → IsDeskSeat number kept views → views ≡ old ∷ [] → Took old turn b0
       → Changed (answer b0.book.limit b0.book.deeds) (deed number) result b0.book b1.book → b1.faults ≡ faults_after result b0.faults number → mark ≡ length b1.book.deeds → IsBook b1.book
       → place' ≡ place → views' ≡ at_turn (with_lists turn b1.book.deeds b1.faults) false 0 false ∷ []
@@ -125,7 +125,7 @@ module _ (answer : ℕ → List Deed → Result Put PutFault) (deed : ℕ → De
 
 -- ---- what the seat has seen holds at its turn
 
-seen_first : (seat : SeatFacts) (place : TableId) (views : List View) (old turn : View) (b : OpenBookFacts) → seat ≡ seat_facts place views → views ≡ old ∷ [] → Took old turn b → IsPrefix seat.seen b.book.deeds
+seen_first : (seat : SeatFacts) (place : TableId) (views : List SeatView) (old turn : SeatView) (b : OpenBookFacts) → seat ≡ seat_facts place views → views ≡ old ∷ [] → Took old turn b → IsPrefix seat.seen b.book.deeds
 seen_first seat place views old turn b seat_is one took =
     let was : seat.seen ≡ old.seen = ap (λ (s : SeatFacts). s.seen) (seat_is ∙ ap (seat_facts place) one) in
     subst (λ (ds : List Deed). IsPrefix ds b.book.deeds) (sym was) (subst (IsPrefix old.seen) (sym took.lists.deeds) took.seen)
@@ -134,21 +134,21 @@ the_text : (o : Option (List ℕ)) → IsSome o → (text : List ℕ) × (o ≡ 
 the_text (Some text) is = (text, refl)
 the_text None is = absurd (true≢false (sym is))
 
-pub stands_at_turn : (seat : SeatFacts) (place : TableId) (views : List View) (old turn : View) (b : OpenBookFacts) (log : ReadLogFacts) → seat ≡ seat_facts place views → views ≡ old ∷ [] → Took old turn b
+pub stands_at_turn : (seat : SeatFacts) (place : TableId) (views : List SeatView) (old turn : SeatView) (b : OpenBookFacts) (log : ReadLogFacts) → seat ≡ seat_facts place views → views ≡ old ∷ [] → Took old turn b
     → IsSome (design_text seat.seen log.design) → StandsIn seat.seen log → StandsIn b.book.deeds log
 stands_at_turn seat place views old turn b log seat_is one took there stands =
     let text = the_text (design_text seat.seen log.design) there in
     stands_after seat.seen b.book.deeds log text.0 (seen_first seat place views old turn b seat_is one took) text.1 stands
 
-pub view_at_turn : (seat : SeatFacts) (place : TableId) (views : List View) (old turn : View) (b : OpenBookFacts) (v : ViewFacts) → seat ≡ seat_facts place views → views ≡ old ∷ [] → Took old turn b
+pub view_at_turn : (seat : SeatFacts) (place : TableId) (views : List SeatView) (old turn : SeatView) (b : OpenBookFacts) (v : ViewFacts) → seat ≡ seat_facts place views → views ≡ old ∷ [] → Took old turn b
     → IsViewIn seat.seen v → IsViewIn b.book.deeds v
 view_at_turn seat place views old turn b v seat_is one took view = view_after seat.seen b.book.deeds v (seen_first seat place views old turn b seat_is one took) view
 
 -- ---- after a look
 
 -- what the seat has seen is the book that was looked into
-pub seen_after : (place : TableId) (views : List View) (turn : View) (b : OpenBookFacts) (book : BookFacts) → book ≡ b.book → views ≡ at_turn (with_lists turn b.book.deeds b.faults) false 0 false ∷ [] → book.deeds ≡ (seat_facts place views).seen
-seen_after place views turn b book same one = ap (λ (k : BookFacts). k.deeds) same ∙ ap (λ (vs : List View). (seat_facts place vs).seen) (sym one)
+pub seen_after : (place : TableId) (views : List SeatView) (turn : SeatView) (b : OpenBookFacts) (book : BookFacts) → book ≡ b.book → views ≡ at_turn (with_lists turn b.book.deeds b.faults) false 0 false ∷ [] → book.deeds ≡ (seat_facts place views).seen
+seen_after place views turn b book same one = ap (λ (k : BookFacts). k.deeds) same ∙ ap (λ (vs : List SeatView). (seat_facts place vs).seen) (sym one)
 
 -- ---- a seat at rest again
 
@@ -158,7 +158,7 @@ after_longer (Ok (Same number)) deeds deed = omega arith
 after_longer (Err fault) deeds deed = omega arith
 
 -- it has seen the deeds of its turn, and no deed was lost since
-sits_again : (number kept mark : ℕ) (views views' : List View) (old : View) (me : Me Slot View) (b0 b1 : OpenBookFacts) → IsDeskSeat number kept views → views ≡ old ∷ [] → HasTurn me → Took old me.0 b0
+sits_again : (number kept mark : ℕ) (views views' : List SeatView) (old : SeatView) (me : Me Slot SeatView) (b0 b1 : OpenBookFacts) → IsDeskSeat number kept views → views ≡ old ∷ [] → HasTurn me → Took old me.0 b0
     → length b0.book.deeds ≤ length b1.book.deeds → b1.book.limit ≡ b0.book.limit → IsBook b1.book → mark ≡ length b1.book.deeds
     → views' ≡ at_turn (with_lists me.0 b1.book.deeds b1.faults) false 0 false ∷ [] → IsDeskSeat number mark views'
 sits_again number kept mark views views' old me b0 b1 sits one turn took longer limit book marked now =
@@ -166,23 +166,23 @@ sits_again number kept mark views views' old me b0 b1 sits one turn took longer 
     let was = sits_of number kept views old sits one in
     let about = took.about in
     let base : old.about.base ≤ length b1.book.deeds = (let e = took.base in let f : length b0.book.deeds ≡ length v.seen = ap length took.lists.deeds in omega arith) in
-    let limit_is : b1.book.limit ≡ v.about.limit = limit ∙ (took.lists.limit ∙ sym (ap (λ (a : About). a.limit) about)) in (
+    let limit_is : b1.book.limit ≡ v.about.limit = limit ∙ (took.lists.limit ∙ sym (ap (λ (a : DeskTerms). a.limit) about)) in (
       at_turn (with_lists v b1.book.deeds b1.faults) false 0 false,
       now,
       record {
         resting = record { spent = turn.spent; waits = refl; holds = refl };
         own = record { mine = refl; failed = refl };
-        base = subst (λ (a : About). a.base ≤ length b1.book.deeds) (sym about) base;
+        base = subst (λ (a : DeskTerms). a.base ≤ length b1.book.deeds) (sym about) base;
         legal = subst (λ (k : ℕ). is_legal k b1.book.deeds ≡ true) limit_is book.legal;
         number = took.number ∙ was.number;
-        given = λ first. took.given ∙ (was.given (sym took.number ∙ first) ∙ ap (λ (a : About). a.seats) (sym about));
+        given = λ first. took.given ∙ (was.given (sym took.number ∙ first) ∙ ap (λ (a : DeskTerms). a.seats) (sym about));
         joined = took.joined ∙ was.joined;
       },
       marked,
     )
 
 -- after a change
-pub sits_changed : (answer : Result Put PutFault) (deed : Deed) (result : Result Put PutFault) (number kept mark : ℕ) (views views' : List View) (old : View) (me : Me Slot View) (b0 b1 : OpenBookFacts) → IsDeskSeat number kept views → views ≡ old ∷ []
+pub sits_changed : (answer : Result Put PutFault) (deed : Deed) (result : Result Put PutFault) (number kept mark : ℕ) (views views' : List SeatView) (old : SeatView) (me : Me Slot SeatView) (b0 b1 : OpenBookFacts) → IsDeskSeat number kept views → views ≡ old ∷ []
     → HasTurn me → Took old me.0 b0 → Changed answer deed result b0.book b1.book → IsBook b1.book → mark ≡ length b1.book.deeds
     → views' ≡ at_turn (with_lists me.0 b1.book.deeds b1.faults) false 0 false ∷ [] → IsDeskSeat number mark views'
 sits_changed answer deed result number kept mark views views' old me b0 b1 sits one turn took changed book marked now =
@@ -190,6 +190,6 @@ sits_changed answer deed result number kept mark views views' old me b0 b1 sits 
     sits_again number kept mark views views' old me b0 b1 sits one turn took longer changed.limit book marked now
 
 -- after a look
-pub sits_looked : (number kept mark : ℕ) (views views' : List View) (old : View) (me : Me Slot View) (b : OpenBookFacts) → IsDeskSeat number kept views → views ≡ old ∷ [] → HasTurn me → Took old me.0 b
+pub sits_looked : (number kept mark : ℕ) (views views' : List SeatView) (old : SeatView) (me : Me Slot SeatView) (b : OpenBookFacts) → IsDeskSeat number kept views → views ≡ old ∷ [] → HasTurn me → Took old me.0 b
     → IsBook b.book → mark ≡ length b.book.deeds → views' ≡ at_turn (with_lists me.0 b.book.deeds b.faults) false 0 false ∷ [] → IsDeskSeat number mark views'
 sits_looked number kept mark views views' old me b sits one turn took book marked now = sits_again number kept mark views views' old me b b sits one turn took (omega arith) refl book marked now

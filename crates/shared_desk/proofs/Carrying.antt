@@ -3,42 +3,42 @@ use Rattle.std.proofs.Common.{◌≡◌, ℕ, List, [], ◌∷◌, Bool, true, f
 use Rattle.std.specs.Prelude.{is_some}
 use Rattle.atomic_table.specs.Table.{Me, rest}
 use Rattle.desk_outside.specs.declared.deed.Deed.{Deed}
-use Rattle.shared_desk.specs.declared.turns.View.{View}
+use Rattle.shared_desk.specs.declared.turns.SeatView.{SeatView}
 use Rattle.shared_desk.specs.OpenBooks.{OpenBookFacts}
 use Rattle.shared_desk.specs.Turns.{Slot, HasLists, TakesTurn, at_turn, with_lists, caught_up, AddsOne}
 use Rattle.shared_desk.specs.Stages.{IsIdle, IsWaiting, KnowsOwn, HasTurn, HoldsBook, Took}
 use Rattle.std.specs.Bool.{OnTrue, OnFalse}
 
 -- a seat that drew a ticket waits with it
-pub drew : (old new : Me Slot View) (ticket : ℕ) → IsIdle old → new ≡ (at_turn old.0 true ticket false, []) → IsWaiting ticket new
+pub drew : (old new : Me Slot SeatView) (ticket : ℕ) → IsIdle old → new ≡ (at_turn old.0 true ticket false, []) → IsWaiting ticket new
 drew old new ticket idle is =
-    subst (λ (m : Me Slot View). IsWaiting ticket m) (sym is) record { spent = idle.view.spent; waits = refl; holds = refl; ticket_is = refl; hand = refl }
+    subst (λ (m : Me Slot SeatView). IsWaiting ticket m) (sym is) record { spent = idle.view.spent; waits = refl; holds = refl; ticket_is = refl; hand = refl }
 
 -- one list of one, taken apart
 pub same_first : (x y : ℕ × Slot) (xs ys : List (ℕ × Slot)) → x ∷ xs ≡ y ∷ ys → x ≡ y
 same_first x y xs ys e = cc
 
-pub took_it : (old turn new : Me Slot View) (ticket : ℕ) (x : Slot) (b : OpenBookFacts) → IsIdle old → TakesTurn (at_turn old.0 true ticket false, []) turn → turn.1 ≡ (0, x) ∷ rest turn.1
+pub took_it : (old turn new : Me Slot SeatView) (ticket : ℕ) (x : Slot) (b : OpenBookFacts) → IsIdle old → TakesTurn (at_turn old.0 true ticket false, []) turn → turn.1 ≡ (0, x) ∷ rest turn.1
     → new ≡ (turn.0, (0, None) ∷ rest turn.1) → x ≡ Some b → HasTurn new × Took old.0 new.0 b
 took_it old turn new ticket x b idle takes hand is some =
-    let v : new.0 ≡ turn.0 = ap (λ (m : Me Slot View). m.0) is in
+    let v : new.0 ≡ turn.0 = ap (λ (m : Me Slot SeatView). m.0) is in
     let one : turn.1 ≡ (0, Some takes.value) ∷ [] = takes.hand in
     let value : x ≡ Some takes.value = ap (λ (p : ℕ × Slot). p.1) (same_first (0, x) (0, Some takes.value) (rest turn.1) [] (sym hand ∙ one)) in
     let is_b : takes.value ≡ b = (let e : Some takes.value ≡ Some b = sym value ∙ some in cc) in
-    let of_view : (P : View → Type 0) → P turn.0 → P new.0 = λ P p. subst P (sym v) p in
+    let of_view : (P : SeatView → Type 0) → P turn.0 → P new.0 = λ P p. subst P (sym v) p in
     let w = takes.view in (
       record {
         own = of_view KnowsOwn (subst KnowsOwn (sym w) record { mine = refl; failed = refl });
-        spent = of_view (λ u. u.spent ≡ false) (ap (λ (u : View). u.spent) w ∙ idle.view.spent);
-        waits = of_view (λ u. u.waits ≡ true) (ap (λ (u : View). u.waits) w);
-        holds = of_view (λ u. u.holds ≡ true) (ap (λ (u : View). u.holds) w);
-        hand = ap (λ (m : Me Slot View). m.1) is ∙ ap (λ xs. (0, None) ∷ xs) (ap rest one);
+        spent = of_view (λ u. u.spent ≡ false) (ap (λ (u : SeatView). u.spent) w ∙ idle.view.spent);
+        waits = of_view (λ u. u.waits ≡ true) (ap (λ (u : SeatView). u.waits) w);
+        holds = of_view (λ u. u.holds ≡ true) (ap (λ (u : SeatView). u.holds) w);
+        hand = ap (λ (m : Me Slot SeatView). m.1) is ∙ ap (λ xs. (0, None) ∷ xs) (ap rest one);
       },
       of_view (λ u. Took old.0 u b) record {
-        about = ap (λ (u : View). u.about) w;
-        number = ap (λ (u : View). u.number) w;
-        given = ap (λ (u : View). u.given) w;
-        joined = ap (λ (u : View). u.joined) w;
+        about = ap (λ (u : SeatView). u.about) w;
+        number = ap (λ (u : SeatView). u.number) w;
+        given = ap (λ (u : SeatView). u.given) w;
+        joined = ap (λ (u : SeatView). u.joined) w;
         seen = takes.seen;
         mine = takes.mine;
         faults = takes.faults;
@@ -50,14 +50,14 @@ took_it old turn new ticket x b idle takes hand is some =
     )
 
 -- the book lies in the seat's place again
-pub put_back : (old new : Me Slot View) (b : OpenBookFacts) → HasTurn old → new ≡ (old.0, (0, Some b) ∷ rest old.1) → HoldsBook new b
+pub put_back : (old new : Me Slot SeatView) (b : OpenBookFacts) → HasTurn old → new ≡ (old.0, (0, Some b) ∷ rest old.1) → HoldsBook new b
 put_back old new b turn is =
-    let v : new.0 ≡ old.0 = ap (λ (m : Me Slot View). m.0) is in record {
+    let v : new.0 ≡ old.0 = ap (λ (m : Me Slot SeatView). m.0) is in record {
       own = subst KnowsOwn (sym v) turn.own;
-      spent = ap (λ (u : View). u.spent) v ∙ turn.spent;
-      waits = ap (λ (u : View). u.waits) v ∙ turn.waits;
-      holds = ap (λ (u : View). u.holds) v ∙ turn.holds;
-      hand = ap (λ (m : Me Slot View). m.1) is ∙ ap (λ xs. (0, Some b) ∷ xs) (ap rest turn.hand);
+      spent = ap (λ (u : SeatView). u.spent) v ∙ turn.spent;
+      waits = ap (λ (u : SeatView). u.waits) v ∙ turn.waits;
+      holds = ap (λ (u : SeatView). u.holds) v ∙ turn.holds;
+      hand = ap (λ (m : Me Slot SeatView). m.1) is ∙ ap (λ xs. (0, Some b) ∷ xs) (ap rest turn.hand);
     }
 
 pub on_true : (b : Bool) (P : Type 0) → b ≡ true → OnTrue b P → P
@@ -69,29 +69,29 @@ on_false false P is p = p
 on_false true P is p = absurd (true≢false is)
 
 -- what a change adds stands in one more deed or one more fault, and leaves the rest
-adds_about : (v : View) (b : OpenBookFacts) → AddsOne v b → (b.opened ≡ v.about.opened) × (b.book.limit ≡ v.about.limit) × (is_some b.book.rows ≡ v.about.tells)
+adds_about : (v : SeatView) (b : OpenBookFacts) → AddsOne v b → (b.opened ≡ v.about.opened) × (b.book.limit ≡ v.about.limit) × (is_some b.book.rows ≡ v.about.tells)
 adds_about v b (inl deed) = (deed.lists.opened, deed.lists.limit, deed.lists.tells)
 adds_about v b (inr fault) = (fault.opened, fault.limit, fault.tells)
 
 -- the book in hand counts
-pub counted_again : (old new : Me Slot View) (b : OpenBookFacts) → HoldsBook old b → AddsOne old.0 b → new ≡ (caught_up old.0 old.1, old.1)
+pub counted_again : (old new : Me Slot SeatView) (b : OpenBookFacts) → HoldsBook old b → AddsOne old.0 b → new ≡ (caught_up old.0 old.1, old.1)
     → (new ≡ (with_lists old.0 b.book.deeds b.faults, (0, Some b) ∷ [])) × HoldsBook new b × HasLists new.0.about new.0.seen new.0.faults b
 counted_again old new b turn adds is =
     let e : new ≡ (with_lists old.0 b.book.deeds b.faults, (0, Some b) ∷ []) = is ∙ ap (λ (xs : List (ℕ × Slot)). (caught_up old.0 xs, xs)) turn.hand in
     let both = adds_about old.0 b adds in (
       e,
-      subst (λ (m : Me Slot View). HoldsBook m b) (sym e) record { own = record { mine = refl; failed = refl }; spent = turn.spent; waits = turn.waits; holds = turn.holds; hand = refl },
-      subst (λ (m : Me Slot View). HasLists m.0.about m.0.seen m.0.faults b) (sym e) record { deeds = refl; faults = refl; opened = both.0; limit = both.1; tells = both.2 },
+      subst (λ (m : Me Slot SeatView). HoldsBook m b) (sym e) record { own = record { mine = refl; failed = refl }; spent = turn.spent; waits = turn.waits; holds = turn.holds; hand = refl },
+      subst (λ (m : Me Slot SeatView). HasLists m.0.about m.0.seen m.0.faults b) (sym e) record { deeds = refl; faults = refl; opened = both.0; limit = both.1; tells = both.2 },
     )
 
-pub same_view : (old : View) (new : Me Slot View) (xs : List (ℕ × Slot)) → new ≡ (old, xs) → new.0 ≡ old
-same_view old new xs is = ap (λ (m : Me Slot View). m.0) is
+pub same_view : (old : SeatView) (new : Me Slot SeatView) (xs : List (ℕ × Slot)) → new ≡ (old, xs) → new.0 ≡ old
+same_view old new xs is = ap (λ (m : Me Slot SeatView). m.0) is
 
 pub same_some : (b c : OpenBookFacts) → Some b ≡ Some c → b ≡ c
 same_some b c e = cc
 
 -- a view that has seen these lists already
-seen_already : (v : View) → KnowsOwn v → with_lists v v.seen v.faults ≡ v
+seen_already : (v : SeatView) → KnowsOwn v → with_lists v v.seen v.faults ≡ v
 seen_already v own =
     ap (λ (p : List Deed × ℕ). record {
       about = v.about;
@@ -108,5 +108,5 @@ seen_already v own =
       joined = v.joined;
     }) (λ i. ((sym own.mine) i, (sym own.failed) i))
 
-pub seen_same : (v : View) (b : OpenBookFacts) → KnowsOwn v → HasLists v.about v.seen v.faults b → with_lists v b.book.deeds b.faults ≡ v
+pub seen_same : (v : SeatView) (b : OpenBookFacts) → KnowsOwn v → HasLists v.about v.seen v.faults b → with_lists v b.book.deeds b.faults ≡ v
 seen_same v b own lists = ap (λ (ds : List Deed). with_lists v ds b.faults) lists.deeds ∙ (ap (with_lists v v.seen) lists.faults ∙ seen_already v own)

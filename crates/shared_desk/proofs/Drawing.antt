@@ -3,16 +3,16 @@ use Rattle.std.proofs.Common.{◌≡◌, ◌+◌, ◌%◌, ◌^◌, ℕ, [], ◌
 use Rattle.std.specs.Prelude.{slice_index, slice_set}
 use Rattle.std.proofs.Math.Nat.{mod-add-mod}
 use Rattle.atomic_table.specs.Table.{Me, keeps, Allows}
-use Rattle.shared_desk.specs.declared.turns.About.{About}
-use Rattle.shared_desk.specs.declared.turns.View.{View}
-use Rattle.shared_desk.specs.Turns.{Slot, Kept, IsSeat, words_of, at_turn, Draws}
+use Rattle.shared_desk.specs.declared.turns.DeskTerms.{DeskTerms}
+use Rattle.shared_desk.specs.declared.turns.SeatView.{SeatView}
+use Rattle.shared_desk.specs.Turns.{Slot, IsDeskTable, IsSeat, words_of, at_turn, Draws}
 use Rattle.shared_desk.proofs.Lists.{get_snoc_old}
 use Rattle.shared_desk.proofs.Orders.{order_draw}
 use Rattle.shared_desk.proofs.SeatLists.{in_use, seats_set, lists_set, grows_same}
 use Rattle.shared_desk.proofs.Turning.{Goes, turn_set}
 
-pub draws_moves : (about : About) (slots id : ℕ) (me : Me Slot View) → me.0.spent ≡ false → me.0.waits ≡ false → me.0.holds ≡ false
-    → Allows (Kept about) slots id me 1 (λ n. (n + 1) % 2 ^ 64) (Draws me)
+pub draws_moves : (about : DeskTerms) (slots id : ℕ) (me : Me Slot SeatView) → me.0.spent ≡ false → me.0.waits ≡ false → me.0.holds ≡ false
+    → Allows (IsDeskTable about) slots id me 1 (λ n. (n + 1) % 2 ^ 64) (Draws me)
 draws_moves about slots id me live idle free s kept len here small =
     let h = kept.history in
     let f = kept.faults in
@@ -26,7 +26,7 @@ draws_moves about slots id me live idle free s kept len here small =
     let words : a ∷ ((n + 1) % 2 ^ 64) ∷ sv % 2 ^ 64 ∷ [] ≡ words_of h f (q ++ id ∷ []) sv =
     ap (λ (z : ℕ). a ∷ z ∷ sv % 2 ^ 64 ∷ []) (mod-add-mod (sv + length q) (2 ^ 64) 1 ∙ ap (λ (z : ℕ). z % 2 ^ 64) (omega arith)) in
     let mine : IsSeat about h f id w = record { spent = live; about = seat.about; number = seat.number; seen = seat.seen; mine = seat.mine; failed = seat.failed } in
-    let body : Goes (Kept about) (λ ws. slice_set ws 1 ((slice_index ws 1 + 1) % 2 ^ 64)) (λ ws. slice_index ws 1) (Draws me) id me s.views (a ∷ n ∷ sv % 2 ^ 64 ∷ []) s.homes = (
+    let body : Goes (IsDeskTable about) (λ ws. slice_set ws 1 ((slice_index ws 1 + 1) % 2 ^ 64)) (λ ws. slice_index ws 1) (Draws me) id me s.views (a ∷ n ∷ sv % 2 ^ 64 ∷ []) s.homes = (
       w,
       keeps,
       tt,
@@ -43,4 +43,4 @@ draws_moves about slots id me live idle free s kept len here small =
       },
       refl,
     ) in
-    subst (λ ws. Goes (Kept about) (λ ws. slice_set ws 1 ((slice_index ws 1 + 1) % 2 ^ 64)) (λ ws. slice_index ws 1) (Draws me) id me s.views ws s.homes) (sym kept.words) body
+    subst (λ ws. Goes (IsDeskTable about) (λ ws. slice_set ws 1 ((slice_index ws 1 + 1) % 2 ^ 64)) (λ ws. slice_index ws 1) (Draws me) id me s.views ws s.homes) (sym kept.words) body

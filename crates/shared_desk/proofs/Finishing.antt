@@ -8,8 +8,8 @@ use Rattle.std.proofs.lemmas.List.Elements.{All-contains, All-head, All-tail}
 use Rattle.atomic_table.specs.Seated.{TableId}
 use Rattle.desk_outside.specs.declared.deed.Deed.{Deed}
 use Rattle.book.specs.Changes.{BookFacts, IsBook}
-use Rattle.shared_desk.specs.declared.turns.Note.{Note}
-use Rattle.shared_desk.specs.declared.turns.View.{View}
+use Rattle.shared_desk.specs.declared.turns.JoinedSeat.{JoinedSeat}
+use Rattle.shared_desk.specs.declared.turns.SeatView.{SeatView}
 use Rattle.shared_desk.specs.Entries.{mine_of, failed_of}
 use Rattle.shared_desk.specs.OpenBooks.{OpenBookFacts, AreCounted}
 use Rattle.shared_desk.specs.Turns.{HasSeen, IsLast, AllNoted, IsJoined}
@@ -68,7 +68,7 @@ told b book some = by_rows b.rows some book.rows
     by_rows (Some rows) some is = is
     by_rows None some is = absurd (true≢false (sym some))
 
-module _ (desk : DeskFacts) (first : SeatFacts) (others list : List SeatFacts) (n : ℕ) (place : TableId) (v w : View)
+module _ (desk : DeskFacts) (first : SeatFacts) (others list : List SeatFacts) (n : ℕ) (place : TableId) (v w : SeatView)
     (parts : list ≡ first ∷ others) (whole : AreAllSeats desk list) (first_is : first ≡ seat_of place v) (sits : IsSeatView n v) (joined : IsJoined v w) (noted : All (λ s. Contains w.joined (seat_note s)) others) where
   first_at : slice_get list 0 ≡ Some first
   first_at = ap (λ xs. slice_get xs 0) parts
@@ -118,7 +118,7 @@ module _ (desk : DeskFacts) (first : SeatFacts) (others list : List SeatFacts) (
         subst (λ (s : SeatFacts). HasSeen desk.base b.book.deeds b.faults 0 s.seen s.faults) (sym is) first_seen
     has_seen (suc i) seat at =
         let there = holds_at (λ s. Contains w.joined (seat_note s)) others i seat noted (other_at i seat at) in
-        let seen = All-contains (λ (note : Note). HasSeen w.about.base b.book.deeds b.faults note.number note.seen note.faults) w.joined (seat_note seat) last.noted there in
+        let seen = All-contains (λ (note : JoinedSeat). HasSeen w.about.base b.book.deeds b.faults note.number note.seen note.faults) w.joined (seat_note seat) last.noted there in
         subst (λ k. HasSeen desk.base b.book.deeds b.faults k seat.seen seat.faults) (whole.numbered (suc i) seat at) (subst (λ k. HasSeen k b.book.deeds b.faults seat.number seat.seen seat.faults) base_is seen)
 
     pub finished : IsBook b.book → AreCounted b.opened (length b.faults) b.book.faults → IsFinished desk list b.book

@@ -5,10 +5,10 @@ use Rattle.std.proofs.lemmas.List.Elements.{All-weaker, All-append, All-cons, Al
 use mathlib.Core.Option as found
 use lib.ListN.{get_elem?}
 use Rattle.atomic_table.specs.Table.{Joins}
-use Rattle.shared_desk.specs.declared.turns.About.{About}
-use Rattle.shared_desk.specs.declared.turns.Note.{Note}
-use Rattle.shared_desk.specs.declared.turns.View.{View}
-use Rattle.shared_desk.specs.Turns.{Kept, IsSpent, IsSeat, IsNoted, IsFirst, with_note, note_of, spent_view, IsHistory}
+use Rattle.shared_desk.specs.declared.turns.DeskTerms.{DeskTerms}
+use Rattle.shared_desk.specs.declared.turns.JoinedSeat.{JoinedSeat}
+use Rattle.shared_desk.specs.declared.turns.SeatView.{SeatView}
+use Rattle.shared_desk.specs.Turns.{IsDeskTable, IsSpent, IsSeat, IsNoted, IsFirst, with_note, note_of, spent_view, IsHistory}
 use Rattle.shared_desk.proofs.Lists.{set_same, set_other, each_set, one_there}
 use Rattle.shared_desk.proofs.Orders.{order_same}
 use Rattle.shared_desk.proofs.SeatLists.{in_use}
@@ -16,8 +16,8 @@ use Rattle.shared_desk.proofs.Longest.{seen_longer}
 use Rattle.shared_desk.proofs.Numbers.{is_first_seat, noted_differ, note_differs}
 use Rattle.shared_desk.proofs.Turning.{turn_set}
 
-pub joins_moves : (about : About) (id : ℕ) (v : View) (other : ℕ) (w : View) → v.spent ≡ false → v.number ≡ 0 → v.holds ≡ false → w.spent ≡ false → w.waits ≡ false → w.holds ≡ false
-    → Joins (Kept about) id v other w (with_note v w) spent_view
+pub joins_moves : (about : DeskTerms) (id : ℕ) (v : SeatView) (other : ℕ) (w : SeatView) → v.spent ≡ false → v.number ≡ 0 → v.holds ≡ false → w.spent ≡ false → w.waits ≡ false → w.holds ≡ false
+    → Joins (IsDeskTable about) id v other w (with_note v w) spent_view
 joins_moves about id v other w live numbered free live_too idle_too free_too s kept here ne there =
     let h = kept.history in
     let f = kept.faults in
@@ -33,9 +33,9 @@ joins_moves about id v other w live numbered free live_too idle_too free_too s k
     let spent_there : get_elem? views other ≡ found.some spent_view = set_same one other w spent_view there in
     let here_now : get_elem? views 0 ≡ found.some both =
     subst (λ i. get_elem? views i ≡ found.some both) is_zero (set_other one other id spent_view (λ e. ne (sym e)) ∙ set_same s.views id v both here) in
-    let noted : (note : Note) → IsNoted about.base h f s.views note → IsNoted about.base h f views note = λ note n.
-    let apart : note.number ≢ id = λ same. true≢false (sym n.spent ∙ (ap (λ (z : View). z.spent) (one_there s.views id n.view v (sym (ap (get_elem? s.views) same) ∙ n.is_it) here) ∙ live)) in
-    let not_it : note.number ≢ other = λ same. true≢false (sym n.spent ∙ (ap (λ (z : View). z.spent) (one_there s.views other n.view w (sym (ap (get_elem? s.views) same) ∙ n.is_it) was) ∙ live_too)) in
+    let noted : (note : JoinedSeat) → IsNoted about.base h f s.views note → IsNoted about.base h f views note = λ note n.
+    let apart : note.number ≢ id = λ same. true≢false (sym n.spent ∙ (ap (λ (z : SeatView). z.spent) (one_there s.views id n.view v (sym (ap (get_elem? s.views) same) ∙ n.is_it) here) ∙ live)) in
+    let not_it : note.number ≢ other = λ same. true≢false (sym n.spent ∙ (ap (λ (z : SeatView). z.spent) (one_there s.views other n.view w (sym (ap (get_elem? s.views) same) ∙ n.is_it) was) ∙ live_too)) in
     record {
       seen = n.seen;
       view = n.view;
@@ -48,7 +48,7 @@ joins_moves about id v other w live numbered free live_too idle_too free_too s k
       is_it = subst (λ i. get_elem? views i ≡ found.some spent_view) (sym seat_too.number) spent_there;
       spent = refl;
     } in
-    let Noted : Note → Type 0 = IsNoted about.base h f views in
+    let Noted : JoinedSeat → Type 0 = IsNoted about.base h f views in
     let both_seat : IsSeat about h f id both = record {
       spent = live;
       about = seat.about;
@@ -57,11 +57,11 @@ joins_moves about id v other w live numbered free live_too idle_too free_too s k
       mine = seat.mine;
       failed = seat.failed;
     } in
-    let each : (i : ℕ) (u : View) → get_elem? views i ≡ found.some u → IsSpent u ⊎ IsSeat about h f i u =
+    let each : (i : ℕ) (u : SeatView) → get_elem? views i ≡ found.some u → IsSpent u ⊎ IsSeat about h f i u =
     each_set (λ i u. IsSpent u ⊎ IsSeat about h f i u) one other spent_view (inl record { spent = refl; waits = refl; holds = refl })
     (λ i u ne e. each_set (λ i u. IsSpent u ⊎ IsSeat about h f i u) s.views id both (inr both_seat) (λ i u ne e. kept.seats.each i u e) i u e) in
-    let not_yet : All (λ (x : Note). x.number ≢ w.number) v.joined = All-weaker (IsNoted about.base h f s.views) (λ (x : Note). x.number ≢ w.number)
-    (λ x n same. true≢false (sym n.spent ∙ (ap (λ (z : View). z.spent) (one_there s.views other n.view w (sym (ap (get_elem? s.views) (same ∙ seat_too.number)) ∙ n.is_it) was) ∙ live_too)))
+    let not_yet : All (λ (x : JoinedSeat). x.number ≢ w.number) v.joined = All-weaker (IsNoted about.base h f s.views) (λ (x : JoinedSeat). x.number ≢ w.number)
+    (λ x n same. true≢false (sym n.spent ∙ (ap (λ (z : SeatView). z.spent) (one_there s.views other n.view w (sym (ap (get_elem? s.views) (same ∙ seat_too.number)) ∙ n.is_it) was) ∙ live_too)))
     v.joined first.joined in
     record {
       history = h;

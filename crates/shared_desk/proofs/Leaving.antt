@@ -5,17 +5,17 @@ use Rattle.std.proofs.Math.Nat.{mod-add-mod}
 use mathlib.Core.Option as found
 use lib.ListN.{get_elem?}
 use Rattle.atomic_table.specs.Table.{Me, gives, Allows}
-use Rattle.shared_desk.specs.declared.turns.About.{About}
-use Rattle.shared_desk.specs.declared.turns.View.{View}
+use Rattle.shared_desk.specs.declared.turns.DeskTerms.{DeskTerms}
+use Rattle.shared_desk.specs.declared.turns.SeatView.{SeatView}
 use Rattle.shared_desk.specs.OpenBooks.{OpenBookFacts}
-use Rattle.shared_desk.specs.Turns.{Slot, Kept, HasLists, IsSeat, words_of, at_turn, Leaves}
+use Rattle.shared_desk.specs.Turns.{Slot, IsDeskTable, HasLists, IsSeat, words_of, at_turn, Leaves}
 use Rattle.shared_desk.proofs.Lists.{each_set, one_there, uncons, not_true}
 use Rattle.shared_desk.proofs.Orders.{order_leave}
 use Rattle.shared_desk.proofs.SeatLists.{in_use, seats_set, lists_set, grows_same}
 use Rattle.shared_desk.proofs.Turning.{Goes}
 
-pub leaves_moves : (about : About) (slots id : ℕ) (me : Me Slot View) (b : OpenBookFacts) → me.0.spent ≡ false → me.0.holds ≡ true → me.0.waits ≡ true → me.1 ≡ (0, Some b) ∷ []
-    → HasLists me.0.about me.0.seen me.0.faults b → Allows (Kept about) slots id me 2 (λ n. (n + 1) % 2 ^ 64) (Leaves me)
+pub leaves_moves : (about : DeskTerms) (slots id : ℕ) (me : Me Slot SeatView) (b : OpenBookFacts) → me.0.spent ≡ false → me.0.holds ≡ true → me.0.waits ≡ true → me.1 ≡ (0, Some b) ∷ []
+    → HasLists me.0.about me.0.seen me.0.faults b → Allows (IsDeskTable about) slots id me 2 (λ n. (n + 1) % 2 ^ 64) (Leaves me)
 leaves_moves about slots id me b live holds waits hand lists s kept len here small =
     let h = kept.history in
     let f = kept.faults in
@@ -31,8 +31,8 @@ leaves_moves about slots id me b live holds waits hand lists s kept len here sma
       | inr out ↦
           let mine : id ≡ out.by = out.only id me.0 here holds in
           let same : out.holder ≡ me.0 = one_there s.views id out.holder me.0 (ap (get_elem? s.views) mine ∙ out.is_it) here in
-          let seen : me.0.seen ≡ h = ap (λ (v : View). v.seen) (sym same) ∙ out.seen in
-          let faulted : me.0.faults ≡ f = ap (λ (v : View). v.faults) (sym same) ∙ out.faults in
+          let seen : me.0.seen ≡ h = ap (λ (v : SeatView). v.seen) (sym same) ∙ out.seen in
+          let faulted : me.0.faults ≡ f = ap (λ (v : SeatView). v.faults) (sym same) ∙ out.faults in
           let first : slice_get q 0 ≡ Some id = out.first ∙ ap Some (sym mine) in
           let u = uncons q id first in
           let r = u.0 in
@@ -40,7 +40,7 @@ leaves_moves about slots id me b live holds waits hand lists s kept len here sma
           let words : a ∷ n1 ∷ ((n2 + 1) % 2 ^ 64) ∷ [] ≡ words_of h f r (sv + 1) =
           ap (λ (y : ℕ × ℕ). a ∷ y.0 ∷ y.1 ∷ []) (λ i. ((ap (λ (z : ℕ). z % 2 ^ 64) (let e : sv + length q ≡ (sv + 1) + length r = omega arith in e)) i, (mod-add-mod sv (2 ^ 64) 1) i)) in
           let as_seat : IsSeat about h f id w = record { spent = live; about = seat.about; number = seat.number; seen = seat.seen; mine = seat.mine; failed = seat.failed } in
-          let Leave : List ℕ → List (found.Option Slot) → Type 0 = λ ws hs. Goes (Kept about) (λ ws. slice_set ws 2 ((slice_index ws 2 + 1) % 2 ^ 64)) (λ ws. slice_index ws 2) (Leaves me) id me s.views ws hs in
+          let Leave : List ℕ → List (found.Option Slot) → Type 0 = λ ws hs. Goes (IsDeskTable about) (λ ws. slice_set ws 2 ((slice_index ws 2 + 1) % 2 ^ 64)) (λ ws. slice_index ws 2) (Leaves me) id me s.views ws hs in
           let body : Leave (a ∷ n1 ∷ n2 ∷ []) (found.none ∷ []) = (
             w,
             gives,
@@ -60,9 +60,9 @@ leaves_moves about slots id me b live holds waits hand lists s kept len here sma
                 lists = record {
                   deeds = lists.deeds ∙ seen;
                   faults = lists.faults ∙ faulted;
-                  opened = lists.opened ∙ ap (λ (x : About). x.opened) seat.about;
-                  limit = lists.limit ∙ ap (λ (x : About). x.limit) seat.about;
-                  tells = lists.tells ∙ ap (λ (x : About). x.tells) seat.about;
+                  opened = lists.opened ∙ ap (λ (x : DeskTerms). x.opened) seat.about;
+                  limit = lists.limit ∙ ap (λ (x : DeskTerms). x.limit) seat.about;
+                  tells = lists.tells ∙ ap (λ (x : DeskTerms). x.tells) seat.about;
                 };
                 nobody = each_set (λ i v. v.holds ≡ false) s.views id w refl (λ i v ne e. not_true v.holds (λ t. ne (out.only i v e t ∙ sym mine)));
               };

@@ -4,17 +4,17 @@ use Rattle.std.specs.Prelude.{All, Contains}
 use Rattle.std.proofs.lemmas.List.Elements.{All-cons, All-weaker, Contains-append_left, Contains-append_right}
 use Rattle.atomic_table.specs.Table.{Me}
 use Rattle.atomic_table.specs.Seated.{TableId}
-use Rattle.shared_desk.specs.declared.turns.Note.{Note}
-use Rattle.shared_desk.specs.declared.turns.View.{View}
+use Rattle.shared_desk.specs.declared.turns.JoinedSeat.{JoinedSeat}
+use Rattle.shared_desk.specs.declared.turns.SeatView.{SeatView}
 use Rattle.shared_desk.specs.Turns.{Slot, note_of, longer, with_note, IsJoined}
 use Rattle.shared_desk.specs.Stages.{IsIdle}
 use Rattle.shared_desk.specs.Seats.{SeatFacts, seat_facts, seat_note}
 use Rattle.shared_desk.proofs.Longest.{prefix_on, longer_first}
 
 -- the first seat, after one more was joined into it
-pub joined_more : (v : View) (me me' : Me Slot View) (w : View) → IsIdle me → IsJoined v me.0 → me' ≡ (with_note me.0 w, []) → IsIdle me' × IsJoined v me'.0 × (me'.0.joined ≡ me.0.joined ++ note_of w ∷ [])
+pub joined_more : (v : SeatView) (me me' : Me Slot SeatView) (w : SeatView) → IsIdle me → IsJoined v me.0 → me' ≡ (with_note me.0 w, []) → IsIdle me' × IsJoined v me'.0 × (me'.0.joined ≡ me.0.joined ++ note_of w ∷ [])
 joined_more v me me' w idle joined next =
-    let At : Me Slot View → Type 0 = λ (m : Me Slot View). IsIdle m × IsJoined v m.0 × (m.0.joined ≡ me.0.joined ++ note_of w ∷ []) in
+    let At : Me Slot SeatView → Type 0 = λ (m : Me Slot SeatView). IsIdle m × IsJoined v m.0 × (m.0.joined ≡ me.0.joined ++ note_of w ∷ []) in
     subst At (sym next) (
       record { view = record { spent = idle.view.spent; waits = idle.view.waits; holds = idle.view.holds }; hand = refl },
       record {
@@ -29,13 +29,13 @@ joined_more v me me' w idle joined next =
       refl,
     )
 
-pub note_is : (place : TableId) (views : List View) (w : View) (seat : SeatFacts) → seat ≡ seat_facts place views → views ≡ w ∷ [] → seat_note seat ≡ note_of w
+pub note_is : (place : TableId) (views : List SeatView) (w : SeatView) (seat : SeatFacts) → seat ≡ seat_facts place views → views ≡ w ∷ [] → seat_note seat ≡ note_of w
 note_is place views w seat is one = ap seat_note (is ∙ ap (seat_facts place) one)
 
-pub noted_more : (notes notes' : List Note) (w : View) (seat : SeatFacts) (done : List SeatFacts) → notes' ≡ notes ++ note_of w ∷ [] → seat_note seat ≡ note_of w
+pub noted_more : (notes notes' : List JoinedSeat) (w : SeatView) (seat : SeatFacts) (done : List SeatFacts) → notes' ≡ notes ++ note_of w ∷ [] → seat_note seat ≡ note_of w
     → All (λ s. Contains notes (seat_note s)) done → All (λ s. Contains notes' (seat_note s)) (seat ∷ done)
 noted_more notes notes' w seat done is note all =
-    let There : List Note → SeatFacts → Type 0 = λ (ns : List Note) (s : SeatFacts). Contains ns (seat_note s) in
-    subst (λ (ns : List Note). All (There ns) (seat ∷ done)) (sym is)
+    let There : List JoinedSeat → SeatFacts → Type 0 = λ (ns : List JoinedSeat) (s : SeatFacts). Contains ns (seat_note s) in
+    subst (λ (ns : List JoinedSeat). All (There ns) (seat ∷ done)) (sym is)
     (All-cons (There (notes ++ note_of w ∷ [])) seat done (subst (Contains (notes ++ note_of w ∷ [])) (sym note) (Contains-append_right notes (note_of w ∷ []) (note_of w) (0, omega arith, refl)))
     (All-weaker (There notes) (There (notes ++ note_of w ∷ [])) (λ s there. Contains-append_left notes (note_of w ∷ []) (seat_note s) there) done all))

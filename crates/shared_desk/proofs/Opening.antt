@@ -10,25 +10,25 @@ use lib.ListN.{get_elem?}
 use Rattle.atomic_table.specs.Table.{opening}
 use Rattle.desk_outside.specs.declared.deed.Deed.{Deed}
 use Rattle.book.specs.LegalDeeds.{is_legal}
-use Rattle.shared_desk.specs.declared.turns.View.{View}
+use Rattle.shared_desk.specs.declared.turns.SeatView.{SeatView}
 use Rattle.shared_desk.specs.OpenBooks.{OpenBookFacts}
-use Rattle.shared_desk.specs.Turns.{Kept, IsSpent, IsSeat, IsFirst, IsNoted, about_of, first_view}
+use Rattle.shared_desk.specs.Turns.{IsDeskTable, IsSpent, IsSeat, IsFirst, IsNoted, terms_of, first_view}
 use Rattle.shared_desk.proofs.EntryLists.{seen_all}
 use Rattle.shared_desk.proofs.Numbers.{is_first_seat}
 
-one_only : (v u : View) (i : ℕ) → get_elem? (v ∷ []) i ≡ found.some u → (i ≡ 0) × (v ≡ u)
+one_only : (v u : SeatView) (i : ℕ) → get_elem? (v ∷ []) i ≡ found.some u → (i ≡ 0) × (v ≡ u)
 one_only v u zero e = (refl, some-injective v u e)
 one_only v u (suc i) e = absurd (some-ne-none u (sym e))
 
 pub opens : (seats count : ℕ) (b : OpenBookFacts) → is_legal b.book.limit b.book.deeds ≡ true → b.faults ≡ [] → count ≡ length b.book.deeds → count < 2 ^ 64
-    → Kept (about_of seats b) (opening (count ∷ 0 ∷ 0 ∷ []) (Some b ∷ []) (first_view (about_of seats b) b.book.deeds))
+    → IsDeskTable (terms_of seats b) (opening (count ∷ 0 ∷ 0 ∷ []) (Some b ∷ []) (first_view (terms_of seats b) b.book.deeds))
 opens seats count b legal no_faults counted small =
-    let about = about_of seats b in
+    let about = terms_of seats b in
     let deeds = b.book.deeds in
     let v = first_view about deeds in
     let first_word : count ≡ (length deeds + 0) % 2 ^ 64 = sym (mod-eq_of_lt small) ∙ ap (λ (n : ℕ). n % 2 ^ 64) (let e : count ≡ length deeds + 0 = omega arith in e) in
     let seat : IsSeat about deeds [] 0 v = record { spent = refl; about = refl; number = refl; seen = seen_all (length deeds) deeds [] 0; mine = refl; failed = refl } in
-    let each : (i : ℕ) (u : View) → get_elem? (v ∷ []) i ≡ found.some u → IsSpent u ⊎ IsSeat about deeds [] i u =
+    let each : (i : ℕ) (u : SeatView) → get_elem? (v ∷ []) i ≡ found.some u → IsSpent u ⊎ IsSeat about deeds [] i u =
     λ i u e. let one = one_only v u i e in inr (subst (IsSeat about deeds [] i) one.1 (subst (λ k. IsSeat about deeds [] k v) (sym one.0) seat)) in
     record {
       history = deeds;
@@ -51,12 +51,12 @@ opens seats count b legal no_faults counted small =
       order = record {
         counted = refl;
         at = λ k i e. absurd (cc);
-        in_it = λ i u e t. absurd (true≢false (sym t ∙ ap (λ (z : View). z.waits) (sym (one_only v u i e).1)));
+        in_it = λ i u e t. absurd (true≢false (sym t ∙ ap (λ (z : SeatView). z.waits) (sym (one_only v u i e).1)));
       };
       turn = inl record {
         value = b;
         homes = refl;
         lists = record { deeds = refl; faults = no_faults; opened = refl; limit = refl; tells = refl };
-        nobody = λ i u e. ap (λ (z : View). z.holds) (sym (one_only v u i e).1);
+        nobody = λ i u e. ap (λ (z : SeatView). z.holds) (sym (one_only v u i e).1);
       };
     }

@@ -7,11 +7,11 @@ use lib.ListN.{get_elem?}
 use Rattle.atomic_table.specs.Table.{Splits}
 use Rattle.atomic_table.proofs.Lists.{at_longer}
 use Rattle.desk_outside.specs.declared.deed.Deed.{Deed}
-use Rattle.shared_desk.specs.declared.turns.About.{About}
-use Rattle.shared_desk.specs.declared.turns.Note.{Note}
-use Rattle.shared_desk.specs.declared.turns.View.{View}
+use Rattle.shared_desk.specs.declared.turns.DeskTerms.{DeskTerms}
+use Rattle.shared_desk.specs.declared.turns.JoinedSeat.{JoinedSeat}
+use Rattle.shared_desk.specs.declared.turns.SeatView.{SeatView}
 use Rattle.shared_desk.specs.Entries.{mine_of}
-use Rattle.shared_desk.specs.Turns.{Kept, IsSpent, IsSeat, IsNoted, IsFirst, with_given, next_view}
+use Rattle.shared_desk.specs.Turns.{IsDeskTable, IsSpent, IsSeat, IsNoted, IsFirst, with_given, next_view}
 use Rattle.shared_desk.proofs.Lists.{set_same, set_other, each_set, at_end, one_there}
 use Rattle.shared_desk.proofs.EntryLists.{seen_new}
 use Rattle.shared_desk.proofs.Orders.{order_same, order_more}
@@ -19,7 +19,7 @@ use Rattle.shared_desk.proofs.SeatLists.{in_use}
 use Rattle.shared_desk.proofs.Numbers.{is_first_seat, noted_differ}
 use Rattle.shared_desk.proofs.Turning.{turn_set, turn_more}
 
-pub splits_moves : (about : About) (id : ℕ) (v : View) → v.spent ≡ false → v.number ≡ 0 → v.waits ≡ false → v.holds ≡ false → v.given < 64 → Splits (Kept about) id v (with_given v) (next_view v)
+pub splits_moves : (about : DeskTerms) (id : ℕ) (v : SeatView) → v.spent ≡ false → v.number ≡ 0 → v.waits ≡ false → v.holds ≡ false → v.given < 64 → Splits (IsDeskTable about) id v (with_given v) (next_view v)
 splits_moves about id v live numbered idle free room s kept here =
     let h = kept.history in
     let f = kept.faults in
@@ -35,8 +35,8 @@ splits_moves about id v live numbered idle free room s kept here =
     let last : v.given ≡ length views = first.given ∙ sym as_long in
     let here_now : get_elem? (views ++ right ∷ []) 0 ≡ found.some left =
     at_longer views (right ∷ []) 0 left (subst (λ i. get_elem? views i ≡ found.some left) is_zero (set_same s.views id v left here)) in
-    let noted : (note : Note) → IsNoted about.base h f s.views note → IsNoted about.base h f (views ++ right ∷ []) note = λ note n.
-    let apart : note.number ≢ id = λ same. true≢false (sym n.spent ∙ (ap (λ (z : View). z.spent) (one_there s.views id n.view v (sym (ap (get_elem? s.views) same) ∙ n.is_it) here) ∙ live)) in
+    let noted : (note : JoinedSeat) → IsNoted about.base h f s.views note → IsNoted about.base h f (views ++ right ∷ []) note = λ note n.
+    let apart : note.number ≢ id = λ same. true≢false (sym n.spent ∙ (ap (λ (z : SeatView). z.spent) (one_there s.views id n.view v (sym (ap (get_elem? s.views) same) ∙ n.is_it) here) ∙ live)) in
     record {
       seen = n.seen;
       view = n.view;
@@ -50,10 +50,10 @@ splits_moves about id v live numbered idle free room s kept here =
       about = seat.about;
       number = refl;
       seen = new_seen;
-      mine = ap (λ (x : About). mine_of x.base v.given v.seen) seat.about ∙ new_seen.mine;
+      mine = ap (λ (x : DeskTerms). mine_of x.base v.given v.seen) seat.about ∙ new_seen.mine;
       failed = new_seen.failed;
     } in
-    let each : (i : ℕ) (u : View) → get_elem? (views ++ right ∷ []) i ≡ found.some u → IsSpent u ⊎ IsSeat about h f i u = λ i u e.
+    let each : (i : ℕ) (u : SeatView) → get_elem? (views ++ right ∷ []) i ≡ found.some u → IsSpent u ⊎ IsSeat about h f i u = λ i u e.
     elim (at_end views right u i e) [
       | inl old ↦ each_set (λ i u. IsSpent u ⊎ IsSeat about h f i u) s.views id left (inr record { spent = live; about = seat.about; number = seat.number; seen = seat.seen; mine = seat.mine; failed = seat.failed }) (λ i u ne e. kept.seats.each i u e) i u old
       | inr new ↦ inr (subst (IsSeat about h f i) new.1 (subst (λ k. IsSeat about h f k right) (last ∙ sym new.0) new_seat))

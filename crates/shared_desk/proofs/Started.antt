@@ -5,20 +5,20 @@ use Rattle.atomic_table.specs.Table.{Me}
 use Rattle.atomic_table.specs.Seated.{TableId}
 use Rattle.desk_outside.specs.declared.deed.Deed.{Deed}
 use Rattle.book.specs.Changes.{BookFacts, IsBook}
-use Rattle.shared_desk.specs.declared.turns.View.{View}
+use Rattle.shared_desk.specs.declared.turns.SeatView.{SeatView}
 use Rattle.shared_desk.specs.OpenBooks.{OpenBookFacts}
-use Rattle.shared_desk.specs.Turns.{Slot, about_of, fresh_view}
+use Rattle.shared_desk.specs.Turns.{Slot, terms_of, fresh_view}
 use Rattle.shared_desk.specs.Seats.{DeskFacts, SeatFacts, desk_facts}
 use Rattle.shared_desk.specs.Starting.{fresh_seat, IsStarted}
 
-pub started : (told : Option (List Deed)) (limit count faults : ℕ) (book : BookFacts) (b : OpenBookFacts) (place : TableId) (laid desk : DeskFacts) (me : Me Slot View) (list : List SeatFacts)
+pub started : (told : Option (List Deed)) (limit count faults : ℕ) (book : BookFacts) (b : OpenBookFacts) (place : TableId) (laid desk : DeskFacts) (me : Me Slot SeatView) (list : List SeatFacts)
     → book.limit ≡ limit → IsBook book → faults ≤ book.faults → book.rows ≡ told → b ≡ record { book = book; faults = []; opened = book.faults }
-    → laid ≡ desk_facts place (about_of count b) → me ≡ (fresh_view (about_of count b) b.book.deeds 0 1, []) → desk ≡ laid → length list ≡ count
+    → laid ≡ desk_facts place (terms_of count b) → me ≡ (fresh_view (terms_of count b) b.book.deeds 0 1, []) → desk ≡ laid → length list ≡ count
     → ((i : ℕ) (seat : SeatFacts) → slice_get list i ≡ Some seat → seat ≡ fresh_seat laid me.0.seen i) → IsStarted told limit count faults desk list
 started told limit count faults book b place laid desk me list limited is_book later same_rows is lays first same counted each =
     let opened : OpenBookFacts = record { book = book; faults = []; opened = book.faults } in
-    let desk_is : desk ≡ desk_facts place (about_of count opened) = same ∙ (lays ∙ ap (λ (x : OpenBookFacts). desk_facts place (about_of count x)) is) in
-    let seen : me.0.seen ≡ book.deeds = ap (λ (m : Me Slot View). m.0.seen) first ∙ ap (λ (x : OpenBookFacts). x.book.deeds) is in
+    let desk_is : desk ≡ desk_facts place (terms_of count opened) = same ∙ (lays ∙ ap (λ (x : OpenBookFacts). desk_facts place (terms_of count x)) is) in
+    let seen : me.0.seen ≡ book.deeds = ap (λ (m : Me Slot SeatView). m.0.seen) first ∙ ap (λ (x : OpenBookFacts). x.book.deeds) is in
     let fresh : (i : ℕ) (seat : SeatFacts) → slice_get list i ≡ Some seat → seat ≡ fresh_seat desk book.deeds i =
     λ i seat at. each i seat at ∙ (ap (λ (d : DeskFacts). fresh_seat d me.0.seen i) (sym same) ∙ ap (λ (ds : List Deed). fresh_seat desk ds i) seen) in
     record {

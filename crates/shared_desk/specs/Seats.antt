@@ -3,9 +3,9 @@ use Rattle.std.specs.Prelude.{◌≡◌, ◌≤◌, ℕ, Bool, true, false, List
 use Rattle.atomic_table.specs.Seated.{TableId}
 use Rattle.desk_outside.specs.declared.deed.Deed.{Deed}
 use Rattle.book.specs.LegalDeeds.{is_legal}
-use Rattle.shared_desk.specs.declared.turns.About.{About}
-use Rattle.shared_desk.specs.declared.turns.Note.{Note}
-use Rattle.shared_desk.specs.declared.turns.View.{View}
+use Rattle.shared_desk.specs.declared.turns.DeskTerms.{DeskTerms}
+use Rattle.shared_desk.specs.declared.turns.JoinedSeat.{JoinedSeat}
+use Rattle.shared_desk.specs.declared.turns.SeatView.{SeatView}
 use Rattle.shared_desk.specs.Entries.{mine_of, failed_of}
 use Rattle.shared_desk.specs.Stages.{IsResting, KnowsOwn}
 
@@ -34,26 +34,26 @@ mine s = mine_of s.desk.base s.number s.seen
 abbrev pub failed : SeatFacts → ℕ
 failed s = failed_of s.number s.faults
 
-abbrev pub desk_facts : TableId → About → DeskFacts
+abbrev pub desk_facts : TableId → DeskTerms → DeskFacts
 desk_facts place about = record { place = place; seats = about.seats; limit = about.limit; base = about.base; opened = about.opened; tells = about.tells }
 
 abbrev pub no_seat : TableId → SeatFacts
 no_seat place = record { desk = record { place = place; seats = 0; limit = 0; base = 0; opened = 0; tells = false }; number = 0; seen = []; faults = [] }
 
 -- the seat of a view
-abbrev pub seat_of : TableId → View → SeatFacts
+abbrev pub seat_of : TableId → SeatView → SeatFacts
 seat_of place v = record { desk = desk_facts place v.about; number = v.number; seen = v.seen; faults = v.faults }
 
-abbrev pub seat_facts : TableId → List View → SeatFacts
+abbrev pub seat_facts : TableId → List SeatView → SeatFacts
 seat_facts place [] = no_seat place
 seat_facts place (v ∷ vs) = seat_of place v
 
 -- what is noted of a seat that is joined
-abbrev pub seat_note : SeatFacts → Note
+abbrev pub seat_note : SeatFacts → JoinedSeat
 seat_note s = record { number = s.number; seen = s.seen; faults = s.faults }
 
 -- a seat that rests, of a desk that is whole
-pub record IsSeatView (n : ℕ) (v : View) : Type 0 where
+pub record IsSeatView (n : ℕ) (v : SeatView) : Type 0 where
   pub resting : IsResting v
   pub own : KnowsOwn v
   pub base : v.about.base ≤ length v.seen
@@ -63,11 +63,11 @@ pub record IsSeatView (n : ℕ) (v : View) : Type 0 where
   pub joined : v.joined ≡ []
 
 -- it keeps its number and how many deeds it has seen
-abbrev pub IsDeskSeat : ℕ → ℕ → List View → Type 0
-IsDeskSeat n mark views = (v : View) × (views ≡ v ∷ []) × IsSeatView n v × (mark ≡ length v.seen)
+abbrev pub IsDeskSeat : ℕ → ℕ → List SeatView → Type 0
+IsDeskSeat n mark views = (v : SeatView) × (views ≡ v ∷ []) × IsSeatView n v × (mark ≡ length v.seen)
 
 -- a view at the opening, which had so many deeds
-pub record IsOpening (mark : ℕ) (v : View) : Type 0 where
+pub record IsOpening (mark : ℕ) (v : SeatView) : Type 0 where
   pub deeds : mark ≡ length v.seen
   pub base : v.about.base ≡ length v.seen
   pub legal : is_legal v.about.limit v.seen ≡ true

@@ -4,7 +4,7 @@ use mathlib.Core.List.{IsPrefix}
 use Rattle.atomic_table.specs.Table.{Me}
 use Rattle.atomic_table.specs.Seated.{TableId}
 use Rattle.book.specs.LegalDeeds.{is_legal}
-use Rattle.shared_desk.specs.declared.turns.View.{View}
+use Rattle.shared_desk.specs.declared.turns.SeatView.{SeatView}
 use Rattle.shared_desk.specs.Entries.{mine_of, failed_of}
 use Rattle.shared_desk.specs.OpenBooks.{OpenBookFacts}
 use Rattle.shared_desk.specs.Turns.{Slot, HasLists}
@@ -16,17 +16,17 @@ pub record IsAt (place seat : TableId) : Type 0 where
   pub slots : place.slots ≡ 1
 
 -- a view of a seat in use that waits for nothing
-pub record IsResting (v : View) : Type 0 where
+pub record IsResting (v : SeatView) : Type 0 where
   pub spent : v.spent ≡ false
   pub waits : v.waits ≡ false
   pub holds : v.holds ≡ false
 
-pub record IsIdle (me : Me Slot View) : Type 0 where
+pub record IsIdle (me : Me Slot SeatView) : Type 0 where
   pub view : IsResting me.0
   pub hand : me.1 ≡ []
 
 -- it has drawn this ticket
-pub record IsWaiting (ticket : ℕ) (me : Me Slot View) : Type 0 where
+pub record IsWaiting (ticket : ℕ) (me : Me Slot SeatView) : Type 0 where
   pub spent : me.0.spent ≡ false
   pub waits : me.0.waits ≡ true
   pub holds : me.0.holds ≡ false
@@ -34,12 +34,12 @@ pub record IsWaiting (ticket : ℕ) (me : Me Slot View) : Type 0 where
   pub hand : me.1 ≡ []
 
 -- what a view knows of its own stands in what it has seen
-pub record KnowsOwn (v : View) : Type 0 where
+pub record KnowsOwn (v : SeatView) : Type 0 where
   pub mine : v.mine ≡ mine_of v.about.base v.number v.seen
   pub failed : v.failed ≡ failed_of v.number v.faults
 
 -- it has the turn, and this lies in the slot
-pub record HoldsSlot (me : Me Slot View) (x : Slot) : Type 0 where
+pub record HoldsSlot (me : Me Slot SeatView) (x : Slot) : Type 0 where
   pub own : KnowsOwn me.0
   pub spent : me.0.spent ≡ false
   pub waits : me.0.waits ≡ true
@@ -47,15 +47,15 @@ pub record HoldsSlot (me : Me Slot View) (x : Slot) : Type 0 where
   pub hand : me.1 ≡ (0, x) ∷ []
 
 -- it has the turn, and the open book is in use
-abbrev pub HasTurn : Me Slot View → Type 0
+abbrev pub HasTurn : Me Slot SeatView → Type 0
 HasTurn me = HoldsSlot me None
 
 -- it has the turn, and the open book lies in the slot
-abbrev pub HoldsBook : Me Slot View → OpenBookFacts → Type 0
+abbrev pub HoldsBook : Me Slot SeatView → OpenBookFacts → Type 0
 HoldsBook me b = HoldsSlot me (Some b)
 
 -- at its turn the seat has seen all, and no more entries of its own
-pub record Took (old new : View) (b : OpenBookFacts) : Type 0 where
+pub record Took (old new : SeatView) (b : OpenBookFacts) : Type 0 where
   pub about : new.about ≡ old.about
   pub number : new.number ≡ old.number
   pub given : new.given ≡ old.given

@@ -9,9 +9,9 @@ use lib.ListN.{get_elem?}
 use Rattle.atomic_table.specs.Table.{State, Me, rest}
 use Rattle.desk_outside.specs.declared.deed.Deed.{Deed}
 use Rattle.book.specs.LegalDeeds.{is_legal}
-use Rattle.shared_desk.specs.declared.turns.About.{About}
-use Rattle.shared_desk.specs.declared.turns.Note.{Note}
-use Rattle.shared_desk.specs.declared.turns.View.{View}
+use Rattle.shared_desk.specs.declared.turns.DeskTerms.{DeskTerms}
+use Rattle.shared_desk.specs.declared.turns.JoinedSeat.{JoinedSeat}
+use Rattle.shared_desk.specs.declared.turns.SeatView.{SeatView}
 use Rattle.shared_desk.specs.Entries.{mine_of, failed_of}
 use Rattle.shared_desk.specs.OpenBooks.{OpenBookFacts}
 
@@ -22,7 +22,7 @@ Slot = Option OpenBookFacts
 -- ---- the rule
 
 -- the open book has these deeds and these faults
-pub record HasLists (about : About) (history : List Deed) (failures : List ℕ) (b : OpenBookFacts) : Type 0 where
+pub record HasLists (about : DeskTerms) (history : List Deed) (failures : List ℕ) (b : OpenBookFacts) : Type 0 where
   pub deeds : b.book.deeds ≡ history
   pub faults : b.faults ≡ failures
   pub opened : b.opened ≡ about.opened
@@ -30,7 +30,7 @@ pub record HasLists (about : About) (history : List Deed) (failures : List ℕ) 
   pub tells : is_some b.book.rows ≡ about.tells
 
 -- a history and a list of faults of so many seats
-pub record IsHistory (about : About) (seats : ℕ) (history : List Deed) (faults : List ℕ) : Type 0 where
+pub record IsHistory (about : DeskTerms) (seats : ℕ) (history : List Deed) (faults : List ℕ) : Type 0 where
   pub legal : is_legal about.limit history ≡ true
   pub base : about.base ≤ length history
   pub by_seats : All (λ deed. deed.by < seats) (drop about.base history)
@@ -44,12 +44,12 @@ pub record HasSeen (base : ℕ) (history : List Deed) (failures : List ℕ) (num
   pub failed : failed_of number seen_failures ≡ failed_of number failures
 
 -- a seat that was joined, or one that is in use
-pub record IsSpent (v : View) : Type 0 where
+pub record IsSpent (v : SeatView) : Type 0 where
   pub spent : v.spent ≡ true
   pub waits : v.waits ≡ false
   pub holds : v.holds ≡ false
 
-pub record IsSeat (desk : About) (history : List Deed) (faults : List ℕ) (i : ℕ) (v : View) : Type 0 where
+pub record IsSeat (desk : DeskTerms) (history : List Deed) (faults : List ℕ) (i : ℕ) (v : SeatView) : Type 0 where
   pub spent : v.spent ≡ false
   pub about : v.about ≡ desk
   pub number : v.number ≡ i
@@ -58,19 +58,19 @@ pub record IsSeat (desk : About) (history : List Deed) (faults : List ℕ) (i : 
   pub failed : v.failed ≡ failed_of v.number faults
 
 -- what was noted when a seat was joined
-pub record IsNoted (base : ℕ) (history : List Deed) (faults : List ℕ) (views : List View) (note : Note) : Type 0 where
+pub record IsNoted (base : ℕ) (history : List Deed) (faults : List ℕ) (views : List SeatView) (note : JoinedSeat) : Type 0 where
   pub seen : HasSeen base history faults note.number note.seen note.faults
-  pub view : View
+  pub view : SeatView
   pub is_it : get_elem? views note.number ≡ found.some view
   pub spent : view.spent ≡ true
 
 -- the numbers of the seats in use and of those that were noted
-abbrev pub numbers_of : List View → List Note → List ℕ
+abbrev pub numbers_of : List SeatView → List JoinedSeat → List ℕ
 numbers_of [] notes = map (λ note. note.number) notes
 numbers_of (v ∷ vs) notes = if v.spent then numbers_of vs notes else v.number ∷ numbers_of vs notes
 
 -- The first seat knows how many numbers were given out, and which seats were joined. All numbers differ and were given out.
-pub record IsFirst (about : About) (history : List Deed) (faults : List ℕ) (views : List View) (v : View) : Type 0 where
+pub record IsFirst (about : DeskTerms) (history : List Deed) (faults : List ℕ) (views : List SeatView) (v : SeatView) : Type 0 where
   pub spent : v.spent ≡ false
   pub given : v.given ≡ length views
   pub joined : All (IsNoted about.base history faults views) v.joined
@@ -78,50 +78,50 @@ pub record IsFirst (about : About) (history : List Deed) (faults : List ℕ) (vi
   pub given_out : All (λ n. n < v.given) (numbers_of views v.joined)
 
 -- the seats, each at the place of its number
-pub record AreSeats (about : About) (history : List Deed) (faults : List ℕ) (views : List View) : Type 0 where
+pub record AreSeats (about : DeskTerms) (history : List Deed) (faults : List ℕ) (views : List SeatView) : Type 0 where
   pub few : length views ≤ 64
-  pub each : (i : ℕ) (v : View) → get_elem? views i ≡ found.some v → IsSpent v ⊎ IsSeat about history faults i v
-  pub first : (v : View) → get_elem? views 0 ≡ found.some v → IsFirst about history faults views v
+  pub each : (i : ℕ) (v : SeatView) → get_elem? views i ≡ found.some v → IsSpent v ⊎ IsSeat about history faults i v
+  pub first : (v : SeatView) → get_elem? views 0 ≡ found.some v → IsFirst about history faults views v
 
 abbrev pub flag : Bool → ℕ
 flag true = 1
 flag false = 0
 
 -- how many seats have a ticket
-abbrev pub waiting : List View → ℕ
+abbrev pub waiting : List SeatView → ℕ
 waiting [] = 0
 waiting (v ∷ vs) = flag v.waits + waiting vs
 
 -- the seats with a ticket, in the order of their tickets, where so many turns were given up
-pub record InOrder (views : List View) (queue : List ℕ) (served : ℕ) : Type 0 where
+pub record InOrder (views : List SeatView) (queue : List ℕ) (served : ℕ) : Type 0 where
   pub counted : waiting views ≡ length queue
-  pub at : (k i : ℕ) → slice_get queue k ≡ Some i → (v : View) × (get_elem? views i ≡ found.some v) × (v.waits ≡ true) × (v.ticket ≡ (served + k) % 2 ^ 64)
-  pub in_it : (i : ℕ) (v : View) → get_elem? views i ≡ found.some v → v.waits ≡ true → (k : ℕ) × (slice_get queue k ≡ Some i)
+  pub at : (k i : ℕ) → slice_get queue k ≡ Some i → (v : SeatView) × (get_elem? views i ≡ found.some v) × (v.waits ≡ true) × (v.ticket ≡ (served + k) % 2 ^ 64)
+  pub in_it : (i : ℕ) (v : SeatView) → get_elem? views i ≡ found.some v → v.waits ≡ true → (k : ℕ) × (slice_get queue k ≡ Some i)
 
 -- the open book is home, and nobody has the turn
-pub record IsHome (about : About) (history : List Deed) (faults : List ℕ) (slots : List (found.Option Slot)) (views : List View) : Type 0 where
+pub record IsHome (about : DeskTerms) (history : List Deed) (faults : List ℕ) (slots : List (found.Option Slot)) (views : List SeatView) : Type 0 where
   pub value : OpenBookFacts
   pub homes : slots ≡ found.some (Some value) ∷ []
   pub lists : HasLists about history faults value
-  pub nobody : (i : ℕ) (v : View) → get_elem? views i ≡ found.some v → v.holds ≡ false
+  pub nobody : (i : ℕ) (v : SeatView) → get_elem? views i ≡ found.some v → v.holds ≡ false
 
 -- it is out with the first in the queue, who has seen all
-pub record IsOut (history : List Deed) (failures : List ℕ) (slots : List (found.Option Slot)) (views : List View) (queue : List ℕ) : Type 0 where
+pub record IsOut (history : List Deed) (failures : List ℕ) (slots : List (found.Option Slot)) (views : List SeatView) (queue : List ℕ) : Type 0 where
   pub homes : slots ≡ found.none ∷ []
   pub by : ℕ
   pub first : slice_get queue 0 ≡ Some by
-  pub holder : View
+  pub holder : SeatView
   pub is_it : get_elem? views by ≡ found.some holder
   pub holds : holder.holds ≡ true
   pub seen : holder.seen ≡ history
   pub faults : holder.faults ≡ failures
-  pub only : (i : ℕ) (v : View) → get_elem? views i ≡ found.some v → v.holds ≡ true → i ≡ by
+  pub only : (i : ℕ) (v : SeatView) → get_elem? views i ≡ found.some v → v.holds ≡ true → i ≡ by
 
 abbrev pub words_of : List Deed → List ℕ → List ℕ → ℕ → List ℕ
 words_of history faults queue served =
     (length history + length faults) % 2 ^ 64 ∷ (served + length queue) % 2 ^ 64 ∷ served % 2 ^ 64 ∷ []
 
-pub record Kept (about : About) (s : State Slot View) : Type 0 where
+pub record IsDeskTable (about : DeskTerms) (s : State Slot SeatView) : Type 0 where
   pub history : List Deed
   pub faults : List ℕ
   pub queue : List ℕ
@@ -133,13 +133,13 @@ pub record Kept (about : About) (s : State Slot View) : Type 0 where
   pub turn : IsHome about history faults s.homes s.views ⊎ IsOut history faults s.homes s.views queue
 
 -- what all seats of a book have in common, from its opening
-abbrev pub about_of : ℕ → OpenBookFacts → About
-about_of seats b = record { seats = seats; limit = b.book.limit; base = length b.book.deeds; opened = b.opened; tells = is_some b.book.rows }
+abbrev pub terms_of : ℕ → OpenBookFacts → DeskTerms
+terms_of seats b = record { seats = seats; limit = b.book.limit; base = length b.book.deeds; opened = b.opened; tells = is_some b.book.rows }
 
 -- ---- views
 
 -- the view with another stage of its turn
-abbrev pub at_turn : View → Bool → ℕ → Bool → View
+abbrev pub at_turn : SeatView → Bool → ℕ → Bool → SeatView
 at_turn v waits ticket holds = record {
   about = v.about;
   number = v.number;
@@ -156,7 +156,7 @@ at_turn v waits ticket holds = record {
 }
 
 -- the view that has seen these lists, and knows its own entries in them
-abbrev pub with_lists : View → List Deed → List ℕ → View
+abbrev pub with_lists : SeatView → List Deed → List ℕ → SeatView
 with_lists v seen faults = record {
   about = v.about;
   number = v.number;
@@ -173,7 +173,7 @@ with_lists v seen faults = record {
 }
 
 -- the view of a seat at the opening, with that many numbers given out by it
-abbrev pub fresh_view : About → List Deed → ℕ → ℕ → View
+abbrev pub fresh_view : DeskTerms → List Deed → ℕ → ℕ → SeatView
 fresh_view about deeds number given = record {
   about = about;
   number = number;
@@ -190,11 +190,11 @@ fresh_view about deeds number given = record {
 }
 
 -- the view of the first seat
-abbrev pub first_view : About → List Deed → View
+abbrev pub first_view : DeskTerms → List Deed → SeatView
 first_view about deeds = fresh_view about deeds 0 1
 
 -- one more number was given out
-abbrev pub with_given : View → View
+abbrev pub with_given : SeatView → SeatView
 with_given v = record {
   about = v.about;
   number = v.number;
@@ -211,7 +211,7 @@ with_given v = record {
 }
 
 -- the seat that has that number
-abbrev pub next_view : View → View
+abbrev pub next_view : SeatView → SeatView
 next_view v = record {
   about = v.about;
   number = v.given;
@@ -227,7 +227,7 @@ next_view v = record {
   joined = [];
 }
 
-abbrev pub note_of : View → Note
+abbrev pub note_of : SeatView → JoinedSeat
 note_of v = record { number = v.number; seen = v.seen; faults = v.faults }
 
 -- of two beginnings of one list the longer: the first, and what the second has beyond it
@@ -235,7 +235,7 @@ abbrev pub longer : {X : Type 0} → List X → List X → List X
 longer xs ys = xs ++ drop (length xs) ys
 
 -- What another seat has seen is seen too, and is noted. What the view knows of its own stays.
-abbrev pub with_note : View → View → View
+abbrev pub with_note : SeatView → SeatView → SeatView
 with_note v w = record {
   about = v.about;
   number = v.number;
@@ -252,7 +252,7 @@ with_note v w = record {
 }
 
 -- the view of a seat that was joined
-abbrev pub spent_view : View
+abbrev pub spent_view : SeatView
 spent_view = record {
   about = record { seats = 0; limit = 0; base = 0; opened = 0; tells = false };
   number = 0;
@@ -271,11 +271,11 @@ spent_view = record {
 -- ---- what the steps tell
 
 -- a ticket was drawn
-abbrev pub Draws : Me Slot View → ℕ → Me Slot View → Type 0
+abbrev pub Draws : Me Slot SeatView → ℕ → Me Slot SeatView → Type 0
 Draws v n w = w ≡ (at_turn v.0 true n false, v.1)
 
 -- the turn is the seat's: it has seen all, and the open book is in its hand
-pub record TakesTurn (v w : Me Slot View) : Type 0 where
+pub record TakesTurn (v w : Me Slot SeatView) : Type 0 where
   pub view : w.0 ≡ at_turn (with_lists v.0 w.0.seen w.0.faults) true v.0.ticket true
   pub seen : IsPrefix v.0.seen w.0.seen
   pub mine : mine_of v.0.about.base v.0.number w.0.seen ≡ mine_of v.0.about.base v.0.number v.0.seen
@@ -288,39 +288,39 @@ pub record TakesTurn (v w : Me Slot View) : Type 0 where
   pub lists : HasLists v.0.about w.0.seen w.0.faults value
 
 -- the ticket is served, or not yet
-abbrev pub Asks : Me Slot View → ℕ → Me Slot View → Type 0
+abbrev pub Asks : Me Slot SeatView → ℕ → Me Slot SeatView → Type 0
 Asks v n w = MatchBool (n == v.0.ticket) (TakesTurn v w) (w ≡ v)
 
 -- the view that has seen the lists of the book in hand
-abbrev pub caught_up : View → List (ℕ × Slot) → View
+abbrev pub caught_up : SeatView → List (ℕ × Slot) → SeatView
 caught_up v [] = v
 caught_up v ((k, None) ∷ more) = v
 caught_up v ((k, Some b) ∷ more) = with_lists v b.book.deeds b.faults
 
 -- the deed or the fault of the book in hand counts
-abbrev pub Counts : Me Slot View → ℕ → Me Slot View → Type 0
+abbrev pub Counts : Me Slot SeatView → ℕ → Me Slot SeatView → Type 0
 Counts v n w = w ≡ (caught_up v.0 v.1, v.1)
 
 -- the turn and the book are given up
-abbrev pub Leaves : Me Slot View → ℕ → Me Slot View → Type 0
+abbrev pub Leaves : Me Slot SeatView → ℕ → Me Slot SeatView → Type 0
 Leaves v n w = w ≡ (at_turn v.0 false 0 false, rest v.1)
 
 -- ---- what the steps ask
 
 -- a book whose lists are these with one more deed or one more fault of the seat
-pub record AddsDeed (v : View) (b : OpenBookFacts) : Type 0 where
+pub record AddsDeed (v : SeatView) (b : OpenBookFacts) : Type 0 where
   pub deed : Deed
   pub by : deed.by ≡ v.number
   pub lists : HasLists v.about (v.seen ++ deed ∷ []) v.faults b
   pub legal : is_legal v.about.limit (v.seen ++ deed ∷ []) ≡ true
 
-abbrev pub AddsOne : View → OpenBookFacts → Type 0
+abbrev pub AddsOne : SeatView → OpenBookFacts → Type 0
 AddsOne v b = AddsDeed v b ⊎ HasLists v.about v.seen (v.faults ++ v.number ∷ []) b
 
 -- ---- the end
 
 -- the open book at the end has these lists, of which the first seat and those that it noted have seen their parts
-pub record IsLast (v : View) (b : OpenBookFacts) : Type 0 where
+pub record IsLast (v : SeatView) (b : OpenBookFacts) : Type 0 where
   pub opened : b.opened ≡ v.about.opened
   pub limit : b.book.limit ≡ v.about.limit
   pub tells : is_some b.book.rows ≡ v.about.tells
@@ -332,7 +332,7 @@ pub record IsLast (v : View) (b : OpenBookFacts) : Type 0 where
   pub of_seats : All (λ k. k < v.given) b.faults
 
 -- a view that others were joined into: it has seen more, and what it knows of its own stays
-pub record IsJoined (old new : View) : Type 0 where
+pub record IsJoined (old new : SeatView) : Type 0 where
   pub about : new.about ≡ old.about
   pub number : new.number ≡ old.number
   pub seen : IsPrefix old.seen new.seen
@@ -342,5 +342,5 @@ pub record IsJoined (old new : View) : Type 0 where
   pub given : new.given ≡ old.given
 
 -- each number but the first that was given out is noted
-abbrev pub AllNoted : View → Type 0
-AllNoted v = (i : ℕ) → 0 < i → i < v.given → (note : Note) × Contains v.joined note × (note.number ≡ i)
+abbrev pub AllNoted : SeatView → Type 0
+AllNoted v = (i : ℕ) → 0 < i → i < v.given → (note : JoinedSeat) × Contains v.joined note × (note.number ≡ i)

@@ -38,11 +38,11 @@ pub struct Desk<K: Keeper> {
 impl<K: Keeper> Model for Desk<K> {
     ghost use Rattle.std.specs.Prelude.{◌≡◌, ◌<◌};
     ghost use Rattle.shared_desk.specs.Seats.{DeskFacts, desk_facts};
-    ghost use Rattle.shared_desk.specs.Turns.{about_of};
+    ghost use Rattle.shared_desk.specs.Turns.{terms_of};
 
     ghost Value = { DeskFacts };
 
-    ghost view = { λ d. desk_facts d.table.shared.table_id (about_of d.table.shared.key.seats d.table.shared.key.book.value) };
+    ghost view = { λ d. desk_facts d.table.shared.table_id (terms_of d.table.shared.key.seats d.table.shared.key.book.value) };
 
     ghost invariant = { λ d. (d.table.shared.table_id.words ≡ 3) × (d.table.shared.table_id.slots ≡ 1) × (0 < d.table.shared.key.seats) };
 }

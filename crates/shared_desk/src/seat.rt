@@ -2,7 +2,7 @@
 ghost use Rattle.std.specs.Prelude.{◌≡◌, ◌≤◌, true, length};
 ghost use Rattle.book.specs.LegalDeeds.{is_legal};
 
-use crate::turns::View;
+use crate::turns::SeatView;
 use atomic_table::Badge;
 use std::marker::Model;
 
@@ -11,7 +11,7 @@ use std::marker::Model;
 pub struct DeskSeat {
     pub(crate) number: u32,
     pub(crate) mark: u64,
-    pub(crate) badge: Badge<View>,
+    pub(crate) badge: Badge<SeatView>,
 }
 
 impl Model for DeskSeat {

@@ -4,7 +4,7 @@ ghost use Rattle.desk_outside.specs.declared.deed.Deed.{Deed};
 ghost use Rattle.desk_outside.specs.Faults.{Rose};
 ghost use Rattle.book.specs.declared.opening.StartFault.{StartFault};
 ghost use Rattle.book.specs.LegalDeeds.{is_legal, spoiled_row};
-ghost use Rattle.shared_desk.specs.Turns.{about_of, fresh_view};
+ghost use Rattle.shared_desk.specs.Turns.{terms_of, fresh_view};
 ghost use Rattle.shared_desk.specs.Stages.{IsAt};
 ghost use Rattle.shared_desk.specs.Seats.{SeatFacts, desk_facts, IsOpening};
 ghost use Rattle.shared_desk.specs.Starting.{fresh_seat, IsStarted};
@@ -13,7 +13,7 @@ use crate::desk::Desk;
 use crate::open_book::OpenBook;
 use crate::seat::DeskSeat;
 use crate::steps::make_seat;
-use crate::turns::{Opening, Place, PlaceSeat};
+use crate::turns::{OpenedBook, Place, PlaceSeat};
 use atomic_table::Table;
 use book::{Book, StartFault, UnopenedBook};
 use desk_outside::Keeper;
@@ -42,14 +42,14 @@ fn lay_table<K: Keeper>(
 ) -> Result<(Desk<K>, PlaceSeat<K>), Option<OpenBook<K>>>
     requires some { 0 < seats }
     requires fresh { book.faults ≡ [] }
-    ensures desk { IfOk result (λ r. r.0 ≡ desk_facts r.1.table_id (about_of seats book)) }
+    ensures desk { IfOk result (λ r. r.0 ≡ desk_facts r.1.table_id (terms_of seats book)) }
     ensures fits { IfOk result (λ r. IsAt r.1.table_id r.1.table_id) }
-    ensures first { IfOk result (λ r. r.1.me ≡ (fresh_view (about_of seats book) book.book.deeds 0 1, [])) }
+    ensures first { IfOk result (λ r. r.1.me ≡ (fresh_view (terms_of seats book) book.book.deeds 0 1, [])) }
     ensures opened { IfOk result (λ r. IsOpening (length book.book.deeds) r.1.me.0) }
     ensures refused { IfErr result (λ slot. slot ≡ Some book) }
 {
     let deeds = book.deeds();
-    let about = Opening {
+    let about = OpenedBook {
         seats,
         book: Snapshot::of(&book),
     };

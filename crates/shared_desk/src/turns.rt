@@ -8,7 +8,7 @@ use std::snapshot::Snapshot;
 
 /// What is one for all seats of a desk: their number, and of the book the most deeds, the deeds at the opening, the
 /// keeper's count then, and whether the keeper tells its rows. No value of it is made.
-pub struct About {
+pub struct DeskTerms {
     pub seats: u32,
     pub limit: u32,
     pub base: u64,
@@ -17,15 +17,15 @@ pub struct About {
 }
 
 /// What a seat had seen when it was joined. No value of it is made.
-pub struct Note {
+pub struct JoinedSeat {
     pub number: u32,
     pub seen: LinkedList<Deed>,
     pub faults: LinkedList<u32>,
 }
 
 /// What a seat knows: the deeds and the faults that it has seen, and of these its own. No value of it is made.
-pub struct View {
-    pub about: About,
+pub struct SeatView {
+    pub about: DeskTerms,
     pub number: u32,
     pub seen: LinkedList<Deed>,
     pub faults: LinkedList<u32>,
@@ -36,12 +36,12 @@ pub struct View {
     pub holds: bool,
     pub spent: bool,
     pub given: u32,
-    pub joined: LinkedList<Note>,
+    pub joined: LinkedList<JoinedSeat>,
 }
 
 /// What a table is told when it is made: the number of its seats, and the book as it was opened.
 #[derive(Drop)]
-pub struct Opening<K: Keeper> {
+pub struct OpenedBook<K: Keeper> {
     pub seats: u32,
     pub book: Snapshot<OpenBook<K>>,
 }
@@ -49,18 +49,18 @@ pub struct Opening<K: Keeper> {
 /// The rule of a desk's table.
 pub struct Turns;
 
-impl<K: Keeper> TableRule<Option<OpenBook<K>>, View, Opening<K>> for Turns {
-    ghost use Rattle.shared_desk.specs.Turns.{Kept, about_of, first_view};
+impl<K: Keeper> TableRule<Option<OpenBook<K>>, SeatView, OpenedBook<K>> for Turns {
+    ghost use Rattle.shared_desk.specs.Turns.{IsDeskTable, terms_of, first_view};
 
-    ghost holds = { λ k s. Kept (about_of k.seats k.book.value) s };
+    ghost holds = { λ k s. IsDeskTable (terms_of k.seats k.book.value) s };
 
-    ghost first = { λ k. first_view (about_of k.seats k.book.value) k.book.value.book.deeds };
+    ghost first = { λ k. first_view (terms_of k.seats k.book.value) k.book.value.book.deeds };
 }
 
 /// A ticket was drawn.
 pub struct Drawn;
 
-impl<K: Keeper> Play<Option<OpenBook<K>>, View> for Drawn {
+impl<K: Keeper> Play<Option<OpenBook<K>>, SeatView> for Drawn {
     ghost use Rattle.shared_desk.specs.Turns.{Draws};
 
     ghost then = { λ _ v n w. Draws v n w };
@@ -69,7 +69,7 @@ impl<K: Keeper> Play<Option<OpenBook<K>>, View> for Drawn {
 /// The served word was read.
 pub struct Asked;
 
-impl<K: Keeper> Play<Option<OpenBook<K>>, View> for Asked {
+impl<K: Keeper> Play<Option<OpenBook<K>>, SeatView> for Asked {
     ghost use Rattle.shared_desk.specs.Turns.{Asks};
 
     ghost then = { λ _ v n w. Asks v n w };
@@ -78,7 +78,7 @@ impl<K: Keeper> Play<Option<OpenBook<K>>, View> for Asked {
 /// A deed or a fault counts.
 pub struct Counted;
 
-impl<K: Keeper> Play<Option<OpenBook<K>>, View> for Counted {
+impl<K: Keeper> Play<Option<OpenBook<K>>, SeatView> for Counted {
     ghost use Rattle.shared_desk.specs.Turns.{Counts};
 
     ghost then = { λ _ v n w. Counts v n w };
@@ -87,7 +87,7 @@ impl<K: Keeper> Play<Option<OpenBook<K>>, View> for Counted {
 /// The turn was given up.
 pub struct Left;
 
-impl<K: Keeper> Play<Option<OpenBook<K>>, View> for Left {
+impl<K: Keeper> Play<Option<OpenBook<K>>, SeatView> for Left {
     ghost use Rattle.shared_desk.specs.Turns.{Leaves};
 
     ghost then = { λ _ v n w. Leaves v n w };
@@ -96,7 +96,7 @@ impl<K: Keeper> Play<Option<OpenBook<K>>, View> for Left {
 /// A seat of the next number was made.
 pub struct Given;
 
-impl Split<View> for Given {
+impl Split<SeatView> for Given {
     ghost use Rattle.shared_desk.specs.Turns.{with_given, next_view};
 
     ghost left = { with_given };
@@ -107,7 +107,7 @@ impl Split<View> for Given {
 /// A seat was joined into the first.
 pub struct Joined;
 
-impl Join<View> for Joined {
+impl Join<SeatView> for Joined {
     ghost use Rattle.shared_desk.specs.Turns.{with_note, spent_view};
 
     ghost both = { with_note };
@@ -115,8 +115,8 @@ impl Join<View> for Joined {
     ghost spent = { spent_view };
 }
 
-pub type DeskTable<K> = Table<Option<OpenBook<K>>, View, Opening<K>, Turns, Global>;
+pub type DeskTable<K> = Table<Option<OpenBook<K>>, SeatView, OpenedBook<K>, Turns, Global>;
 
-pub type Place<K> = Shared<Option<OpenBook<K>>, View, Opening<K>, Turns>;
+pub type Place<K> = Shared<Option<OpenBook<K>>, SeatView, OpenedBook<K>, Turns>;
 
-pub type PlaceSeat<K> = Seat<Option<OpenBook<K>>, View>;
+pub type PlaceSeat<K> = Seat<Option<OpenBook<K>>, SeatView>;

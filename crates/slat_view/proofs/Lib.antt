@@ -9,7 +9,7 @@ mod Ranges
 mod Carries
 mod Trying
 mod BlockFits
-pub mod Serving
+pub mod FittingCandidates
 pub mod Counting
 mod KeptFits
 pub mod FirstLast

@@ -40,13 +40,13 @@ shown_with rows shown c has side j lt =
     (λ q low high. one_lane_both (λ i. c q i) (λ i. lane (row_on side (point_row_at rows q)) i) j lt)
 
 module _ (rows : List PointRow) (shown : FlipRows) (c : Table) (has : HasTable rows shown c) (j : ℕ) (lt : j < 512) where
-  pub fails_less : rows_with shown.fails.items j ≤ bad_in rows no_places j
-  fails_less = omega (arith, shown_with rows shown c has Failing j lt, told_less (λ q. lane (point_row_at rows q).failing j) (λ q. lane (point_row_at rows q).passing j) (λ q. c q j) 0 (length rows))
+  pub failing_less : rows_with shown.failing.items j ≤ bad_in rows no_places j
+  failing_less = omega (arith, shown_with rows shown c has Failing j lt, told_less (λ q. lane (point_row_at rows q).failing j) (λ q. lane (point_row_at rows q).passing j) (λ q. c q j) 0 (length rows))
 
-  pub passes_few : rows_with shown.passes.items j ≤ length rows
-  passes_few = omega (arith, shown_with rows shown c has Passing j lt, few_places (λ q. c q j && lane (point_row_at rows q).passing j) (length rows))
+  pub passing_few : rows_with shown.passing.items j ≤ length rows
+  passing_few = omega (arith, shown_with rows shown c has Passing j lt, few_places (λ q. c q j && lane (point_row_at rows q).passing j) (length rows))
 
-  pub bad_shown : (less more : ℕ) → less + rows_with shown.fails.items j ≡ bad_in rows no_places j → more ≡ less + rows_with shown.passes.items j → more ≡ bad_in rows c j
+  pub bad_shown : (less more : ℕ) → less + rows_with shown.failing.items j ≡ bad_in rows no_places j → more ≡ less + rows_with shown.passing.items j → more ≡ bad_in rows c j
   bad_shown less more down up =
       omega (
         arith,

@@ -6,7 +6,7 @@ use Rattle.std.proofs.lemmas.List.Concat.{flat_map-append}
 use Rattle.scan_model.specs.declared.fault.Fault.{Fault}
 use Rattle.scan_model.specs.declared.fault.Fault.TheVariants.{Stem, Branch, Bridge, Cell}
 use Rattle.scan_model.specs.ScanTest.{ScanTest}
-use Rattle.scan_model.specs.ReportText.{joined, fault_words}
+use Rattle.scan_model.specs.ReportText.{concatenated, fault_words}
 use Rattle.slat_view.specs.SlatText.{AddsText}
 
 -- a fault has words
@@ -24,7 +24,7 @@ line_ended (Err e) old new text words written ended = tt
 
 pub both_added : (ls ms : List (List ℕ)) (a b c : List ℕ) → AddsText ls a b → AddsText ms b c → AddsText (ls ++ ms) a c
 both_added ls ms a b c first then =
-    then ∙ ap (λ (bs : List ℕ). bs ++ joined ms) first ∙ append_assoc a (joined ls) (joined ms) ∙ ap (λ (bs : List ℕ). a ++ bs) (sym (flat_map-append (λ (piece : List ℕ). piece) ls ms))
+    then ∙ ap (λ (bs : List ℕ). bs ++ concatenated ms) first ∙ append_assoc a (concatenated ls) (concatenated ms) ∙ ap (λ (bs : List ℕ). a ++ bs) (sym (flat_map-append (λ (piece : List ℕ). piece) ls ms))
 
 -- the line of one more item
 pub mapped_more : {X : Type 0} (f : X → List ℕ) (xs : List X) (k : ℕ) (d : X) (a b c : List ℕ) → k < length xs → AddsText (map f (take k xs)) a b → AddsText (f (get_or xs k d) ∷ []) b c → AddsText (map f (take (k + 1) xs)) a c
@@ -33,5 +33,5 @@ mapped_more f xs k d a b c lt first then =
     subst (λ (ls : List (List ℕ)). AddsText ls a c) (sym e) (both_added (map f (take k xs)) (f (get_or xs k d) ∷ []) a b c first then)
 
 -- what stands in a text that was empty before
-pub text_written : (ls : List (List ℕ)) (a b : List ℕ) → a ≡ [] → AddsText ls a b → b ≡ joined ls
-text_written ls a b none adds = adds ∙ ap (λ (bs : List ℕ). bs ++ joined ls) none
+pub text_written : (ls : List (List ℕ)) (a b : List ℕ) → a ≡ [] → AddsText ls a b → b ≡ concatenated ls
+text_written ls a b none adds = adds ∙ ap (λ (bs : List ℕ). bs ++ concatenated ls) none

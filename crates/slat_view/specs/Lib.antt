@@ -1,3 +1,4 @@
+-- The specs of patterns that one fault explains.
 pub mod Slat
 pub mod Places
 pub mod Sliced

@@ -2,14 +2,14 @@
 use Rattle.std.specs.Prelude.{◌≡◌, ℕ, List, [], ◌∷◌, ◌++◌, map, length, decimal, codes}
 use Rattle.scan_model.specs.declared.logs.LogFacts.{LogFacts}
 use Rattle.scan_model.specs.ScanTest.{ScanTest}
-use Rattle.scan_model.specs.ReportText.{line, joined, fault_words}
+use Rattle.scan_model.specs.ReportText.{line, concatenated, fault_words}
 use Rattle.diag_report.specs.PredictedLog.{fault_of}
 use Rattle.slat_view.specs.declared.slat.SlatCount.{SlatCount}
 use Rattle.slat_view.specs.Slat.{failing_patterns, slat_rows, fitting_places}
 
 -- the lines are put behind what was written
 abbrev pub AddsText : List (List ℕ) → List ℕ → List ℕ → Type 0
-AddsText lines old new = new ≡ old ++ joined lines
+AddsText lines old new = new ≡ old ++ concatenated lines
 
 -- the words of a pattern that some faults fit
 abbrev pub count_words : SlatCount → List (List ℕ)
@@ -40,7 +40,7 @@ count_lines design die logs failing rows = title_lines design die logs ++ (total
 
 -- the counts of a die's logs
 abbrev pub slat_text : ScanTest → List ℕ → List ℕ → List LogFacts → List ℕ
-slat_text t design die logs = joined (count_lines design die (length logs) (failing_patterns t logs) (slat_rows t logs))
+slat_text t design die logs = concatenated (count_lines design die (length logs) (failing_patterns t logs) (slat_rows t logs))
 
 -- the line of the fault at a place
 abbrev pub place_line : ScanTest → ℕ → List ℕ
@@ -51,4 +51,4 @@ place_lines t w places = line (codes "pattern" ∷ decimal w ∷ []) ∷ map (pl
 
 -- the faults that fit a pattern
 abbrev pub pattern_text : ScanTest → List LogFacts → ℕ → List ℕ
-pattern_text t logs w = joined (place_lines t w (fitting_places t logs w))
+pattern_text t logs w = concatenated (place_lines t w (fitting_places t logs w))

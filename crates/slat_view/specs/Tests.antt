@@ -29,7 +29,7 @@ pub record IsPrepared (t : ScanTest) (x : Prepared) : Type 0 where
   pub nets : All (λ n. n < length t.netlist.nets) x.nets.items
   pub listed : (i : ℕ) → i < length x.suspects → owner t (suspect_at x.suspects i).fault < length t.netlist.nets → Contains x.nets.items (owner t (suspect_at x.suspects i).fault)
 
--- the same of the parts, with their responses
+-- the expected values are those of the parts, and the die is prepared for them
 pub record IsTested (x : Tested) : Type 0 where
   pub expected : x.expected.now ≡ expected_rows x.parts.now
   pub die : IsPrepared x.parts.now x.die.now

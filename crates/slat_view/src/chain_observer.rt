@@ -47,8 +47,8 @@ impl ChainObserver for Fits<'_> {
         self.points.place_seeing(point, nth)
     }
 
-    fn row(&self, scratch: &Scratch, behind: (u32, u32), kind: CellKind, place: u32) -> Row {
-        self.points.row(scratch, behind, kind, place)
+    fn row(&self, scratch: &Scratch, cell: (u32, u32), kind: CellKind, place: u32) -> Row {
+        self.points.row(scratch, cell, kind, place)
     }
 
     fn new_sum(&self, alloc: Global) -> Result<LaneCounter, NoMemory> {

@@ -39,8 +39,8 @@ impl Fits<'_> {
         let _ = self.points.parts.points();
         let mut against = LaneCounter::make(self.alloc)?;
         against.set(&self.totals);
-        against.sub_rows(&shown.fails);
-        against.add_rows(&shown.passes);
+        against.sub_rows(&shown.failing);
+        against.add_rows(&shown.passing);
         Ok(against.zeros())
     }
 }

@@ -61,8 +61,8 @@ impl Observer for Fits<'_> {
         self.points.mask(fault, net)
     }
 
-    fn behind(&self, pin: u32) -> Row {
-        self.points.behind(pin)
+    fn downstream(&self, pin: u32) -> Row {
+        self.points.downstream(pin)
     }
 
     fn straight(&self, pin: u32, value: Stuck) -> Result<Row, NoMemory> {

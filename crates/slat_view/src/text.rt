@@ -1,7 +1,7 @@
 //! The texts of the counts and of one pattern's faults.
 ghost use Rattle.std.specs.Prelude.{◌≡◌, ◌++◌, ◌∷◌, [], ◌<◌, length, map, decimal, codes, IfOk, OnOk};
 ghost use Rattle.scan_model.specs.Universe.{universe};
-ghost use Rattle.scan_model.specs.ReportText.{joined, spaced, line};
+ghost use Rattle.scan_model.specs.ReportText.{concatenated, spaced, line};
 ghost use Rattle.slat_view.specs.SlatText as text_of;
 ghost use Rattle.slat_view.specs.SlatText.{AddsText};
 ghost use Rattle.slat_view.specs.Trials.{ArePlaces};
@@ -79,7 +79,7 @@ pub fn slat_text(
     logs: u64,
     slat: &Slat,
 ) -> Result<Name, NoMemory>
-    ensures { IfOk result (λ text. text ≡ joined (text_of.count_lines design.now die.now logs slat.now.failing slat.now.rows)) }
+    ensures { IfOk result (λ text. text ≡ concatenated (text_of.count_lines design.now die.now logs slat.now.failing slat.now.rows)) }
 {
     let rows = slat.rows.as_slice();
     let mut text = Name::new(alloc);
@@ -121,7 +121,7 @@ pub fn pattern_text(
     places: &[u32],
 ) -> Result<Name, NoMemory>
     requires { ArePlaces parts.now places.now }
-    ensures { IfOk result (λ text. text ≡ joined (text_of.place_lines parts.now pattern places.now)) }
+    ensures { IfOk result (λ text. text ≡ concatenated (text_of.place_lines parts.now pattern places.now)) }
 {
     let mut text = Name::new(alloc);
     number_line(&mut text, b"pattern", u64::from(pattern))?;

@@ -19,7 +19,7 @@ word_len bs = position_or_len is_word_end bs
 abbrev parts : List ℕ → List (List ℕ)
 parts bs = slice_split is_blank (without_comment bs)
 
--- the same, behind a first part
+-- what stands between blanks, behind a first part
 abbrev parts_after : List ℕ → List (List ℕ)
 parts_after [] = []
 parts_after (b ∷ bs) = cond (is_comment b) [] (parts bs)

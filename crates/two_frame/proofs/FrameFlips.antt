@@ -146,5 +146,5 @@ frame_model-logic t sound order ordered all = record {
       ∙ ap (λ (b : Bool). b && predicted_at t w q f) (sym (captured t all w (ltb-true w (length t.patterns) is)));
   apart = λ f n w q logic touched. and_right (makes_transition t f w) (goes_straight t f q) (touched_hides t f n q logic touched);
   one_net = λ a b w kind. refl;
-  behind = λ w n r sole q within is. sole_from t sound order ordered (second_source t w) n r sole (point_at t q) (point_at-IsPoint t sound q within);
+  downstream = λ w n r sole q within is. sole_from t sound order ordered (second_source t w) n r sole (point_at t q) (point_at-IsPoint t sound q within);
 }

@@ -33,7 +33,7 @@ use Rattle.scan_model.specs.Coverage.{bits_of}
 use Rattle.scan_model.specs.Classes.{class_of}
 use Rattle.scan_model.specs.MatchCounts.{counts_by, candidates_by}
 use Rattle.scan_model.specs.Ranking.{ranked}
-use Rattle.scan_model.specs.ReportText.{ReportForm, point_words, stem_site, branch_site, fault_words, no_fault, layout_with, joined}
+use Rattle.scan_model.specs.ReportText.{ReportForm, point_words, stem_site, branch_site, fault_words, no_fault, layout_with, concatenated}
 use Rattle.scan_model.specs.PatternText.{PatternFrame}
 use Rattle.scan_model.specs.Masks.{point_pin}
 
@@ -166,7 +166,7 @@ abbrev pub frame_layout : ScanTest → List ℕ → List ℕ → ℕ → (Bit �
 frame_layout t design die count classes rows = layout_with (frame_form t) (bits_of t) design die count classes rows
 
 abbrev pub frame_report : ScanTest → List ℕ → List ℕ → List LogFacts → List ℕ
-frame_report t design die logs = joined (frame_layout t design die (length logs) (frame_class t logs) (ranked (frame_candidates t logs)))
+frame_report t design die logs = concatenated (frame_layout t design die (length logs) (frame_class t logs) (ranked (frame_candidates t logs)))
 
 -- ---- the pattern text
 

@@ -104,7 +104,7 @@ impl Observer for FrameCounts<'_> {
         }
     }
 
-    fn behind(&self, pin: u32) -> Row {
+    fn downstream(&self, pin: u32) -> Row {
         self.points.flips_behind(pin)
     }
 

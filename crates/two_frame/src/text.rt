@@ -28,7 +28,7 @@ pub fn frame_text(
     requires expected { FitsExpected expected.now joined.now }
     requires joined { IsJoinedOf (length parts.now.patterns) (length (points_of parts.now)) joined.now }
     requires places { All (λ row. row.place < length (transitions parts.now)) ranked.now }
-    ensures layout { (logs : List LogFacts) → StandsFor logs joined.now → IfOk result (λ text. text ≡ text_of.joined (frame_layout parts.now head.now.design head.now.die head.now.logs (class_with expected.now logs) ranked.now)) }
+    ensures layout { (logs : List LogFacts) → StandsFor logs joined.now → IfOk result (λ text. text ≡ text_of.concatenated (frame_layout parts.now head.now.design head.now.die head.now.logs (class_with expected.now logs) ranked.now)) }
     ensures report { (logs : List LogFacts) → StandsFor logs joined.now → expected.now ≡ frame_rows parts.now → head.now.logs ≡ length logs → ranked.now ≡ ranking.ranked (frame_candidates parts.now logs) → IfOk result (λ text. text ≡ frame_report parts.now head.now.design head.now.die logs) }
 {
     let _ = parts.patterns();

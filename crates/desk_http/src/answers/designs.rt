@@ -10,7 +10,7 @@ use crate::sessions::seat::SeatAt;
 use book::{BundleFault, read_bundle};
 use desk_outside::Gate;
 use desk_replies::{
-    Body, Entry, Response, Status, TextKind, Unanswered, design_body, design_head, put_response,
+    AnswerFault, Body, Entry, Response, Status, TextKind, design_body, design_head, put_response,
     refused_look, unknown_fault_body,
 };
 use diag_report::{fails_text, summary_text};
@@ -28,7 +28,7 @@ pub(super) fn put_design<R, D, S: SeatAt<R, D>, G: Gate>(
     gate: &mut G,
     name: &[u8],
     text: &[u8],
-) -> Result<Response, Unanswered>
+) -> Result<Response, AnswerFault>
     requires tag { is_tag name.now ≡ true }
     requires belongs { S.belongs seat.old desk.now }
     ensures stays { S.belongs seat.new desk.now }
@@ -40,11 +40,11 @@ pub(super) fn put_design<R, D, S: SeatAt<R, D>, G: Gate>(
         Err(BundleFault::Text { section, fault }) => {
             return Ok(Response::unprocessable(TextKind::Section(section), fault));
         }
-        Err(BundleFault::NoMemory) => return Err(Unanswered::NoMemory),
+        Err(BundleFault::NoMemory) => return Err(AnswerFault::NoMemory),
     };
     let body = design_body(name, design.digest());
     let Ok(design) = Arc::new(alloc, design) else {
-        return Err(Unanswered::NoMemory);
+        return Err(AnswerFault::NoMemory);
     };
     gate.pass();
     put_response(Entry::Design(body), seat.put_design(rt, desk, &design))

@@ -12,7 +12,7 @@ use crate::sessions::seat::SeatAt;
 use book::{Section, log_of};
 use desk_outside::Gate;
 use desk_replies::{
-    Body, Entry, Response, Status, TextKind, Unanswered, put_response, refused_look,
+    AnswerFault, Body, Entry, Response, Status, TextKind, put_response, refused_look,
     unknown_line_body,
 };
 use diag_report::Report;
@@ -33,7 +33,7 @@ pub(super) fn post_log<R, D, S: SeatAt<R, D>, G: Gate>(
     design: &[u8],
     die: &[u8],
     text: &[u8],
-) -> Result<Response, Unanswered>
+) -> Result<Response, AnswerFault>
     requires tag { is_tag die.now ≡ true }
     requires belongs { S.belongs seat.old desk.now }
     ensures stays { S.belongs seat.new desk.now }
@@ -52,10 +52,10 @@ pub(super) fn post_log<R, D, S: SeatAt<R, D>, G: Gate>(
             let kind = TextKind::Section(Section::Log);
             return Ok(Response::unprocessable(kind, fault));
         }
-        Err(ReadFault::NoMemory) => return Err(Unanswered::NoMemory),
+        Err(ReadFault::NoMemory) => return Err(AnswerFault::NoMemory),
     };
     let Ok(log) = Arc::new(alloc, log) else {
-        return Err(Unanswered::NoMemory);
+        return Err(AnswerFault::NoMemory);
     };
     gate.pass();
     put_response(Entry::Log, seat.put_log(rt, desk, &log))

@@ -14,7 +14,7 @@ use crate::sessions::seat::SeatAt;
 use book::{CheckedView, Sign};
 use desk_outside::Gate;
 use desk_replies::{
-    Entry, Response, Status, TextKind, Unanswered, put_response, refused_look, sign_off_body,
+    AnswerFault, Entry, Response, Status, TextKind, put_response, refused_look, sign_off_body,
 };
 use report_cache::ReportCache;
 use scan_model::NoMemory;
@@ -33,7 +33,7 @@ pub(super) fn post_sign<R: Threads + Sync, D, S: SeatAt<R, D>, G: Gate>(
     design: &[u8],
     die: &[u8],
     body: &[u8],
-) -> Result<Response, Unanswered>
+) -> Result<Response, AnswerFault>
     requires belongs { S.belongs seat.old desk.now }
     requires cache { IsTrueFor cache.old (S.facts seat.old desk.now).seen }
     ensures stays { S.belongs seat.new desk.now }
@@ -47,7 +47,7 @@ pub(super) fn post_sign<R: Threads + Sync, D, S: SeatAt<R, D>, G: Gate>(
             let fault = TextFault { line: 1, rule: 91 };
             Ok(Response::unprocessable(TextKind::SignOff, fault))
         }
-        Err(BodyFault::NoMemory) => Err(Unanswered::NoMemory),
+        Err(BodyFault::NoMemory) => Err(AnswerFault::NoMemory),
     }
 }
 
@@ -62,7 +62,7 @@ fn put_sign<R: Threads + Sync, D, S: SeatAt<R, D>, G: Gate>(
     design: &[u8],
     die: &[u8],
     sign: &Sign,
-) -> Result<Response, Unanswered>
+) -> Result<Response, AnswerFault>
     requires tag { is_tag sign.now.signer ≡ true }
     requires belongs { S.belongs seat.old desk.now }
     requires cache { IsTrueFor cache.old (S.facts seat.old desk.now).seen }

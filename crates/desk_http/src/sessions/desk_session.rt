@@ -6,7 +6,7 @@ ghost use Rattle.book.specs.LegalDeeds.{is_legal};
 ghost use Rattle.report_cache.specs.Truth.{IsTrueFor};
 ghost use Rattle.desk_http.specs.declared.sessions.requests.SessionEnd.{SessionEnd};
 ghost use Rattle.desk_http.specs.Sessions.{IsSession, Rise};
-ghost use Rattle.desk_http.specs.Serving.{DidSome, Serves};
+ghost use Rattle.desk_http.specs.ServedConnections.{DidSome, Serves};
 ghost use Rattle.desk_http.specs.DeskSeats.{of_desk, IsSeatOf};
 
 use crate::sessions::requests::{SessionNote, session_at};

@@ -28,7 +28,7 @@ use crate::sessions::marks::{ITEM_LIMIT, Marks};
 use crate::sessions::seat::SeatAt;
 use desk_heads::{BodyRead, Head, HeadFault, HeadRead, Inbox, read_head, read_to};
 use desk_outside::{Failed, Gate, Link, send_all};
-use desk_replies::{Refusal, Reply, Response, Unanswered, interim, keeper_fault, no_memory};
+use desk_replies::{AnswerFault, Refusal, Reply, Response, interim, keeper_fault, no_memory};
 use report_cache::ReportCache;
 use scan_model::{NoMemory, Rows};
 use std::alloc::Global;
@@ -191,8 +191,8 @@ fn respond<R: Threads + Sync, D, S: SeatAt<R, D>, G: Gate, L: Link>(
     let mark = Some(seat.mark(site.desk));
     let end = match came {
         Ok(response) => send_response(link, &response, closes),
-        Err(Unanswered::KeeperFault) => send_fixed(link, keeper_fault(closes), closes),
-        Err(Unanswered::NoMemory) => send_no_memory(link),
+        Err(AnswerFault::KeeperFault) => send_fixed(link, keeper_fault(closes), closes),
+        Err(AnswerFault::NoMemory) => send_no_memory(link),
     };
     TurnEnd { mark, end }
 }

@@ -4,7 +4,7 @@ ghost use Rattle.desk_outside.specs.Doors.{DoorTold};
 ghost use Rattle.desk_outside.specs.Faults.{Rose};
 ghost use Rattle.desk_outside.specs.declared.door.LinkHome.{LinkHome};
 ghost use Rattle.report_cache.specs.Truth.{IsTrueFor};
-ghost use Rattle.desk_http.specs.Serving.{DidSome, IsServed, Serves, is_unserved, with_served};
+ghost use Rattle.desk_http.specs.ServedConnections.{DidSome, IsServed, Serves, is_unserved, with_served};
 
 use crate::sessions::requests::{SessionEnd, session_at};
 use crate::sessions::seat::SeatAt;

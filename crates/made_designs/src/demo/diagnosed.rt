@@ -20,7 +20,7 @@ pub fn diagnosis_of<R: Threads + Sync>(
 ) -> Result<Diagnosis, NoMemory>
     requires case { IsDemoCase case.old }
     requires found { IsFound case.old.test injected }
-    ensures report { IfOk result (λ d. text_of.joined d.report ≡ own_report case.old.test (fault_of case.old.test injected.place)) }
+    ensures report { IfOk result (λ d. text_of.concatenated d.report ≡ own_report case.old.test (fault_of case.old.test injected.place)) }
     ensures candidates { IfOk result (λ d. d.candidates ≡ own_candidates case.old.test (fault_of case.old.test injected.place)) }
 {
     case.add_log(alloc, injected.log)?;

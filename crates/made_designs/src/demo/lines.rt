@@ -34,7 +34,7 @@ fn add_demo(alloc: Global, text: &mut Name, demo: Demo) -> Result<(), NoMemory>
 
 /// Adds the lines of the design that was made.
 pub fn add_head(alloc: Global, text: &mut Name, demo: Demo, parts: &Parts) -> Result<(), NoMemory>
-    ensures { OnOk result (text.new ≡ text.old ++ text_of.joined (head_lines demo.seed demo.blocks parts.now)) }
+    ensures { OnOk result (text.new ≡ text.old ++ text_of.concatenated (head_lines demo.seed demo.blocks parts.now)) }
 {
     add_demo(alloc, text, demo)?;
     add_count(alloc, text, "nets", parts.circuit().nets().len() as u64)?;
@@ -78,7 +78,7 @@ fn count_before(rows: &[Scored], place: u32) -> Option<usize>
 
 /// Adds the line of the candidate at a place, where there is one.
 pub fn add_rank(alloc: Global, text: &mut Name, rows: &[Scored], place: u32) -> Result<(), NoMemory>
-    ensures { OnOk result (text.new ≡ text.old ++ text_of.joined (rank_lines rows.now place)) }
+    ensures { OnOk result (text.new ≡ text.old ++ text_of.concatenated (rank_lines rows.now place)) }
 {
     let Some(before) = count_before(rows, place) else {
         return Ok(());

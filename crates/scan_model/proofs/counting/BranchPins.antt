@@ -81,7 +81,7 @@ module _ (c : Netlist) (order : List ℕ) (sound : IsNetlist c) (ordered : IsEva
   branch_flips_from p n i v kind in_range at drives =
       ap (are_opposite (good n)) (ap (λ (d : Driver). driven c s (force_pin p (stuck_value v)) d good n) drives) ∙ forced_gate_flips p n i (stuck_value v) kind in_range at drives
 
--- the same in a pattern
+-- the mask of a branch without its gate, in a pattern
 pub branch_flips : (t : ScanTest) (sound : IsScanTest t) (order : List ℕ) (ordered : IsEvaluationOrder t.netlist order) (w p n i : ℕ) (v : Stuck) (kind : GateKind) → p < length t.netlist.pins → (pin_at t.netlist p).place ≡ place.Operand n i → driver_of t.netlist n ≡ Gate kind
     → are_opposite (good_value t w n) (forced_output t w (fault.Branch p v) n) ≡ (are_opposite (good_value t w (pin_at t.netlist p).net) (stuck_value v) && senses kind (operand_values t w n) i)
 branch_flips t sound order ordered w = branch_flips_from t.netlist order sound.circuit.netlist ordered (source_of t None w)

@@ -14,8 +14,8 @@ pub returns-clause-shift : goal.returns-clause-shift
 returns-clause-shift c f w q logic lt shifts =
     shift_fails c.args.parts.now c.circuit.ensures.fits c.order.result.now (rw c.circuit.ensures.value at c.order.ensures) c.args.compact.now c.requires f w q logic lt shifts
 
-pub returns-clause-behind : goal.returns-clause-behind
-returns-clause-behind c w q p n g i kind lt in_range net at drives one =
+pub returns-clause-downstream : goal.returns-clause-downstream
+returns-clause-downstream c w q p n g i kind lt in_range net at drives one =
     let t = c.args.parts.now in
     let k = c.args.compact.now in
     flips_behind t c.circuit.ensures.fits c.order.result.now (rw c.circuit.ensures.value at c.order.ensures) w p n g i kind in_range net at drives one (members_at t k q) (recursion_from_All (IsPoint t) (members_at t k q) (members_are_points t k c.requires q lt))

@@ -17,20 +17,20 @@ add-requires c =
     let points : c.len.result ≡ length (points_of t) = c.len.ensures ∙ ap length c.points.ensures.value in
     let within : AreBits (length t.patterns) (length (points_of t)) bits = rw c.in-Some.is at c.in_ok-bits.ensures.within in
     let log_is : c.in_ok-log.log ≡ complete_log (length t.patterns) bits = c.in_ok-log.ensures ∙ ap (λ (n : ℕ). complete_log n bits) patterns in
-    let rows : c.in_ok-behind.behind.patterns ≡ length t.patterns = c.in_ok-behind.ensures.size.0 ∙ patterns in
-    let width : c.in_ok-behind.behind.points ≡ length (points_of t) = c.in_ok-behind.ensures.size.1 ∙ points in
+    let rows : c.in_ok-upstream_log.upstream_log.patterns ≡ length t.patterns = c.in_ok-upstream_log.ensures.size.0 ∙ patterns in
+    let width : c.in_ok-upstream_log.upstream_log.points ≡ length (points_of t) = c.in_ok-upstream_log.ensures.size.1 ∙ points in
     rw (rows, width, log_is) (complete_fits (length t.patterns) (length (points_of t)) bits (omega (arith, c.if-patterns-eq0.false, patterns)) within)
 
 pub returns-clause-suspects : goal.returns-clause-suspects
 returns-clause-suspects c =
     let plain : List LogFacts = c.in_ok-log.log ∷ [] in
-    (plain, c.in_ok-places.ensures.suspects plain (c.add.ensures.joined [] c.in_ok-behind.ensures.empty))
+    (plain, c.in_ok-places.ensures.suspects plain (c.add.ensures.joined [] c.in_ok-upstream_log.ensures.empty))
 
 pub returns-clause-few : goal.returns-clause-few
 returns-clause-few c =
     let t = c.args.parts.now in
     let plain : List LogFacts = c.in_ok-log.log ∷ [] in
-    let traced : c.in_ok-places.places ≡ suspects t plain = c.in_ok-places.ensures.suspects plain (c.add.ensures.joined [] c.in_ok-behind.ensures.empty) in
+    let traced : c.in_ok-places.places ≡ suspects t plain = c.in_ok-places.ensures.suspects plain (c.add.ensures.joined [] c.in_ok-upstream_log.ensures.empty) in
     omega (arith, ap length traced, suspects_few t plain, c.universe_len.ensures, c.universe_len.type_inv)
 
 pub returns-clause-outside : goal.returns-clause-outside
@@ -43,4 +43,4 @@ returns-clause-outside c = λ logs stands k f at unlisted.
     let listed : ListsUpstreamBits t compact logs bits = rw c.in-Some.is at (c.in_ok-bits.ensures.listed logs stands) in
     let Unexplained : LogFacts → Type 0 = λ log. (counts_of t (log ∷ []) f).tfsf ≡ 0 in
     none_explained t c.patterns.ensures.fits compact c.requires.made logs bits listed f
-    (subst Unexplained log_is (c.in_ok-places.ensures.outside (c.in_ok-log.log ∷ []) (c.add.ensures.joined [] c.in_ok-behind.ensures.empty) k f at unlisted))
+    (subst Unexplained log_is (c.in_ok-places.ensures.outside (c.in_ok-log.log ∷ []) (c.add.ensures.joined [] c.in_ok-upstream_log.ensures.empty) k f at unlisted))

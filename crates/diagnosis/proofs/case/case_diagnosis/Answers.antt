@@ -2,7 +2,7 @@ use Rattle.std.proofs.Common.{◌≡◌, ◌∙◌, ap}
 use Rattle.std.proofs.lemmas.Result.{IfOk-weaker}
 use Rattle.scan_model.specs.MatchCounts.{candidates}
 use Rattle.scan_model.specs.Ranking.{ranked}
-use Rattle.scan_model.specs.ReportText.{joined}
+use Rattle.scan_model.specs.ReportText.{concatenated}
 use Rattle.diagnosis.specs.declared.diagnosed.Diagnosis.{Diagnosis}
 use Rattle.diagnosis.specs.Designs.{facts_of}
 use Rattle.diagnosis.specs.Cases.{CaseFacts, case_lines, case_report}
@@ -16,8 +16,8 @@ returns-clause-lines g c =
 
 pub returns-clause-report : goal.returns-clause-report
 returns-clause-report g c =
-    IfOk-weaker c.diagnosis_of.result (λ (made : Diagnosis). made.report ≡ case_lines c.args.case.now) (λ (made : Diagnosis). joined made.report ≡ case_report c.args.case.now)
-    (λ made e. ap joined e) (returns-clause-lines g c)
+    IfOk-weaker c.diagnosis_of.result (λ (made : Diagnosis). made.report ≡ case_lines c.args.case.now) (λ (made : Diagnosis). concatenated made.report ≡ case_report c.args.case.now)
+    (λ made e. ap concatenated e) (returns-clause-lines g c)
 
 pub returns-clause-candidates : goal.returns-clause-candidates
 returns-clause-candidates g c =

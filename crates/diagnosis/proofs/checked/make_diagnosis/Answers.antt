@@ -6,7 +6,7 @@ use Rattle.scan_model.specs.Lines.{pieces}
 use Rattle.scan_model.specs.MatchCounts.{candidates}
 use Rattle.scan_model.specs.Ranking.{ranked}
 use Rattle.scan_model.specs.Response.{expected_rows}
-use Rattle.scan_model.specs.ReportText.{joined}
+use Rattle.scan_model.specs.ReportText.{concatenated}
 use Rattle.diagnosis.specs.declared.diagnosed.Diagnosis.{Diagnosis}
 use Rattle.diagnosis.specs.declared.log.ReadLog.{ReadLog}
 use Rattle.diagnosis.specs.Designs.{facts_of, view_lines, view_report}
@@ -42,8 +42,8 @@ returns-clause-lines g c =
 pub returns-clause-report : goal.returns-clause-report
 returns-clause-report g c =
     let lines = returns-clause-lines g c in
-    IfOk-weaker c.diagnosis_of.result (λ (made : Diagnosis). made.report ≡ view_lines c.args.view.now) (λ (made : Diagnosis). joined made.report ≡ view_report c.args.view.now)
-    (λ made e. ap joined e) lines
+    IfOk-weaker c.diagnosis_of.result (λ (made : Diagnosis). made.report ≡ view_lines c.args.view.now) (λ (made : Diagnosis). concatenated made.report ≡ view_report c.args.view.now)
+    (λ made e. ap concatenated e) lines
 
 pub returns-clause-cut : goal.returns-clause-cut
 returns-clause-cut g c =

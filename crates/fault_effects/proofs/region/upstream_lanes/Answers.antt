@@ -8,8 +8,8 @@ use Rattle.fault_effects.specs.Regions.{ShowsAs}
 use Rattle.fault_effects.proofs.Effects.{behind_reader}
 use Rattle.fault_effects.proofs.region.upstream_lanes.Goals as goal
 
-pub behind-lanes-requires-clause-pin : goal.behind-lanes-requires-clause-pin
-behind-lanes-requires-clause-pin g c = rw c.requires.work.test c.in_ok-reader.ensures.only.there
+pub downstream-lanes-requires-clause-pin : goal.downstream-lanes-requires-clause-pin
+downstream-lanes-requires-clause-pin g c = rw c.requires.work.test c.in_ok-reader.ensures.only.there
 
 pub returns : goal.returns
 returns g c =
@@ -34,6 +34,6 @@ returns g c =
     let Of : ScanTest → Type 0 = λ x. IsPinOf x reader.pin reader.gate in
     record {
       region = region;
-      shows = behind_reader t work.faults m work.model b root c.args.net reader last.lanes c.behind-lanes.result c.and.result sole
-          (λ j lt captured. c.behind-lanes.ensures reader.gate j (subst Of (sym work.test) sole.operand) lt captured) c.and.ensures (subst Above (sym c.if-reader-last.false) member);
+      shows = behind_reader t work.faults m work.model b root c.args.net reader last.lanes c.downstream-lanes.result c.and.result sole
+          (λ j lt captured. c.downstream-lanes.ensures reader.gate j (subst Of (sym work.test) sole.operand) lt captured) c.and.ensures (subst Above (sym c.if-reader-last.false) member);
     }

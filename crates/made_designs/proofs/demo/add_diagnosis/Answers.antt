@@ -2,7 +2,7 @@ use Rattle.std.proofs.Common.{◌≡◌, ℕ, List, ◌++◌, length, codes, dec
 use Rattle.std.proofs.lemmas.Result.{on_ok_weaker}
 use Rattle.scan_model.specs.declared.logs.Scored.{Scored}
 use Rattle.scan_model.specs.ScanTest.{ScanTest}
-use Rattle.scan_model.specs.ReportText.{joined, line, fault_words}
+use Rattle.scan_model.specs.ReportText.{concatenated, line, fault_words}
 use Rattle.diag_report.specs.PredictedLog.{fault_of, predicted_bits}
 use Rattle.diag_report.specs.Summary.{count_line}
 use Rattle.diagnosis.specs.Designs.{ReadLogFacts}
@@ -21,13 +21,13 @@ returns g c =
     let t1 = c.args.text.now ++ line (codes "injected" ∷ decimal place ∷ fault_words t f) in
     let t2 = c.add_fault.new.text in
     let t3 = t2 ++ count_line (codes "candidates") (length {A = Scored} made.candidates) in
-    let t4 = t3 ++ joined (rank_lines made.candidates place) in
+    let t4 = t3 ++ concatenated (rank_lines made.candidates place) in
     let told : t2 ≡ t1 ++ count_line (codes "fails") (length log.facts.fails) =
     c.in_ok-add_fault.ensures
     ∙ ap (λ (t : ScanTest). (c.args.text.now ++ line (codes "injected" ∷ decimal place ∷ fault_words t (fault_of t place))) ++ count_line (codes "fails") (length log.facts.fails)) c.parts.ensures in
     on_ok_weaker c.add_ranking.result
     (
-    diagnosis_added t place (length log.facts.fails) (length made.candidates) made.candidates (joined made.report)
+    diagnosis_added t place (length log.facts.fails) (length made.candidates) made.candidates (concatenated made.report)
     c.args.text.now t1 t2 t3 t4 c.add_ranking.new.text
     fails c.in_ok-diagnosis.ensures.candidates c.in_ok-diagnosis.ensures.report refl refl told refl refl
     )

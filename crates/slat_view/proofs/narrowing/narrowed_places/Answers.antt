@@ -12,7 +12,7 @@ use Rattle.lane_rows.specs.GoodRows.{AreBlockRows, no_block}
 use Rattle.slat_view.specs.Narrowed.{HaveFitsUpTo}
 use Rattle.slat_view.specs.Tests.{HaveAllFits}
 use Rattle.slat_view.proofs.NarrowedMarks.{fits_none, fits_more}
-use Rattle.slat_view.proofs.Serving.{marked_fits}
+use Rattle.slat_view.proofs.FittingCandidates.{marked_fits}
 use Rattle.slat_view.proofs.narrowing.narrowed_places.Goals as goal
 
 pub loop-b-init : goal.loop-b-init

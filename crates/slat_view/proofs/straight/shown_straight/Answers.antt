@@ -20,9 +20,9 @@ use Rattle.slat_view.specs.Straight.{shown_at}
 use Rattle.slat_view.proofs.PinTables.{straight_shown}
 use Rattle.slat_view.proofs.straight.shown_straight.Goals as goal
 
-none_shown : (shown : FlipRows) (m : ℕ → Bool) → shown.fails.items ≡ [] → shown.passes.items ≡ [] → (x : Side) → tallied (list_on x shown) m ≡ 0
-none_shown shown m fails passes Failing = ap (λ (rows : List (List ℕ)). tallied rows m) fails
-none_shown shown m fails passes Passing = ap (λ (rows : List (List ℕ)). tallied rows m) passes
+none_shown : (shown : FlipRows) (m : ℕ → Bool) → shown.failing.items ≡ [] → shown.passing.items ≡ [] → (x : Side) → tallied (list_on x shown) m ≡ 0
+none_shown shown m failing passing Failing = ap (λ (rows : List (List ℕ)). tallied rows m) failing
+none_shown shown m failing passing Passing = ap (λ (rows : List (List ℕ)). tallied rows m) passing
 
 pub show_points-requires-clause-points : goal.show_points-requires-clause-points
 show_points-requires-clause-points c =
@@ -42,7 +42,7 @@ returns c = λ side m.
     let net : c.net_of_pin-net.result ≡ (pin_at t.netlist p).net = c.net_of_pin-net.ensures.value ∙ ap (λ (n : Netlist). (pin_at n p).net) c.circuit.ensures.value in
     let found = get_or c.blocks-2.result.now b c.index-blocks-counts.result in
     let block : found ≡ block_at g b = get_or_default c.blocks-2.result.now b c.index-blocks-counts.result no_block (omega (arith, ap length c.blocks-2.ensures, c.args.counts.now.block_within)) ∙ ap (λ (bs : List Block). get_or bs b no_block) c.blocks-2.ensures in
-    let none : (x : Side) → tallied (list_on x c.new-shown.result) m ≡ 0 = none_shown c.new-shown.result m c.new-shown.ensures.fails c.new-shown.ensures.passes in
+    let none : (x : Side) → tallied (list_on x c.new-shown.result) m ≡ 0 = none_shown c.new-shown.result m c.new-shown.ensures.failing c.new-shown.ensures.passing in
     c.in_ok-show_points.ensures side m
     ∙ ap (λ (n : ℕ). n + sum_by (shown_at t rows side place mask m) c.points_of_net-points.result.now) (none side)
     ∙ ap (λ (ps : List ℕ). 0 + sum_by (shown_at t rows side place mask m) ps) c.points_of_net-points.ensures

@@ -18,7 +18,7 @@ use Rattle.diagnosis.proofs.Views.{view_is_case}
 use Rattle.slat_view.specs.declared.slat.Slat.{Slat}
 use Rattle.slat_view.specs.Slat.{failing_patterns, slat_rows, fitting_places}
 use Rattle.slat_view.specs.Tests.{IsSlatUpTo, fitting_among}
-use Rattle.slat_view.proofs.Serving.{fitting_listed}
+use Rattle.slat_view.proofs.FittingCandidates.{fitting_listed}
 use Rattle.slat_view.proofs.views.slat_places.Goals as goal
 
 pub joined_of-requires : goal.joined_of-requires

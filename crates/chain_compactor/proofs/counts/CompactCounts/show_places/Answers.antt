@@ -16,12 +16,12 @@ use Rattle.chain_compactor.proofs.SparseSums.{sum_up_to, sum_next_place, absent_
 use Rattle.chain_compactor.proofs.counts.CompactCounts.show_places.Goals as goal
 
 -- nothing is kept of a flip
-none_kept : (shown : FlipRows) → shown.fails.items ≡ [] → shown.passes.items ≡ [] → (side : Side) (m : ℕ → Bool) → tallied (list_on side shown) m ≡ 0
-none_kept shown fails passes Failing m = ap (λ (rows : List (List ℕ)). tallied rows m) fails
-none_kept shown fails passes Passing m = ap (λ (rows : List (List ℕ)). tallied rows m) passes
+none_kept : (shown : FlipRows) → shown.failing.items ≡ [] → shown.passing.items ≡ [] → (side : Side) (m : ℕ → Bool) → tallied (list_on side shown) m ≡ 0
+none_kept shown failing passing Failing m = ap (λ (rows : List (List ℕ)). tallied rows m) failing
+none_kept shown failing passing Passing m = ap (λ (rows : List (List ℕ)). tallied rows m) passing
 
 pub loop-place-init : goal.loop-place-init
-loop-place-init g c = record { within = omega arith; shown = none_kept c.clear.new.self c.clear.ensures.fails c.clear.ensures.passes }
+loop-place-init g c = record { within = omega arith; shown = none_kept c.clear.new.self c.clear.ensures.failing c.clear.ensures.passing }
 
 pub loop-place-preserved : goal.loop-place-preserved
 loop-place-preserved g c =

@@ -14,4 +14,4 @@ pub returns : goal.returns
 returns c = λ j lt.
     let o = c.args.self.now in
     c.differing_row.ensures j lt
-    ∙ cell_places o.parts.now c.chains.ensures.fits o.compact.now o.made o.block c.args.behind.0 c.args.behind.1 c.args.kind c.patterns-there.result c.args.place j c.requires.place (c.patterns-there.ensures j lt)
+    ∙ cell_places o.parts.now c.chains.ensures.fits o.compact.now o.made o.block c.args.cell.0 c.args.cell.1 c.args.kind c.patterns-there.result c.args.place j c.requires.place (c.patterns-there.ensures j lt)

@@ -15,5 +15,5 @@ returns-in-None-change c = λ j lt there.
     let g = o.good.now in
     let b = o.block in
     let s = o.scratch.now in
-    outside_same o.parts.now c.chains.ensures.fits g c.requires.ready.belongs o.behind.0 o.behind.1 o.kind s b j c.args.point c.requires.ready.block lt there c.requires.point c.in-None.ensures c.requires.ready.loaded
+    outside_same o.parts.now c.chains.ensures.fits g c.requires.ready.belongs o.cell.0 o.cell.1 o.kind s b j c.args.point c.requires.ready.block lt there c.requires.point c.in-None.ensures c.requires.ready.loaded
     (subst (λ (n : ℕ). now_at g s b j n ≡ good_at g b j n) c.requires.net (c.in-None-change.ensures j))

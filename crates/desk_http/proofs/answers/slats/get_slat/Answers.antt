@@ -1,7 +1,7 @@
 use Rattle.std.proofs.Common.{◌≡◌, ◌∙◌, ℕ, List, length, sym, ap, ap₂, subst}
 use Rattle.std.specs.Arc.{arc_value}
 use Rattle.std.proofs.lemmas.List.{length-map}
-use Rattle.scan_model.specs.ReportText.{joined}
+use Rattle.scan_model.specs.ReportText.{concatenated}
 use Rattle.diagnosis.specs.Designs.{ViewFacts, ReadLogFacts, IsView, facts_of}
 use Rattle.slat_view.specs.declared.slat.SlatCount.{SlatCount}
 use Rattle.slat_view.specs.SlatText.{count_lines, slat_text}
@@ -30,8 +30,8 @@ returns-clause-made g c =
     let count : c.revision.result ≡ length logs = c.revision.ensures.number ∙ sym (length-map v.logs (λ (log : ReadLogFacts). log.facts)) in
     let text : c.in_ok-text.text ≡ slat_text v.design.test design die logs =
     c.in_ok-text.ensures
-    ∙ ap (λ (n : ℕ). joined (count_lines design die n slat.failing slat.rows)) count
-    ∙ ap₂ (λ (n : ℕ) (rows : List SlatCount). joined (count_lines design die (length logs) n rows)) whole.failing whole.rows in
+    ∙ ap (λ (n : ℕ). concatenated (count_lines design die n slat.failing slat.rows)) count
+    ∙ ap₂ (λ (n : ℕ) (rows : List SlatCount). concatenated (count_lines design die (length logs) n rows)) whole.failing whole.rows in
     c.plain.ensures
     ∙ ap (λ (b : List ℕ). response_of (plain status.Ok b)) (c.text.ensures ∙ text)
     ∙ sym (ap response_of (slat_got seen design die c.args.revision v c.in-Ok.ensures.looked c.in-Ok.ensures.view view c.in-Ok.ensures.design c.in-Ok.ensures.die))

@@ -2,7 +2,7 @@ use Rattle.std.proofs.Common.{◌≡◌, ◌∙◌, ◌&&◌, ◌<◌, ltb, Bool
 use Rattle.std.specs.Prelude.{if◌then◌else◌}
 use Rattle.std.proofs.lemmas.Bool.{eqb-true, eqb-false}
 use Rattle.scan_model.specs.ScanTest.{ScanTest}
-use Rattle.scan_model.specs.ReportText.{joined}
+use Rattle.scan_model.specs.ReportText.{concatenated}
 use Rattle.diagnosis.specs.Designs.{DesignFacts, facts_of}
 use Rattle.slat_view.specs.declared.slat.SlatCount.{SlatCount}
 use Rattle.slat_view.specs.Slat.{is_explained, slat_rows, fitting_places}
@@ -37,7 +37,7 @@ returns g c =
     let found = pattern_shown t logs w c.in_ok-places.places c.in_ok-places.ensures.places some in
     let is_t : c.parts-parts.result.now ≡ t = c.parts-parts.ensures.value ∙ ap (λ (d : DesignFacts). d.test) c.design.ensures in
     let text : c.in_ok-text.text ≡ pattern_text t logs w =
-    c.in_ok-text.ensures ∙ ap₂ (λ (x : ScanTest) (places : List ℕ). joined (place_lines x w places)) is_t (c.as_slice.ensures ∙ found.1) in
+    c.in_ok-text.ensures ∙ ap₂ (λ (x : ScanTest) (places : List ℕ). concatenated (place_lines x w places)) is_t (c.as_slice.ensures ∙ found.1) in
     c.plain.ensures
     ∙ ap (λ (b : List ℕ). response_of (plain status.Ok b)) (c.text.ensures ∙ text)
     ∙ sym (ap (λ (b : Bool). response_of (if b then plain status.Ok (pattern_text t logs w) else plain status.NotFound (unknown_pattern_body (length (slat_rows t logs))))) found.0)

@@ -1,7 +1,7 @@
 use Rattle.std.proofs.Common.{◌≡◌, ℕ, List, Some, Result, Err, ap, subst, rules}
 use Rattle.desk_replies.specs.declared.response.Response.{Response}
-use Rattle.desk_replies.specs.declared.response.Unanswered.{Unanswered}
-use Rattle.desk_replies.specs.declared.response.Unanswered.TheVariants as failed
+use Rattle.desk_replies.specs.declared.response.AnswerFault.{AnswerFault}
+use Rattle.desk_replies.specs.declared.response.AnswerFault.TheVariants as failed
 use Rattle.desk_http.specs.Answering.{IsAnswer, Answered}
 use Rattle.desk_http.specs.Turns.{Replied}
 use Rattle.desk_http.proofs.sessions.requests.respond.Goals as goal
@@ -12,7 +12,7 @@ returns-in-Err-KeeperFault-clause-responds g c =
     let is : c.answer-came.result ≡ Err failed.KeeperFault = search rules in
     record {
       came = Err failed.KeeperFault;
-      answered = subst (λ (r : Result Response Unanswered). Answered (λ deeds answer. IsAnswer s.limit deeds c.args.request.now.target.now c.args.request.now.method c.args.request.now.body.now answer) r s (g.S.SeatAt.facts c.answer-came.new.seat c.args.site.now.desk.now)) is
+      answered = subst (λ (r : Result Response AnswerFault). Answered (λ deeds answer. IsAnswer s.limit deeds c.args.request.now.target.now c.args.request.now.method c.args.request.now.body.now answer) r s (g.S.SeatAt.facts c.answer-came.new.seat c.args.site.now.desk.now)) is
           c.answer-came.ensures.answered;
       mark_is = ap Some c.mark.ensures.number;
       sent = subst (λ (t : List ℕ). Replied c.send_fixed-end.result c.args.closes t (g.L.Link.sent c.args.link.now) (g.L.Link.sent c.send_fixed-end.new.link)) c.keeper_fault.ensures c.send_fixed-end.ensures.sent;

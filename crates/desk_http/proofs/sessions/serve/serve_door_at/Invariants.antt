@@ -1,7 +1,7 @@
 use Rattle.std.proofs.Common.{◌≡◌, ◌-◌, ◌≤◌, Some}
 use Rattle.desk_outside.specs.Doors.{DoorTold}
 use Rattle.report_cache.specs.Truth.{IsTrueFor}
-use Rattle.desk_http.specs.Serving.{DidSome, Serves}
+use Rattle.desk_http.specs.ServedConnections.{DidSome, Serves}
 use Rattle.desk_http.proofs.sessions.serve.serve_door_at.Given as goal
 
 abbrev pub invariant-loop-ended : goal.invariant-loop-ended

@@ -2,7 +2,7 @@ use Rattle.std.proofs.Common.{◌≡◌, [], ◌∷◌, ◌∙◌}
 use Rattle.std.proofs.lemmas.Result.{IfOk-weaker}
 use Rattle.scan_model.specs.MatchCounts.{candidates}
 use Rattle.scan_model.specs.Ranking.{ranked}
-use Rattle.scan_model.specs.ReportText.{joined}
+use Rattle.scan_model.specs.ReportText.{concatenated}
 use Rattle.diag_report.specs.PredictedLog.{fault_of}
 use Rattle.diagnosis.specs.declared.diagnosed.Diagnosis.{Diagnosis}
 use Rattle.diagnosis.specs.Designs.{facts_of}
@@ -24,7 +24,7 @@ returns-clause-report g c =
     let k = c.add_log.new.self in
     let one : k ≡ demo_case t (log ∷ []) = with_one t c.in_ok-add_log.field-0 log c.args.case.now k c.requires.case.is c.in_ok-add_log.ensures.added c.in_ok-add_log.ensures.kept in
     let is = report_is t c.args.injected.place log c.requires.found.own k one in
-    IfOk-weaker c.case_diagnosis.result (λ (x : Diagnosis). joined x.report ≡ case_report k) (λ (x : Diagnosis). joined x.report ≡ own_report t (fault_of t c.args.injected.place))
+    IfOk-weaker c.case_diagnosis.result (λ (x : Diagnosis). concatenated x.report ≡ case_report k) (λ (x : Diagnosis). concatenated x.report ≡ own_report t (fault_of t c.args.injected.place))
     (λ x e. e ∙ is) c.case_diagnosis.ensures.report
 
 pub returns-clause-candidates : goal.returns-clause-candidates

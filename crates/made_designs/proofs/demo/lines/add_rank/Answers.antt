@@ -2,7 +2,7 @@ use Rattle.std.proofs.Common.{rules, ◌≡◌, ℕ, ◌+◌, ◌++◌, List, eq
 use Rattle.std.specs.Prelude.{position}
 use Rattle.std.proofs.lemmas.Result.{on_ok_weaker}
 use Rattle.scan_model.specs.declared.logs.Scored.{Scored}
-use Rattle.scan_model.specs.ReportText.{joined}
+use Rattle.scan_model.specs.ReportText.{concatenated}
 use Rattle.made_designs.specs.Demo.{rank_line, rank_lines_of}
 use Rattle.made_designs.proofs.FirstPlace.{numbered_at, numbered_none}
 use Rattle.made_designs.proofs.demo.lines.add_rank.Goals as goal
@@ -12,7 +12,7 @@ returns-in_default c =
     let rows = c.args.rows.now in
     let text = c.args.text.now in
     let none : position (λ (row : Scored). eqb row.place c.args.place) rows ≡ None = search rules in
-    sym (ap (λ (r : Option (ℕ × Scored)). text ++ joined (rank_lines_of r)) (numbered_none (λ (row : Scored). eqb row.place c.args.place) 1 rows none) ∙ append-nil text)
+    sym (ap (λ (r : Option (ℕ × Scored)). text ++ concatenated (rank_lines_of r)) (numbered_none (λ (row : Scored). eqb row.place c.args.place) 1 rows none) ∙ append-nil text)
 
 pub returns : goal.returns
 returns c =
@@ -28,6 +28,6 @@ returns c =
     λ added. added
     ∙ ap (λ (n : ℕ). text ++ rank_line (n, get_or rows before none)) counted
     ∙ ap (λ (bs : List ℕ). text ++ bs) (sym (append-nil (rank_line (1 + before, get_or rows before none))))
-    ∙ sym (ap (λ (r : Option (ℕ × Scored)). text ++ joined (rank_lines_of r)) found)
+    ∙ sym (ap (λ (r : Option (ℕ × Scored)). text ++ concatenated (rank_lines_of r)) found)
     )
     c.add_rank_line.ensures

@@ -28,7 +28,7 @@ add_points-requires c = rw c.points_of_net.ensures (λ k d lt. omega (arith, c.a
 pub loop-net-init : goal.loop-net-init
 loop-net-init c = λ side. by_side side
   where
-    by_side : (side : Side) (m : ℕ → Bool) → tallied (list_on side (record { fails = c.clear.new.self; passes = c.clear-2.new.self })) m ≡ 0
+    by_side : (side : Side) (m : ℕ → Bool) → tallied (list_on side (record { failing = c.clear.new.self; passing = c.clear-2.new.self })) m ≡ 0
     by_side Failing m = ap (λ (rows : List (List ℕ)). tallied rows m) c.clear.ensures.items
     by_side Passing m = ap (λ (rows : List (List ℕ)). tallied rows m) c.clear-2.ensures.items
 

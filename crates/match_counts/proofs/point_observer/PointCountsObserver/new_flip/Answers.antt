@@ -14,5 +14,5 @@ returns c = λ side. by_side side
     empty side m = sym (none_sum c.args.self.now.rows.now side (λ q j. no_places q j && m j) (λ q j. refl))
 
     by_side : (side : Side) (m : ℕ → Bool) → tallied (list_on side c.new.result) m ≡ sum_of_table c.args.self.now.rows.now side (λ q j. no_places q j && m j)
-    by_side Failing m = ap (λ (rows : List (List ℕ)). tallied rows m) c.new.ensures.fails ∙ empty Failing m
-    by_side Passing m = ap (λ (rows : List (List ℕ)). tallied rows m) c.new.ensures.passes ∙ empty Passing m
+    by_side Failing m = ap (λ (rows : List (List ℕ)). tallied rows m) c.new.ensures.failing ∙ empty Failing m
+    by_side Passing m = ap (λ (rows : List (List ℕ)). tallied rows m) c.new.ensures.passing ∙ empty Passing m

@@ -9,7 +9,7 @@ use Rattle.packed_sim.proofs.Loading.{loading_begins, loading_ends, above_lt, ab
 use Rattle.packed_sim.proofs.good.PackedGood.load.Goals as goal
 
 pub loop-at-init : goal.loop-at-init
-loop-at-init g c = rw c.chain_len-at.ensures (loading_begins c.args.parts.now c.chains.ensures.fits c.args.self.now c.requires.good c.args.block c.requires.block c.args.behind.0 c.requires.chain c.args.behind.1 c.args.kind c.requires.pos c.args.scratch.now c.requires.scratch)
+loop-at-init g c = rw c.chain_len-at.ensures (loading_begins c.args.parts.now c.chains.ensures.fits c.args.self.now c.requires.good c.args.block c.requires.block c.args.fault_cell.0 c.requires.chain c.args.fault_cell.1 c.args.kind c.requires.pos c.args.scratch.now c.requires.scratch)
 
 pub load_cell-requires : goal.load_cell-requires
 load_cell-requires g c = record {
@@ -26,7 +26,7 @@ loop-at-preserved g c = record {
   opens = c.load_cell.ensures.opened;
   above_le = omega arith;
   at_lt = omega (arith, c.loop-at.invariant.at_lt);
-  within = c.load_cell.ensures.within c.args.behind.1 (omega arith) c.loop-at.invariant.within;
+  within = c.load_cell.ensures.within c.args.fault_cell.1 (omega arith) c.loop-at.invariant.within;
   rooms = c.load_cell.ensures.room ∙ c.loop-at.invariant.rooms;
 }
 
@@ -37,7 +37,7 @@ pub settle-requires-clause-fits : goal.settle-requires-clause-fits
 settle-requires-clause-fits g c = rw (c.circuit-circuit.ensures.value, c.values-good.ensures) c.loop-at.invariant.opens.fits
 
 pub returns-clause-loaded : goal.returns-clause-loaded
-returns-clause-loaded g c = loading_ends c.args.parts.now c.chains.ensures.fits c.args.self.now c.requires.good c.args.block c.requires.block c.args.behind.0 c.requires.chain c.args.behind.1 c.args.kind c.requires.pos
+returns-clause-loaded g c = loading_ends c.args.parts.now c.chains.ensures.fits c.args.self.now c.requires.good c.args.block c.requires.block c.args.fault_cell.0 c.requires.chain c.args.fault_cell.1 c.args.kind c.requires.pos
     c.loop-at.at c.args.scratch.now c.loop-at.scratch c.settle.new.self c.requires.scratch.inside c.loop-at-test.false c.loop-at.invariant
     (rw (c.circuit-circuit.ensures.value, c.values-good.ensures) at c.settle.ensures.fits) c.settle.ensures.empty c.settle.ensures.room
     (rw (c.circuit-circuit.ensures.value, c.values-good.ensures) at c.settle.ensures.leaves)
@@ -47,10 +47,10 @@ pub returns-clause-steps : goal.returns-clause-steps
 returns-clause-steps g c =
     let t = c.args.parts.now in
     let s = c.args.self.now in
-    let nets = drop (c.args.behind.1 + 1) (chain_at t c.args.behind.0).cells in
+    let nets = drop (c.args.fault_cell.1 + 1) (chain_at t c.args.fault_cell.0).cells in
     let order = s.wiring.order.items in
     let closed : IsClosed t.netlist (is_downstream t.netlist nets) = behind_closed t.netlist order c.chains.ensures.fits.circuit.netlist c.requires.good.built.wired.wired.ordered nets
-    (above_lt t c.chains.ensures.fits s c.requires.good c.args.block c.requires.block c.args.behind.0 c.requires.chain c.args.behind.1)
-    (above_apart t c.chains.ensures.fits s c.requires.good c.args.block c.requires.block c.args.behind.0 c.requires.chain c.args.behind.1) in
+    (above_lt t c.chains.ensures.fits s c.requires.good c.args.block c.requires.block c.args.fault_cell.0 c.requires.chain c.args.fault_cell.1)
+    (above_apart t c.chains.ensures.fits s c.requires.good c.args.block c.requires.block c.args.fault_cell.0 c.requires.chain c.args.fault_cell.1) in
     let few : c.settle.new.steps ≤ c.args.steps.now + count_by (is_downstream t.netlist nets) order = c.settle.ensures.steps (is_downstream t.netlist nets) (subst (λ (n : Netlist). IsClosed n (is_downstream t.netlist nets)) (sym c.circuit-circuit.ensures.value) closed) c.loop-at.invariant.within in
     omega (arith, few, few_steps t c.chains.ensures.fits s c.requires.good.built nets)

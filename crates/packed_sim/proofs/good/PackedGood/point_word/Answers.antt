@@ -12,7 +12,7 @@ pub returns : goal.returns
 returns c i i_lt =
     let t = c.args.parts.now in
     let word = c.args.word in
-    let f = fault.Cell c.args.behind.0 c.args.behind.1 c.args.kind in
+    let f = fault.Cell c.args.cell.0 c.args.cell.1 c.args.kind in
     c.word.ensures i i_lt
     ∙ c.predicted_row-row.ensures (64 * (word % 8) + i) (lane_inside word i i_lt)
     ∙ ap (λ (w : ℕ). ltb w (length t.patterns) && predicts_fail t f (bit_of w c.args.k)) (pattern_is word i)

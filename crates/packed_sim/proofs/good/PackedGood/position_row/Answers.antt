@@ -15,8 +15,8 @@ pub returns : goal.returns
 returns c j j_lt =
     let t = c.args.parts.now in
     let w = pattern_of c.args.block j in
-    let p = point.Cell c.args.behind.0 c.args.at in
-    let faulty = observed t (Some (fault.Cell c.args.behind.0 c.args.behind.1 c.args.kind)) w p in
+    let p = point.Cell c.args.cell.0 c.args.at in
+    let faulty = observed t (Some (fault.Cell c.args.cell.0 c.args.cell.1 c.args.kind)) w p in
     c.and.ensures j j_lt
     ∙ ap (λ (x : Bool). x && lane c.opposite-differs.result j) (c.patterns-there.ensures j j_lt)
     ∙ and_when (ltb w (length t.patterns)) (lane c.opposite-differs.result j) (are_opposite (observed t None w p) faulty)

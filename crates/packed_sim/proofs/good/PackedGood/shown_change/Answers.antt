@@ -24,8 +24,8 @@ pub returns-in-Some : goal.returns-in-Some
 returns-in-Some c =
     let t = c.args.parts.now in
     let b = c.args.block in
-    let f = fault.Cell c.args.behind.0 c.args.behind.1 c.args.kind in
-    let q : Point = Cell c.args.behind.0 c.in-Some.at in
+    let f = fault.Cell c.args.cell.0 c.args.cell.1 c.args.kind in
+    let q : Point = Cell c.args.cell.0 c.in-Some.at in
     let at_position : IsShownChange t b f q c.xor.result = λ j lt there.
     xor_back (observed t None (pattern_of b j) q) (observed t (Some f) (pattern_of b j) q) (held c.xor.result j)
     (c.xor.ensures j lt
@@ -41,7 +41,7 @@ returns-in-Some-change c = λ j lt there.
     let s = c.args.scratch.now in
     let on = lane c.capture-capture.result j in
     let change = held c.in-Some-change.change j in
-    outside_change t c.chains.ensures.fits g c.requires.good c.args.behind.0 c.args.behind.1 c.args.kind s b j c.args.point c.requires.block lt there c.requires.point c.in-None.ensures c.requires.loaded
+    outside_change t c.chains.ensures.fits g c.requires.good c.args.cell.0 c.args.cell.1 c.args.kind s b j c.args.point c.requires.block lt there c.requires.point c.in-None.ensures c.requires.loaded
     (held c.pick.result j) change on
     (ap (λ (r : List ℕ). lane r j) c.capture-capture.ensures ∙ (c.requires.good.rows.each b c.requires.block).capture j lt)
     (c.pick.ensures j lt ∙ ap (cond on change) (c.all-still.ensures j lt))
@@ -52,5 +52,5 @@ returns-in-None-change c = λ j lt there.
     let g = c.args.self.now in
     let b = c.args.block in
     let s = c.args.scratch.now in
-    outside_same c.args.parts.now c.chains.ensures.fits g c.requires.good c.args.behind.0 c.args.behind.1 c.args.kind s b j c.args.point c.requires.block lt there c.requires.point c.in-None.ensures c.requires.loaded
+    outside_same c.args.parts.now c.chains.ensures.fits g c.requires.good c.args.cell.0 c.args.cell.1 c.args.kind s b j c.args.point c.requires.block lt there c.requires.point c.in-None.ensures c.requires.loaded
     (subst (λ (n : ℕ). now_at g s b j n ≡ good_at g b j n) c.observed_net-net.ensures.value (c.in-None-change.ensures j))

@@ -1,5 +1,5 @@
 use Rattle.std.proofs.Common.{rules, ◌≡◌, ◌<◌, ◌∷◌, length, sym, ap, subst, ◌∙◌}
-use Rattle.shared_desk.specs.declared.turns.View.{View}
+use Rattle.shared_desk.specs.declared.turns.SeatView.{SeatView}
 use Rattle.shared_desk.specs.Seats.{seat_facts}
 use Rattle.shared_desk.specs.Turns.{AllNoted, IsLast}
 use Rattle.shared_desk.specs.Starting.{IsFinished}

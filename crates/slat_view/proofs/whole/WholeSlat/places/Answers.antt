@@ -7,7 +7,7 @@ use Rattle.diagnosis.specs.Designs.{facts_of}
 use Rattle.slat_view.specs.declared.fit.Fit.{Fit}
 use Rattle.slat_view.specs.Slat.{fitting_places}
 use Rattle.slat_view.specs.Whole.{places_at, HavePlacesUpTo}
-use Rattle.slat_view.proofs.Serving.{fitting_listed}
+use Rattle.slat_view.proofs.FittingCandidates.{fitting_listed}
 use Rattle.slat_view.proofs.whole.WholeSlat.places.Goals as goal
 
 pub returns-in-Some-clause-candidates : goal.returns-in-Some-clause-candidates

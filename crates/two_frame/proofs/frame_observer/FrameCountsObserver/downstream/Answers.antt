@@ -3,7 +3,7 @@ use Rattle.lane_rows.specs.Stimuli.{AreRowsOf}
 use Rattle.packed_sim.specs.declared.good.PackedGood.{PackedGood}
 use Rattle.packed_sim.specs.Belongs.{IsBuiltFor}
 use Rattle.two_frame.specs.FrameRows.{second_stimuli}
-use Rattle.two_frame.proofs.frame_observer.FrameCountsObserver.behind.Goals as goal
+use Rattle.two_frame.proofs.frame_observer.FrameCountsObserver.downstream.Goals as goal
 
 pub flips_behind-requires-clause-built : goal.flips_behind-requires-clause-built
 flips_behind-requires-clause-built c = let Built : PackedGood → Type 0 = IsBuiltFor c.args.self.now.points.parts.now in subst Built (sym c.args.self.now.second) c.requires.ready.built

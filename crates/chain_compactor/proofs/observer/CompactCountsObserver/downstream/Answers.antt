@@ -4,7 +4,7 @@ use Rattle.scan_model.specs.declared.fault.Fault.TheVariants.{Branch}
 use Rattle.scan_model.specs.Masks.{mask}
 use Rattle.lane_rows.specs.Lanes.{lane}
 use Rattle.lane_rows.specs.GoodRows.{pattern_of}
-use Rattle.chain_compactor.proofs.observer.CompactCountsObserver.behind.Goals as goal
+use Rattle.chain_compactor.proofs.observer.CompactCountsObserver.downstream.Goals as goal
 
 pub returns : goal.returns
 returns c = λ g j pin lt captured.
