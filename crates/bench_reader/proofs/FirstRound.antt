@@ -13,6 +13,7 @@ use Rattle.std.proofs.lemmas.Grind.{fold-append}
 use Rattle.scan_model.specs.Lines.{line_at, has_refused_byte}
 use Rattle.scan_model.specs.Words.{is_short, has_word}
 use Rattle.scan_model.specs.TextFaults.{lowest, fault_from, first_fault}
+use Rattle.scan_model.specs.declared.rules.TheConstants.{REFUSED_BYTE, NO_FORM, UNKNOWN_WORD, WRONG_COUNT, LONG_NAME, DEFINED_TWICE, TOO_MANY_NETS_OR_PINS}
 use Rattle.scan_model.specs.NetlistLines.{Form, nothing, input, output, definition, no_form, form_of}
 use Rattle.scan_model.specs.NetlistRules.{forms_of, nets_of, new_output, pins_of, pins_after, defined_names, outputs_of, defines_among, has_long_name, is_no_form, has_unknown_word, has_wrong_count, net_limit, pin_limit, makes_past, first_rule, first_rules}
 use Rattle.scan_model.proofs.FaultSteps.{fault_goes_on, fault_is_here, fault_is_none}
@@ -95,15 +96,15 @@ not_broken : (r : ℕ) (b : Bool) (more : List (ℕ × Bool)) → lowest ((r, b)
 not_broken r true more e = absurd cc
 not_broken r false more e = (refl, e)
 
-six_held : (b1 b2 b3 b4 b5 b6 : Bool) (b9 : ℕ × Bool) → lowest ((1, b1) ∷ (2, b2) ∷ (3, b3) ∷ (4, b4) ∷ (5, b5) ∷ (6, b6) ∷ b9 ∷ []) ≡ None
+six_held : (b1 b2 b3 b4 b5 b6 : Bool) (b9 : ℕ × Bool) → lowest ((REFUSED_BYTE, b1) ∷ (NO_FORM, b2) ∷ (UNKNOWN_WORD, b3) ∷ (WRONG_COUNT, b4) ∷ (LONG_NAME, b5) ∷ (DEFINED_TWICE, b6) ∷ b9 ∷ []) ≡ None
     → (b3 ≡ false) × (b4 ≡ false) × (b5 ≡ false) × (b6 ≡ false)
 six_held b1 b2 b3 b4 b5 b6 b9 none =
-    let past1 = not_broken 1 b1 ((2, b2) ∷ (3, b3) ∷ (4, b4) ∷ (5, b5) ∷ (6, b6) ∷ b9 ∷ []) none in
-    let past2 = not_broken 2 b2 ((3, b3) ∷ (4, b4) ∷ (5, b5) ∷ (6, b6) ∷ b9 ∷ []) past1.1 in
-    let past3 = not_broken 3 b3 ((4, b4) ∷ (5, b5) ∷ (6, b6) ∷ b9 ∷ []) past2.1 in
-    let past4 = not_broken 4 b4 ((5, b5) ∷ (6, b6) ∷ b9 ∷ []) past3.1 in
-    let past5 = not_broken 5 b5 ((6, b6) ∷ b9 ∷ []) past4.1 in
-    (past3.0, past4.0, past5.0, (not_broken 6 b6 (b9 ∷ []) past5.1).0)
+    let past1 = not_broken REFUSED_BYTE b1 ((NO_FORM, b2) ∷ (UNKNOWN_WORD, b3) ∷ (WRONG_COUNT, b4) ∷ (LONG_NAME, b5) ∷ (DEFINED_TWICE, b6) ∷ b9 ∷ []) none in
+    let past2 = not_broken NO_FORM b2 ((UNKNOWN_WORD, b3) ∷ (WRONG_COUNT, b4) ∷ (LONG_NAME, b5) ∷ (DEFINED_TWICE, b6) ∷ b9 ∷ []) past1.1 in
+    let past3 = not_broken UNKNOWN_WORD b3 ((WRONG_COUNT, b4) ∷ (LONG_NAME, b5) ∷ (DEFINED_TWICE, b6) ∷ b9 ∷ []) past2.1 in
+    let past4 = not_broken WRONG_COUNT b4 ((LONG_NAME, b5) ∷ (DEFINED_TWICE, b6) ∷ b9 ∷ []) past3.1 in
+    let past5 = not_broken LONG_NAME b5 ((DEFINED_TWICE, b6) ∷ b9 ∷ []) past4.1 in
+    (past3.0, past4.0, past5.0, (not_broken DEFINED_TWICE b6 (b9 ∷ []) past5.1).0)
 
 all_push : (P : Form → Type 0) (fs : List Form) (f : Form) → AllByRecursion P fs → P f → AllByRecursion P (fs ++ f ∷ [])
 all_push P [] f all here = (here, tt)
@@ -133,7 +134,7 @@ clean_more : (fs : List Form) (outputs : List (List ℕ)) (pins : ℕ) (line : L
 clean_more fs outputs pins line clean none =
     let f : Form = form_of line in
     let held = six_held (has_refused_byte line) (is_no_form f) (has_unknown_word f) (has_wrong_count f) (has_long_name f) (defines_among (defined_names fs) f)
-    (9, makes_past (length (defined_names fs)) (length (nets_of f)) net_limit || makes_past pins (length (pins_of outputs f)) pin_limit) none in
+    (TOO_MANY_NETS_OR_PINS, makes_past (length (defined_names fs)) (length (nets_of f)) net_limit || makes_past pins (length (pins_of outputs f)) pin_limit) none in
     let names = names_more (defined_names fs) (form_of line) clean.differ clean.short held.3 held.2 in
     let is = defined_names_push fs (form_of line) in
     record {

@@ -2,12 +2,13 @@
 use Rattle.std.proofs.Common.{◌≡◌, ℕ, Bool, true, false, not, List, [], ◌∷◌, None, refl, sym, ap, ◌∙◌}
 use Rattle.scan_model.specs.Lines.{has_refused_byte}
 use Rattle.scan_model.specs.TextFaults.{lowest}
+use Rattle.scan_model.specs.declared.rules.TheConstants.{REFUSED_BYTE, NO_FORM, UNKNOWN_WORD, WRONG_COUNT, LONG_NAME, DEFINED_TWICE, TOO_MANY_NETS_OR_PINS}
 use Rattle.scan_model.specs.NetlistLines.{Form, form_of}
 use Rattle.scan_model.specs.NetlistRules.{is_no_form, has_unknown_word, has_wrong_count, has_long_name, defines_among, first_rules}
 use Rattle.bench_reader.specs.FirstRules.{own_rules, passes_limit}
 
-own_past : (b1 b2 b3 b4 b5 : Bool) (more : List (ℕ × Bool)) → lowest ((1, b1) ∷ (2, b2) ∷ (3, b3) ∷ (4, b4) ∷ (5, b5) ∷ []) ≡ None
-    → lowest ((1, b1) ∷ (2, b2) ∷ (3, b3) ∷ (4, b4) ∷ (5, b5) ∷ more) ≡ lowest more
+own_past : (b1 b2 b3 b4 b5 : Bool) (more : List (ℕ × Bool)) → lowest ((REFUSED_BYTE, b1) ∷ (NO_FORM, b2) ∷ (UNKNOWN_WORD, b3) ∷ (WRONG_COUNT, b4) ∷ (LONG_NAME, b5) ∷ []) ≡ None
+    → lowest ((REFUSED_BYTE, b1) ∷ (NO_FORM, b2) ∷ (UNKNOWN_WORD, b3) ∷ (WRONG_COUNT, b4) ∷ (LONG_NAME, b5) ∷ more) ≡ lowest more
 own_past true b2 b3 b4 b5 more none = absurd cc
 own_past false true b3 b4 b5 more none = absurd cc
 own_past false false true b4 b5 more none = absurd cc
@@ -17,12 +18,12 @@ own_past false false false false false more none = refl
 
 pub rule_after_own : (defined outputs : List (List ℕ)) (pins : ℕ) (line : List ℕ) (f : Form) (taken past : Bool) → f ≡ form_of line → None ≡ lowest (own_rules line)
     → defines_among defined f ≡ taken → passes_limit defined outputs pins f ≡ past
-    → lowest (first_rules defined outputs pins line) ≡ lowest ((6, taken) ∷ (9, past) ∷ [])
+    → lowest (first_rules defined outputs pins line) ≡ lowest ((DEFINED_TWICE, taken) ∷ (TOO_MANY_NETS_OR_PINS, past) ∷ [])
 rule_after_own defined outputs pins line f taken past is none is_taken is_past =
     own_past (has_refused_byte line) (is_no_form (form_of line)) (has_unknown_word (form_of line)) (has_wrong_count (form_of line)) (has_long_name (form_of line))
-    ((6, defines_among defined (form_of line)) ∷ (9, passes_limit defined outputs pins (form_of line)) ∷ []) (sym none)
-    ∙ ap (λ b. lowest ((6, b) ∷ (9, passes_limit defined outputs pins (form_of line)) ∷ [])) (ap (defines_among defined) (sym is) ∙ is_taken)
-    ∙ ap (λ b. lowest ((6, taken) ∷ (9, b) ∷ [])) (ap (passes_limit defined outputs pins) (sym is) ∙ is_past)
+    ((DEFINED_TWICE, defines_among defined (form_of line)) ∷ (TOO_MANY_NETS_OR_PINS, passes_limit defined outputs pins (form_of line)) ∷ []) (sym none)
+    ∙ ap (λ b. lowest ((DEFINED_TWICE, b) ∷ (TOO_MANY_NETS_OR_PINS, passes_limit defined outputs pins (form_of line)) ∷ [])) (ap (defines_among defined) (sym is) ∙ is_taken)
+    ∙ ap (λ b. lowest ((DEFINED_TWICE, taken) ∷ (TOO_MANY_NETS_OR_PINS, b) ∷ [])) (ap (passes_limit defined outputs pins) (sym is) ∙ is_past)
 
 pub is_taken_name : (taken : Bool) → false ≡ not taken → taken ≡ true
 is_taken_name true e = refl

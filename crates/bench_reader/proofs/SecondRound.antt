@@ -7,6 +7,7 @@ use Rattle.std.proofs.lemmas.List.Folds.{list_any-append}
 use Rattle.std.proofs.lemmas.List.{length-map, length-take, get_or-take}
 use Rattle.scan_model.specs.Words.{has_word}
 use Rattle.scan_model.specs.TextFaults.{lowest, fault_from, first_fault, refused_or, or_else}
+use Rattle.scan_model.specs.declared.rules.TheConstants.{UNDEFINED_NET}
 use Rattle.scan_model.specs.NetlistLines.{Form, form_of, nothing}
 use Rattle.scan_model.specs.NetlistRules.{uses_undefined_first, first_rule, second_rule, early_fault, forms_of, form_at, uses_of, used_names, defined_names}
 use Rattle.bench_reader.specs.Lines.{is_nothing}
@@ -112,7 +113,7 @@ two_rounds ls x y first =
     ap (λ f. or_else f (first_fault (second_rule ls) (length ls))) (not_refused (first_fault (first_rule ls) (length ls)) x y first)
     ∙ ap (fault_from (second_rule ls) 0) (sym count)
     ∙ fault_is_first_line (uses_undefined (defined_names (forms_of ls))) refl (second_rule ls) 7 0 (forms_of ls)
-    (λ k lt none. let at : 0 + k ≡ k = omega arith in ap (second_rule ls) at ∙ ap (λ b. lowest ((7, b) ∷ [])) (first_at (forms_of ls) k none))
+    (λ k lt none. let at : 0 + k ≡ k = omega arith in ap (second_rule ls) at ∙ ap (λ b. lowest ((UNDEFINED_NET, b) ∷ [])) (first_at (forms_of ls) k none))
 
 -- the fault of a line that uses an undefined net is one of both
 pub second_fails : {Y : Type 0} (e : ReadFault) (early : Option (ℕ × ℕ)) (o : Option ℕ) (y : Y) → early ≡ option_map (λ n. (n, 7)) o → IsUndefined e o → Fails e (refused_or early y)

@@ -9,6 +9,7 @@ use Rattle.scan_model.specs.Netlist.{Netlist, no_net, is_gate, is_gate_driver}
 use Rattle.scan_model.specs.Walks.{HasLevels, IsLeastWithoutLevel, has_level}
 use Rattle.scan_model.specs.Lines.{text_lines}
 use Rattle.scan_model.specs.TextFaults.{lowest, or_else, fault_from, first_fault, refused_or}
+use Rattle.scan_model.specs.declared.rules.TheConstants.{WITHOUT_LEVEL}
 use Rattle.scan_model.specs.NetlistLines.{Form, nothing, input, output, definition, no_form, form_of}
 use Rattle.scan_model.specs.NetlistRules.{forms_of, form_at, nets_of, defined_names, early_fault}
 use Rattle.scan_model.specs.NetlistText.{net_number, circuit_in, circuit_of, third_rule, netlist_reading}
@@ -35,7 +36,7 @@ no_level_fault : (ls : List (List ℕ)) → HasLevels (circuit_in (forms_of ls))
 no_level_fault ls levels =
     let fs : List Form = forms_of ls in
     fault_from_none (third_rule ls) 0 (length ls) (λ k low high.
-    ap (λ b. lowest ((8, b) ∷ [])) (none_without (circuit_in fs) (net_number (defined_names fs)) (nets_of (form_at fs k)) (level_everywhere (circuit_in fs) levels)))
+    ap (λ b. lowest ((WITHOUT_LEVEL, b) ∷ [])) (none_without (circuit_in fs) (net_number (defined_names fs)) (nets_of (form_at fs k)) (level_everywhere (circuit_in fs) levels)))
 
 module _ (defined : List (List ℕ)) (differ : IsDistinct bytes_eq defined) (fails : ℕ → Bool) (net : ℕ)
     (here : fails net ≡ true) (before : (m : ℕ) → m < net → fails m ≡ false) (in_range : net < length defined) (rule : ℕ → Option ℕ) where
@@ -44,33 +45,33 @@ module _ (defined : List (List ℕ)) (differ : IsDistinct bytes_eq defined) (fai
 
   -- a line that defines the net after those before
   at_net : (w : List ℕ) (front back : List (List ℕ)) (a count : ℕ) (later : List ℕ) → defined ≡ front ++ w ∷ back → length front ≤ net
-      → rule a ≡ lowest ((8, fails (net_number defined w) || false) ∷ [])
+      → rule a ≡ lowest ((WITHOUT_LEVEL, fails (net_number defined w) || false) ∷ [])
       → (length (front ++ w ∷ []) ≤ net → fault_from rule (a + 1) count ≡ Some (get_or later (net - length (front ++ w ∷ [])) 0, 8))
       → fault_from rule a (suc count) ≡ Some (get_or ((a + 1) ∷ later) (net - length front) 0, 8)
   at_net w front back a count later names le is more =
       let number : net_number defined w ≡ length front = ap (λ ds. net_number ds w) names ∙ number_after front back w (subst (IsDistinct bytes_eq) names differ) in
-      let is' : rule a ≡ lowest ((8, fails (length front) || false) ∷ []) = is ∙ ap (λ m. lowest ((8, fails m || false) ∷ [])) number in
+      let is' : rule a ≡ lowest ((WITHOUT_LEVEL, fails (length front) || false) ∷ []) = is ∙ ap (λ m. lowest ((WITHOUT_LEVEL, fails m || false) ∷ [])) number in
       elim (cases_lt (length front) net) [
         | inl lt ↦
             let size : length (front ++ w ∷ []) ≡ length front + 1 = length-append front (w ∷ []) in
-            let past : rule a ≡ None = is' ∙ ap (λ b. lowest ((8, b || false) ∷ [])) (before (length front) lt) in
+            let past : rule a ≡ None = is' ∙ ap (λ b. lowest ((WITHOUT_LEVEL, b || false) ∷ [])) (before (length front) lt) in
             let place : net - length front ≡ suc (net - length (front ++ w ∷ [])) = omega arith in
             rw (past, place) (more (omega arith))
         | inr ge ↦
             let same : length front ≡ net = omega arith in
-            let found : rule a ≡ Some 8 = is' ∙ ap (λ m. lowest ((8, fails m || false) ∷ [])) same ∙ ap (λ b. lowest ((8, b || false) ∷ [])) here in
+            let found : rule a ≡ Some WITHOUT_LEVEL = is' ∙ ap (λ m. lowest ((WITHOUT_LEVEL, fails m || false) ∷ [])) same ∙ ap (λ b. lowest ((WITHOUT_LEVEL, b || false) ∷ [])) here in
             let place : net - length front ≡ 0 = omega arith in
             rw (found, place) refl
       ]
 
   -- the fault on lines from number a on, after those that define the names in front
   level_fault_from : (fs : List Form) (front : List (List ℕ)) (a : ℕ) → defined ≡ front ++ defined_names fs → length front ≤ net
-      → ((k : ℕ) → k < length fs → rule (a + k) ≡ lowest ((8, breaks_at (form_at fs k)) ∷ []))
+      → ((k : ℕ) → k < length fs → rule (a + k) ≡ lowest ((WITHOUT_LEVEL, breaks_at (form_at fs k)) ∷ []))
       → fault_from rule a (length fs) ≡ Some (get_or (net_lines_from (a + 1) fs) (net - length front) 0, 8)
   level_fault_from [] front a names le is = absurd (omega (arith, ap length names, length-append front []))
   level_fault_from (f ∷ fs) front a names le is =
       let at : a + 0 ≡ a = omega arith in
-      let first : rule a ≡ lowest ((8, breaks_at f) ∷ []) = ap rule (sym at) ∙ is 0 (omega arith) in
+      let first : rule a ≡ lowest ((WITHOUT_LEVEL, breaks_at f) ∷ []) = ap rule (sym at) ∙ is 0 (omega arith) in
       go f names first (λ front' names' le'. level_fault_from fs front' (a + 1) names' le' (λ k lt.
       let next : (a + 1) + k ≡ a + suc k = omega arith in
       ap rule next ∙ is (suc k) (omega arith)))
@@ -79,7 +80,7 @@ module _ (defined : List (List ℕ)) (differ : IsDistinct bytes_eq defined) (fai
           → fault_from rule a (suc (length fs)) ≡ Some (get_or (net_lines_from ((a + 1) + 1) fs) (net - length front) 0, 8)
       skip none more = rw none more
 
-      go : (f : Form) → defined ≡ front ++ defined_names (f ∷ fs) → rule a ≡ lowest ((8, breaks_at f) ∷ [])
+      go : (f : Form) → defined ≡ front ++ defined_names (f ∷ fs) → rule a ≡ lowest ((WITHOUT_LEVEL, breaks_at f) ∷ [])
           → ((front' : List (List ℕ)) → defined ≡ front' ++ defined_names fs → length front' ≤ net → fault_from rule (a + 1) (length fs) ≡ Some (get_or (net_lines_from ((a + 1) + 1) fs) (net - length front') 0, 8))
           → fault_from rule a (suc (length fs)) ≡ Some (get_or (net_lines_from (a + 1) (f ∷ fs)) (net - length front) 0, 8)
       go nothing names first more = skip first (more front names le)
@@ -110,11 +111,11 @@ module _ (bytes : List ℕ) (early : early_fault (text_lines bytes) ≡ None) wh
       ∙ ap (λ f. refused_or f (circuit_of bytes)) (no_level_fault (text_lines bytes) levels)
 
   pub reads_level_fault : (net line : ℕ) → IsDistinct bytes_eq (defined_names (forms_of (text_lines bytes))) → IsLeastWithoutLevel (circuit_of bytes) net
-      → line ≡ get_or (net_lines_from 1 (forms_of (text_lines bytes))) net 0 → netlist_reading bytes ≡ Err (line, 8)
+      → line ≡ get_or (net_lines_from 1 (forms_of (text_lines bytes))) net 0 → netlist_reading bytes ≡ Err (line, WITHOUT_LEVEL)
   reads_level_fault net line differ least is =
       ap (λ f. refused_or (or_else f (first_fault (third_rule (text_lines bytes)) (length (text_lines bytes)))) (circuit_of bytes)) early
       ∙ ap (λ f. refused_or f (circuit_of bytes)) (level_fault (text_lines bytes) net differ least)
-      ∙ ap (λ l. Err (l, 8)) (sym is)
+      ∙ ap (λ l. Err (l, WITHOUT_LEVEL)) (sym is)
 
 -- each net has the number of its line
 pub length-net_lines_from : (n : ℕ) (fs : List Form) → length (net_lines_from n fs) ≡ length (defined_names fs)

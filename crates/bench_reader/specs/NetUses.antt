@@ -10,6 +10,7 @@ use Rattle.scan_model.specs.Words.{has_word}
 use Rattle.scan_model.specs.NetlistLines.{Form, output, definition}
 use Rattle.scan_model.specs.NetlistRules.{nets_of, new_output}
 use Rattle.scan_model.specs.NetlistText.{net_number, inputs_of}
+use Rattle.scan_model.specs.declared.rules.TheConstants.{UNDEFINED_NET}
 use Rattle.bench_reader.specs.declared.first_round.Use.{Use}
 
 -- a use: the number of its line, the name of the net, and the pin's place
@@ -59,5 +60,5 @@ undefined_use defined (u ∷ us) = if has_word defined u.name then undefined_use
 
 -- the fault of such a line, and want of memory says nothing
 abbrev pub IsUndefined : ReadFault → Option ℕ → Type 0
-IsUndefined (Text f) first = (first ≡ Some f.line) × (f.rule ≡ 7)
+IsUndefined (Text f) first = (first ≡ Some f.line) × (f.rule ≡ UNDEFINED_NET)
 IsUndefined NoMemory first = Unit {0}

@@ -14,7 +14,7 @@ ghost use Rattle.bench_reader.specs.NetUses.{use_views, operand_use};
 use crate::driver::takes_one;
 use crate::line::{Kind, Line};
 use crate::token::Token;
-use scan_model::{Driver, Name, Net, NoMemory, PinPlace};
+use scan_model::{Driver, Name, Net, NoMemory, PinPlace, rules};
 use std::alloc::{AllocError, Global};
 use text_parts::{Names, has_refused_byte};
 
@@ -84,19 +84,19 @@ fn own_rule(bytes: &[u8], line: &Line<'_, '_>) -> Option<u32>
     ensures { result ≡ lowest (own_rules bytes.now) }
 {
     if has_refused_byte(bytes) {
-        return Some(1);
+        return Some(rules::REFUSED_BYTE);
     }
     if is_no_form(line) {
-        return Some(2);
+        return Some(rules::NO_FORM);
     }
     if has_unknown_word(line) {
-        return Some(3);
+        return Some(rules::UNKNOWN_WORD);
     }
     if has_wrong_count(line) {
-        return Some(4);
+        return Some(rules::WRONG_COUNT);
     }
     if has_long_name(line) {
-        return Some(5);
+        return Some(rules::LONG_NAME);
     }
     None
 }
@@ -346,10 +346,10 @@ impl<'a> NetlistDraft<'a> {
         // Rule 9 counts the nets before this line, but rule 6 is the lower one.
         let is_past = self.is_passed_by(line);
         if !self.add_names(number, line)? {
-            return Ok(Some(6));
+            return Ok(Some(rules::DEFINED_TWICE));
         }
         if is_past {
-            return Ok(Some(9));
+            return Ok(Some(rules::TOO_MANY_NETS_OR_PINS));
         }
         Ok(None)
     }

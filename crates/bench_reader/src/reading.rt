@@ -15,7 +15,7 @@ ghost use Rattle.bench_reader.specs.FaultlessLines.{IsRead};
 
 use crate::first_round::{LineBuffers, NetlistDraft};
 use crate::second_round::{numbers_of, pins_of};
-use scan_model::{Circuit, MakeFault, Net, Pin, Rows};
+use scan_model::{Circuit, MakeFault, Net, Pin, Rows, rules};
 use std::alloc::Global;
 use text_parts::{Names, ReadFault, TextFault, lines_of};
 
@@ -110,7 +110,8 @@ pub fn read_netlist_named(alloc: Global, bytes: &[u8]) -> Result<NamedCircuit<'_
         }),
         Err(MakeFault::NoLevel { net }) => {
             let line = draft.net_lines[net as usize];
-            Err(ReadFault::Text(TextFault { line, rule: 8 }))
+            let rule = rules::WITHOUT_LEVEL;
+            Err(ReadFault::Text(TextFault { line, rule }))
         }
         Err(MakeFault::NoMemory) => Err(ReadFault::NoMemory),
     }

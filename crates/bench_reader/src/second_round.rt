@@ -8,7 +8,7 @@ ghost use Rattle.text_parts.specs.Views.{nows};
 ghost use Rattle.bench_reader.specs.NetUses.{use_views, use_pin, undefined_use, IsUndefined};
 
 use crate::first_round::Use;
-use scan_model::{NoMemory, Pin, Rows};
+use scan_model::{NoMemory, Pin, Rows, rules};
 use std::alloc::Global;
 use text_parts::{Names, ReadFault, TextFault};
 
@@ -56,7 +56,8 @@ pub fn pins_of(alloc: Global, defined: &Names<'_>, uses: &[Use<'_>]) -> Result<R
     for used in uses {
         let Some(net) = known_number(defined, used.name) else {
             let line = used.line;
-            return Err(ReadFault::Text(TextFault { line, rule: 7 }));
+            let rule = rules::UNDEFINED_NET;
+            return Err(ReadFault::Text(TextFault { line, rule }));
         };
         let place = used.place;
         pins.push(Pin { net, place })?;

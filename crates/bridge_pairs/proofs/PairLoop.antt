@@ -9,6 +9,7 @@ use Rattle.csv.specs.Records.{Row, fields_of}
 use Rattle.scan_model.specs.declared.parts.Pair.{Pair}
 use Rattle.scan_model.specs.Words.{has_word}
 use Rattle.scan_model.specs.TextFaults.{lowest, fault_from, refused_or}
+use Rattle.scan_model.specs.declared.rules.TheConstants.{OTHER_PAIR_FORM, NAMES_NO_NET, NAMES_ONE_NET, TOO_MANY_PAIRS}
 use Rattle.scan_model.specs.NetlistText.{net_number}
 use Rattle.scan_model.specs.ScanTest.{same_pair}
 use Rattle.scan_model.proofs.FaultSteps.{fault_goes_on, fault_is_here, fault_is_none}
@@ -70,7 +71,7 @@ pair_named names seen i n named known few false new =
 
 -- after one more record that breaks no rule
 with_pair_named : (names : List (List ℕ)) (seen : List Pair) (i : ℕ) (form one : Bool) (o : Option TwoNames) → AreNamed (length names) seen
-    → None ≡ lowest ((31, form) ∷ (32, names_no_net names o) ∷ (33, one) ∷ (34, names_too_many names seen i o) ∷ []) → AreNamed (length names) (with_pair names seen i o)
+    → None ≡ lowest ((OTHER_PAIR_FORM, form) ∷ (NAMES_NO_NET, names_no_net names o) ∷ (NAMES_ONE_NET, one) ∷ (TOO_MANY_PAIRS, names_too_many names seen i o) ∷ []) → AreNamed (length names) (with_pair names seen i o)
 with_pair_named names seen i form one None named none = named
 with_pair_named names seen i form one (Some n) named none =
     let whole = none_broken 31 32 33 34 form (names_no_net names (Some n)) one (names_too_many names seen i (Some n)) none in

@@ -10,6 +10,7 @@ use Rattle.scan_model.specs.Cone.{in_fan_in}
 use Rattle.scan_model.specs.Lines.{is_blank}
 use Rattle.scan_model.specs.Words.{has_word}
 use Rattle.scan_model.specs.TextFaults.{breaks, lowest, first_fault, refused_or}
+use Rattle.scan_model.specs.declared.rules.TheConstants.{OTHER_PAIR_FORM, NAMES_NO_NET, NAMES_ONE_NET, TOO_MANY_PAIRS}
 use Rattle.scan_model.specs.NetlistText.{net_number}
 use Rattle.scan_model.specs.ScanText.{net_names}
 use Rattle.scan_model.specs.ScanTest.{same_pair}
@@ -103,10 +104,10 @@ names_too_many names seen i (Some n) = not (is_named seen (numbered names i n)) 
 -- the rules at record i, after these pairs
 abbrev pub pair_rules : List (List ℕ) → List Pair → ℕ → List (List ℕ) → List (ℕ × Bool)
 pair_rules names seen i fields =
-    (31, has_other_form i fields) ∷
-    (32, names_no_net names (nets_named i fields)) ∷
-    (33, names_one_net names (nets_named i fields)) ∷
-    (34, names_too_many names seen i (nets_named i fields)) ∷ []
+    (OTHER_PAIR_FORM, has_other_form i fields) ∷
+    (NAMES_NO_NET, names_no_net names (nets_named i fields)) ∷
+    (NAMES_ONE_NET, names_one_net names (nets_named i fields)) ∷
+    (TOO_MANY_PAIRS, names_too_many names seen i (nets_named i fields)) ∷ []
 
 -- the rules at record i
 abbrev pub pair_table : List (List ℕ) → List (List (List ℕ)) → ℕ → List (ℕ × Bool)

@@ -5,13 +5,14 @@ ghost use Rattle.csv.specs.Records.{fields_of};
 ghost use Rattle.scan_model.specs.Words.{has_word};
 ghost use Rattle.scan_model.specs.TextFaults.{lowest};
 ghost use Rattle.scan_model.specs.NetlistText.{net_number};
+ghost use Rattle.scan_model.specs.declared.rules.TheConstants.{NAMES_NO_NET, NAMES_ONE_NET, TOO_MANY_PAIRS};
 ghost use Rattle.bridge_pairs.specs.PairText.{trimmed, nets_named, names_no_net, names_one_net, names_too_many, with_pair, is_named, pair_rules};
 ghost use Rattle.bridge_pairs.specs.PairSets.{key_of};
 ghost use Rattle.bridge_pairs.specs.FieldViews.{names_view};
 
 use crate::fields::{NetNames, is_header};
 use csv::ByteRecord;
-use scan_model::{NoMemory, Pair};
+use scan_model::{NoMemory, Pair, rules};
 use std::alloc::Global;
 use std::collections::BTreeSet;
 use std::marker::Model;
@@ -109,10 +110,14 @@ impl NamedPairs {
         ensures taken { result ≡ Ok None → self.new ≡ with_pair names.now self.old index (nets_named index (map trimmed (fields_of row.now))) }
     {
         if index == 0 {
-            return Ok(if is_header(row) { None } else { Some(31) });
+            return Ok(if is_header(row) {
+                None
+            } else {
+                Some(rules::OTHER_PAIR_FORM)
+            });
         }
         let Some(two) = NetNames::of_record(row) else {
-            return Ok(Some(31));
+            return Ok(Some(rules::OTHER_PAIR_FORM));
         };
         self.take_names(names, index, two)
     }
@@ -127,17 +132,17 @@ impl NamedPairs {
     ) -> Result<Option<u32>, NoMemory>
         requires limit { length names.now ≤ 65536 }
         requires index { index < 2 ^ 63 }
-        ensures rule { IfOk result (λ r. r ≡ lowest ((32, names_no_net names.now (Some (names_view two.entry))) ∷ (33, names_one_net names.now (Some (names_view two.entry))) ∷ (34, names_too_many names.now self.old index (Some (names_view two.entry))) ∷ [])) }
+        ensures rule { IfOk result (λ r. r ≡ lowest ((NAMES_NO_NET, names_no_net names.now (Some (names_view two.entry))) ∷ (NAMES_ONE_NET, names_one_net names.now (Some (names_view two.entry))) ∷ (TOO_MANY_PAIRS, names_too_many names.now self.old index (Some (names_view two.entry))) ∷ [])) }
         ensures taken { result ≡ Ok None → self.new ≡ with_pair names.now self.old index (Some (names_view two.entry)) }
     {
         let Some(a) = number_of(names, two.a) else {
-            return Ok(Some(32));
+            return Ok(Some(rules::NAMES_NO_NET));
         };
         let Some(b) = number_of(names, two.b) else {
-            return Ok(Some(32));
+            return Ok(Some(rules::NAMES_NO_NET));
         };
         if a == b {
-            return Ok(Some(33));
+            return Ok(Some(rules::NAMES_ONE_NET));
         }
         let pair = Pair {
             a,
@@ -148,7 +153,7 @@ impl NamedPairs {
             return Ok(None);
         }
         if self.len() >= PAIR_LIMIT {
-            return Ok(Some(34));
+            return Ok(Some(rules::TOO_MANY_PAIRS));
         }
         self.add(pair)?;
         Ok(None)

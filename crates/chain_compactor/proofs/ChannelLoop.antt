@@ -8,6 +8,7 @@ use Rattle.scan_model.specs.Lines.{line_at}
 use Rattle.scan_model.specs.Words.{words, word_lines}
 use Rattle.scan_model.specs.ScanTest.{ScanTest}
 use Rattle.scan_model.specs.TextFaults.{lowest, fault_from, first_fault, refused_or}
+use Rattle.scan_model.specs.declared.rules.TheConstants.{OTHER_CHANNEL_FORM, UNKNOWN_CHAIN, CHANNEL_TAKEN, TOO_MANY_CHANNELS, TOO_MANY_POINTS}
 use Rattle.scan_model.proofs.FaultSteps.{fault_goes_on, fault_is_here, fault_is_none}
 use Rattle.text_parts.specs.Views.{nows}
 use Rattle.chain_compactor.specs.declared.compactor.Channel.{Channel}
@@ -31,8 +32,8 @@ module _ (t : ScanTest) (chains : List Chain) (names : List (List ℕ)) (chains_
       ∙ sym (points_more t (map (numbered t) xs) (numbered t x))
       ∙ ap (λ (ys : List Channel). length (compact_points t ys)) (sym (map_push (numbered t) xs x))
 
-  rules_same : (form : Bool) (o : Option ChannelNames) → lowest ((101, form) ∷ some_rules chains names kept o)
-      ≡ lowest ((101, form) ∷ (102, lacks_chain t o) ∷ (103, is_taken xs o) ∷ (104, is_one_more xs o) ∷ (105, has_too_many_points t xs o) ∷ [])
+  rules_same : (form : Bool) (o : Option ChannelNames) → lowest ((OTHER_CHANNEL_FORM, form) ∷ some_rules chains names kept o)
+      ≡ lowest ((OTHER_CHANNEL_FORM, form) ∷ (UNKNOWN_CHAIN, lacks_chain t o) ∷ (CHANNEL_TAKEN, is_taken xs o) ∷ (TOO_MANY_CHANNELS, is_one_more xs o) ∷ (TOO_MANY_POINTS, has_too_many_points t xs o) ∷ [])
   rules_same form None = refl
   rules_same form (Some x) = rw (points_are x, names_are, after.titles, length-map xs (λ (y : ChannelNames). y.name)) refl
 

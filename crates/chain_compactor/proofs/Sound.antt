@@ -11,6 +11,7 @@ use Rattle.scan_model.specs.Words.{words, has_word}
 use Rattle.scan_model.specs.ScanText.{stands_again}
 use Rattle.scan_model.specs.ScanTest.{ScanTest}
 use Rattle.scan_model.specs.TextFaults.{lowest}
+use Rattle.scan_model.specs.declared.rules.TheConstants.{OTHER_CHANNEL_FORM, UNKNOWN_CHAIN, CHANNEL_TAKEN, TOO_MANY_CHANNELS, TOO_MANY_POINTS}
 use Rattle.text_parts.proofs.Places.{any_position}
 use Rattle.scan_text.proofs.Tables.{none_broken}
 use Rattle.scan_text.proofs.SoundChains.{all_from_any}
@@ -30,7 +31,7 @@ none_sound t few = record { are_chains = All-nil _; names_differ = tt; few = ome
 module _ (t : ScanTest) (xs : List ChannelNames) (sound : AreSound t xs) where
   -- a line's channel, which breaks no rule
   channel_more : (form : Bool) (o : Option ChannelNames)
-      → None ≡ lowest ((101, form) ∷ (102, lacks_chain t o) ∷ (103, is_taken xs o) ∷ (104, is_one_more xs o) ∷ (105, has_too_many_points t xs o) ∷ []) → AreSound t (xs ++ option_to_list o)
+      → None ≡ lowest ((OTHER_CHANNEL_FORM, form) ∷ (UNKNOWN_CHAIN, lacks_chain t o) ∷ (CHANNEL_TAKEN, is_taken xs o) ∷ (TOO_MANY_CHANNELS, is_one_more xs o) ∷ (TOO_MANY_POINTS, has_too_many_points t xs o) ∷ []) → AreSound t (xs ++ option_to_list o)
   channel_more form None none = rw append-nil sound
   channel_more form (Some x) none =
       let whole = none_broken 101 102 103 104 105 form (lacks_chain t (Some x)) (is_taken xs (Some x)) (is_one_more xs (Some x)) (has_too_many_points t xs (Some x)) none in

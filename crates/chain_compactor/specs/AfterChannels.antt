@@ -6,6 +6,7 @@ use Rattle.scan_model.specs.declared.parts.Chain.{Chain}
 use Rattle.scan_model.specs.Words.{words, has_word}
 use Rattle.scan_model.specs.ScanText.{stands_again}
 use Rattle.scan_model.specs.ScanTest.{ScanTest, no_chain}
+use Rattle.scan_model.specs.declared.rules.TheConstants.{OTHER_CHANNEL_FORM, UNKNOWN_CHAIN, CHANNEL_TAKEN, TOO_MANY_CHANNELS, TOO_MANY_POINTS}
 use Rattle.text_parts.specs.Views.{nows}
 use Rattle.chain_compactor.specs.Channels.{AreChannels, greatest, cycles_of, compact_points}
 use Rattle.chain_compactor.specs.ChannelText.{ChannelNames, channel_of, has_other_form, titles_in, numbered, channel_limit, compact_point_limit}
@@ -30,10 +31,10 @@ cycles_in chains names x = greatest (map (length_in chains) (numbers_in names x.
 -- rules 102 to 105 at a channel, over chains with these names
 abbrev pub named_rules : List Chain → List (List ℕ) → Channels → ChannelNames → List (ℕ × Bool)
 named_rules chains names kept x =
-    (102, list_any (λ w. not (has_word names w)) x.chains) ∷
-    (103, has_word kept.titles x.name || stands_again [] x.chains) ∷
-    (104, nat_le channel_limit (length kept.titles)) ∷
-    (105, nat_lt compact_point_limit (kept.points + cycles_in chains names x)) ∷ []
+    (UNKNOWN_CHAIN, list_any (λ w. not (has_word names w)) x.chains) ∷
+    (CHANNEL_TAKEN, has_word kept.titles x.name || stands_again [] x.chains) ∷
+    (TOO_MANY_CHANNELS, nat_le channel_limit (length kept.titles)) ∷
+    (TOO_MANY_POINTS, nat_lt compact_point_limit (kept.points + cycles_in chains names x)) ∷ []
 
 abbrev pub some_rules : List Chain → List (List ℕ) → Channels → Option ChannelNames → List (ℕ × Bool)
 some_rules chains names kept None = []
@@ -41,7 +42,7 @@ some_rules chains names kept (Some x) = named_rules chains names kept x
 
 -- the rules at a line
 abbrev pub line_rules : List Chain → List (List ℕ) → Channels → List ℕ → List (ℕ × Bool)
-line_rules chains names kept line = (101, has_other_form line (words line)) ∷ some_rules chains names kept (channel_of (words line))
+line_rules chains names kept line = (OTHER_CHANNEL_FORM, has_other_form line (words line)) ∷ some_rules chains names kept (channel_of (words line))
 
 -- what is kept after one more channel
 pub record Adds (chains : List Chain) (names : List (List ℕ)) (old new : Channels) (x : ChannelNames) : Type 0 where

@@ -5,6 +5,7 @@ use Rattle.std.specs.Str.{bytes_eq}
 use Rattle.scan_model.specs.Lines.{text_lines, line_at, has_refused_byte}
 use Rattle.scan_model.specs.Words.{words, word_lines, has_words, has_word, is_short_name}
 use Rattle.scan_model.specs.TextFaults.{breaks, lowest, first_fault, refused_or}
+use Rattle.scan_model.specs.declared.rules.TheConstants.{OTHER_CHANNEL_FORM, UNKNOWN_CHAIN, CHANNEL_TAKEN, TOO_MANY_CHANNELS, TOO_MANY_POINTS}
 use Rattle.scan_model.specs.ScanText.{stands_again}
 use Rattle.scan_model.specs.ScanTest.{ScanTest}
 use Rattle.chain_compactor.specs.declared.compactor.Channel.{Channel}
@@ -79,11 +80,11 @@ has_too_many_points t earlier (Some x) = nat_lt compact_point_limit (length (com
 
 abbrev pub channel_rules : ScanTest → List ChannelNames → List ℕ → List (ℕ × Bool)
 channel_rules t earlier line =
-    (101, has_other_form line (words line)) ∷
-    (102, lacks_chain t (channel_of (words line))) ∷
-    (103, is_taken earlier (channel_of (words line))) ∷
-    (104, is_one_more earlier (channel_of (words line))) ∷
-    (105, has_too_many_points t earlier (channel_of (words line))) ∷ []
+    (OTHER_CHANNEL_FORM, has_other_form line (words line)) ∷
+    (UNKNOWN_CHAIN, lacks_chain t (channel_of (words line))) ∷
+    (CHANNEL_TAKEN, is_taken earlier (channel_of (words line))) ∷
+    (TOO_MANY_CHANNELS, is_one_more earlier (channel_of (words line))) ∷
+    (TOO_MANY_POINTS, has_too_many_points t earlier (channel_of (words line))) ∷ []
 
 -- ---- the text
 

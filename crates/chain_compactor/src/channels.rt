@@ -13,7 +13,7 @@ ghost use Rattle.chain_compactor.specs.AfterChannels.{length_in, numbers_in};
 
 use crate::compactor::Channel;
 use crate::named::NamedChannel;
-use scan_model::{Chain, NoMemory, Rows};
+use scan_model::{Chain, NoMemory, Rows, rules};
 use std::alloc::Global;
 use text_parts::{Names, has_refused_byte, words_of};
 
@@ -130,21 +130,21 @@ impl<'a> Channels<'a> {
     {
         let found = chain_numbers(alloc, names, channel.chains)?;
         if found.lacks_chain {
-            return Ok(Some(102));
+            return Ok(Some(rules::UNKNOWN_CHAIN));
         }
         if self.titles.contains(channel.name) {
-            return Ok(Some(103));
+            return Ok(Some(rules::CHANNEL_TAKEN));
         }
         if has_repeat(alloc, channel.chains)? {
-            return Ok(Some(103));
+            return Ok(Some(rules::CHANNEL_TAKEN));
         }
         if self.titles.len() >= CHANNEL_LIMIT {
-            return Ok(Some(104));
+            return Ok(Some(rules::TOO_MANY_CHANNELS));
         }
         let cycles = greatest_length(chains, &found.numbers);
         let points = self.points.saturating_add(cycles);
         if points > POINT_LIMIT {
-            return Ok(Some(105));
+            return Ok(Some(rules::TOO_MANY_POINTS));
         }
         self.titles.add(channel.name)?;
         self.cycles.push(cycles)?;
@@ -167,12 +167,16 @@ impl<'a> Channels<'a> {
         ensures taken { result ≡ Ok None → AddsSome chains.now names.now self.old self.new (channel_of (words line.now)) }
     {
         if has_refused_byte(line) {
-            return Ok(Some(101));
+            return Ok(Some(rules::OTHER_CHANNEL_FORM));
         }
         let words = words_of(alloc, line)?;
         match NamedChannel::of_words(&words) {
             Some(channel) => self.take(alloc, chains, names, channel),
-            None => Ok(if words.is_empty() { None } else { Some(101) }),
+            None => Ok(if words.is_empty() {
+                None
+            } else {
+                Some(rules::OTHER_CHANNEL_FORM)
+            }),
         }
     }
 }

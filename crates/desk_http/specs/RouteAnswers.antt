@@ -7,6 +7,7 @@ use Rattle.scan_model.specs.Universe.{universe}
 use Rattle.scan_model.specs.LogText.{log_frame, log_reading}
 use Rattle.scan_model.specs.DieReport.{logs_of_texts, die_report}
 use Rattle.scan_model.specs.ReportText.{report_lines, page_of}
+use Rattle.scan_model.specs.declared.rules.TheConstants.{NOT_A_SIGN}
 use Rattle.desk_outside.specs.declared.deed.Deed.{Deed}
 use Rattle.desk_outside.specs.declared.deed.DeedKind.TheVariants as deed
 use Rattle.diag_report.specs.Summary.{summary_text}
@@ -117,7 +118,7 @@ module _ (limit : ℕ) (deeds : List Deed) where
 
   -- a report is signed: the body is read, then the die is found at the revision, then the digest is compared
   abbrev pub sign_post : List ℕ → List ℕ → Option Sign → Answer
-  sign_post design die None = unprocessable kind.SignOff (1, 91)
+  sign_post design die None = unprocessable kind.SignOff (1, NOT_A_SIGN)
   sign_post design die (Some sign) =
       with_die deeds design die (Some sign.revision) (λ t texts.
       put sign_off_line (deed.Sign design die sign.revision sign.signer sign.digest)

@@ -6,6 +6,7 @@ use Rattle.std.proofs.lemmas.Bool.Decides.{nat_tests}
 use Rattle.scan_model.specs.Lines.{has_refused_byte, line_at}
 use Rattle.scan_model.specs.Words.{words, has_words, number_of}
 use Rattle.scan_model.specs.TextFaults.{lowest, or_else, fault_from}
+use Rattle.scan_model.specs.declared.rules.TheConstants.{REFUSED_LOG_BYTE, NO_TITLE, NO_NUMBER, BAD_RANGE, NOWHERE, UNTESTED_PATTERN, OUT_OF_SHIFT, MISPLACED_LINE}
 use Rattle.scan_model.specs.ReportText.{spaced}
 use Rattle.scan_model.specs.declared.logs.Range.{Range}
 use Rattle.scan_model.specs.declared.logs.LogForm.{LogForm}
@@ -40,9 +41,9 @@ inside [] ws after = omega arith
 inside (x ∷ before) ws after = omega (arith, inside before ws after)
 
 rules_are : (frame : LogFrame) (title : Option LogVersion) (closed refused : Bool) (h k : Headers) (v ws : List (List ℕ)) → title ≡ Some First → closed ≡ false → refused ≡ false → h ≡ k → v ≡ ws → has_words ws ≡ true
-    → lowest ((51, refused) ∷ rules_of_words frame title closed h v) ≡ lowest (later_rules frame First k (log_line frame.form First ws))
+    → lowest ((REFUSED_LOG_BYTE, refused) ∷ rules_of_words frame title closed h v) ≡ lowest (later_rules frame First k (log_line frame.form First ws))
 rules_are frame title closed refused h k v ws is_titled is_unclosed is_plain same_headers same_words some =
-    ap (λ (r : Bool). lowest ((51, r) ∷ rules_of_words frame title closed h v)) is_plain ∙ ap (λ (o : Option LogVersion). lowest (rules_of_words frame o closed h v)) is_titled
+    ap (λ (r : Bool). lowest ((REFUSED_LOG_BYTE, r) ∷ rules_of_words frame title closed h v)) is_plain ∙ ap (λ (o : Option LogVersion). lowest (rules_of_words frame o closed h v)) is_titled
     ∙ ap (λ (b : Bool). lowest (rules_of_words frame (Some First) b h v)) is_unclosed ∙ ap (λ (x : Headers). lowest (rules_of_words frame (Some First) false x v)) same_headers
     ∙ ap (λ (x : List (List ℕ)). lowest (rules_of_words frame (Some First) false k x)) same_words ∙ ap (λ (b : Bool). lowest (cond (not b) [] (later_rules frame First k (log_line frame.form First ws)))) some
 
@@ -71,10 +72,10 @@ module _ (frame : LogFrame) (x : List (List ℕ)) (xs : List (List (List ℕ))) 
       ∙ rules_are frame _ _ _ _ (headers_in (map (log_line frame.form First) xs)) _ ws titled (ap is_closed forms ∙ unclosed) (none_refused ws own.1) (ap headers_in forms) (words_of_line ws own) own.0
 
 -- the rules of the title
-title_are : (frame : LogFrame) (closed refused : Bool) (h : Headers) (v : List (List ℕ)) → frame.form ≡ FailLog → refused ≡ false → v ≡ title_words → lowest ((51, refused) ∷ rules_of_words frame None closed h v) ≡ None
+title_are : (frame : LogFrame) (closed refused : Bool) (h : Headers) (v : List (List ℕ)) → frame.form ≡ FailLog → refused ≡ false → v ≡ title_words → lowest ((REFUSED_LOG_BYTE, refused) ∷ rules_of_words frame None closed h v) ≡ None
 title_are frame closed refused h v form is_plain same =
-    ap (λ (r : Bool). lowest ((51, r) ∷ rules_of_words frame None closed h v)) is_plain ∙ ap (λ (x : List (List ℕ)). lowest (rules_of_words frame None closed h x)) same
-    ∙ ap (λ (o : LogForm). lowest ((52, not (is_some (title_version o title_words))) ∷ [])) form
+    ap (λ (r : Bool). lowest ((REFUSED_LOG_BYTE, r) ∷ rules_of_words frame None closed h v)) is_plain ∙ ap (λ (x : List (List ℕ)). lowest (rules_of_words frame None closed h x)) same
+    ∙ ap (λ (o : LogForm). lowest ((NO_TITLE, not (is_some (title_version o title_words))) ∷ [])) form
 
 pub title_rule : (frame : LogFrame) (after : List (List (List ℕ))) → frame.form ≡ FailLog → AreLines (title_words ∷ after) → log_rule frame (map spaced (title_words ∷ after)) 0 ≡ None
 title_rule frame after form names =
@@ -100,10 +101,10 @@ whole last = record { first = 0; last = last }
 pub tested_accepted : (frame : LogFrame) (a b : List ℕ) (last : ℕ) (h : Headers) → number_of a ≡ Some 0 → number_of b ≡ Some last → last < length frame.shifts → h.ranges ≡ [] → lowest (later_rules frame First h (tested_line a b)) ≡ None
 tested_accepted frame a b last h is_a is_b few first =
     ap (λ (o : Option ℕ). broken o (number_of b) h.ranges) is_a ∙ ap (λ (o : Option ℕ). broken (Some 0) o h.ranges) is_b ∙ ap (λ (r : List Range). broken (Some 0) (Some last) r) first
-    ∙ ap (λ (x : Bool). lowest ((57, x) ∷ [])) in_order
+    ∙ ap (λ (x : Bool). lowest ((BAD_RANGE, x) ∷ [])) in_order
   where
     broken : Option ℕ → Option ℕ → List Range → Option ℕ
-    broken o p range = lowest ((54, not (is_some o && is_some p)) ∷ (57, ltb (unwrap_or p 0) (unwrap_or o 0) || leb (length frame.shifts) (unwrap_or p 0)) ∷ (59, is_untested range None) ∷ (63, has_ranges range) ∷ [])
+    broken o p range = lowest ((NO_NUMBER, not (is_some o && is_some p)) ∷ (BAD_RANGE, ltb (unwrap_or p 0) (unwrap_or o 0) || leb (length frame.shifts) (unwrap_or p 0)) ∷ (UNTESTED_PATTERN, is_untested range None) ∷ (MISPLACED_LINE, has_ranges range) ∷ [])
 
     or_both : (x y : Bool) → x ≡ false → y ≡ false → (x || y) ≡ false
     or_both x y e f = rw (e, f) refl
@@ -122,10 +123,10 @@ pub out_accepted : (frame : LogFrame) (h : Headers) (p n : List ℕ) (w last : �
 out_accepted frame h p n w last number there tested le captures all =
     ap (λ (o : Option ℕ). broken o (has_output frame n) h.ranges (has_all h)) number ∙ ap (λ (b : Bool). broken (Some w) b h.ranges (has_all h)) there
     ∙ ap (λ (r : List Range). broken (Some w) true r (has_all h)) tested ∙ ap (λ (b : Bool). broken (Some w) true (whole last ∷ []) b) all
-    ∙ ap (λ (b : Bool). lowest ((59, b) ∷ (60, slice_index_or frame.shifts w false) ∷ [])) (in_range w last le) ∙ ap (λ (b : Bool). lowest ((60, b) ∷ [])) captures
+    ∙ ap (λ (b : Bool). lowest ((UNTESTED_PATTERN, b) ∷ (OUT_OF_SHIFT, slice_index_or frame.shifts w false) ∷ [])) (in_range w last le) ∙ ap (λ (b : Bool). lowest ((OUT_OF_SHIFT, b) ∷ [])) captures
   where
     broken : Option ℕ → Bool → List Range → Bool → Option ℕ
-    broken o there range headers = lowest ((54, not (is_some o)) ∷ (58, not there) ∷ (59, is_untested range o) ∷ (60, slice_index_or frame.shifts (unwrap_or o 0) false) ∷ (63, not headers) ∷ [])
+    broken o there range headers = lowest ((NO_NUMBER, not (is_some o)) ∷ (NOWHERE, not there) ∷ (UNTESTED_PATTERN, is_untested range o) ∷ (OUT_OF_SHIFT, slice_index_or frame.shifts (unwrap_or o 0) false) ∷ (MISPLACED_LINE, not headers) ∷ [])
 
 pub cell_accepted : (frame : LogFrame) (h : Headers) (p c s : List ℕ) (w i last : ℕ) → number_of p ≡ Some w → number_of s ≡ Some i → i < chain_length frame c → h.ranges ≡ whole last ∷ [] → w ≤ last → has_all h ≡ true
     → lowest (later_rules frame First h (cell_line p c s)) ≡ None
@@ -133,16 +134,16 @@ cell_accepted frame h p c s w i last number position there tested le all =
     let short : ltb i (chain_length frame c) ≡ true = grind (arith, nat_tests, there) in
     ap (λ (o : Option ℕ). broken o (number_of s) h.ranges (has_all h)) number ∙ ap (λ (o : Option ℕ). broken (Some w) o h.ranges (has_all h)) position
     ∙ ap (λ (r : List Range). broken (Some w) (Some i) r (has_all h)) tested ∙ ap (λ (b : Bool). broken (Some w) (Some i) (whole last ∷ []) b) all
-    ∙ ap (λ (b : Bool). lowest ((58, not b) ∷ (59, not (some_holds (whole last ∷ []) w)) ∷ [])) short ∙ ap (λ (b : Bool). lowest ((59, b) ∷ [])) (in_range w last le)
+    ∙ ap (λ (b : Bool). lowest ((NOWHERE, not b) ∷ (UNTESTED_PATTERN, not (some_holds (whole last ∷ []) w)) ∷ [])) short ∙ ap (λ (b : Bool). lowest ((UNTESTED_PATTERN, b) ∷ [])) (in_range w last le)
   where
     broken : Option ℕ → Option ℕ → List Range → Bool → Option ℕ
-    broken o q range headers = lowest ((54, not (is_some o && is_some q)) ∷ (58, not (ltb (unwrap_or q 0) (chain_length frame c))) ∷ (59, is_untested range o) ∷ (63, not headers) ∷ [])
+    broken o q range headers = lowest ((NO_NUMBER, not (is_some o && is_some q)) ∷ (NOWHERE, not (ltb (unwrap_or q 0) (chain_length frame c))) ∷ (UNTESTED_PATTERN, is_untested range o) ∷ (MISPLACED_LINE, not headers) ∷ [])
 
 pub end_accepted : (frame : LogFrame) (h : Headers) (last : ℕ) → h.ranges ≡ whole last ∷ [] → has_all h ≡ true → lowest (later_rules frame First h end_line) ≡ None
 end_accepted frame h last tested all = ap (λ (r : List Range). broken r (has_all h)) tested ∙ ap (λ (b : Bool). broken (whole last ∷ []) b) all
   where
     broken : List Range → Bool → Option ℕ
-    broken range headers = lowest ((59, is_untested range None) ∷ (63, not headers) ∷ [])
+    broken range headers = lowest ((UNTESTED_PATTERN, is_untested range None) ∷ (MISPLACED_LINE, not headers) ∷ [])
 
 -- ---- no fault from a line on
 

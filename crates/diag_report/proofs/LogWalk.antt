@@ -11,6 +11,7 @@ use Rattle.scan_model.specs.declared.logs.Bit.{Bit}
 use Rattle.scan_model.specs.ScanTest.{ScanTest, IsScanTest, IsPoint, no_chain, name_of, chain_at, point_at}
 use Rattle.scan_model.specs.Words.{is_tag}
 use Rattle.scan_model.specs.TextFaults.{lowest, fault_from, first_fault}
+use Rattle.scan_model.specs.declared.rules.TheConstants.{OTHER_DESIGN, OTHER_DIE}
 use Rattle.scan_model.specs.ReportText.{spaced, point_words}
 use Rattle.scan_model.specs.declared.logs.LogVersion.TheVariants.{First}
 use Rattle.scan_model.specs.LogText.{LogFrame, LogLine, Headers, log_frame, is_shift, log_rule, later_rules, headers_in, has_all, is_closed, die_line, design_line, end_line}
@@ -136,8 +137,8 @@ module _ (t : ScanTest) (sound : IsScanTest t) (design die : List ℕ) (f : Faul
       let count : length (map spaced (whole rest)) + 1 ≡ suc (suc (suc (suc (length bits + 2)))) = omega (arith, many, tail, length-map bits (fail_words t)) in
       let die_words : List (List ℕ) = codes "die" ∷ die ∷ [] in
       let design_words : List (List ℕ) = codes "design" ∷ design ∷ [] in
-      let die_passes : rule 1 ≡ None = later_rule frame title_words [] die_words (design_words ∷ tested_words last ∷ rest) names refl refl ∙ ap (λ (b : Bool). lowest ((56, not b) ∷ [])) (same_bytes die) in
-      let design_passes : rule 2 ≡ None = later_rule frame title_words (die_words ∷ []) design_words (tested_words last ∷ rest) names refl refl ∙ ap (λ (b : Bool). lowest ((55, not b) ∷ [])) (same_bytes design) in
+      let die_passes : rule 1 ≡ None = later_rule frame title_words [] die_words (design_words ∷ tested_words last ∷ rest) names refl refl ∙ ap (λ (b : Bool). lowest ((OTHER_DIE, not b) ∷ [])) (same_bytes die) in
+      let design_passes : rule 2 ≡ None = later_rule frame title_words (die_words ∷ []) design_words (tested_words last ∷ rest) names refl refl ∙ ap (λ (b : Bool). lowest ((OTHER_DESIGN, not b) ∷ [])) (same_bytes design) in
       let shifts : length (map is_shift t.patterns) ≡ length t.patterns = length-map t.patterns is_shift in
       let tested_passes : rule 3 ≡ None =
       later_rule frame title_words (die_words ∷ design_words ∷ []) (tested_words last) rest names refl refl

@@ -7,6 +7,7 @@ use Rattle.std.proofs.lemmas.List.Elements.{filter-append}
 use Rattle.scan_model.specs.declared.fault.Profile.{Profile}
 use Rattle.scan_model.specs.Lines.{text_lines, line_at}
 use Rattle.scan_model.specs.TextFaults.{fault_from, or_else}
+use Rattle.scan_model.specs.declared.rules.TheConstants.{WRONG_MARK}
 use Rattle.diagnosis.specs.Bundle.{is_mark, marker_after, bundle_rule, marks_fault, has_wrong_mark, sections, section_at, texts_in}
 use Rattle.diagnosis.specs.ReaderAnswers.{four}
 use Rattle.diagnosis.specs.BundleRest.{marker, is_wrong, fault_after}
@@ -40,28 +41,28 @@ wrong_behind front text more =
     ∙ ap (λ f. (is_mark text || (length front == 0)) && not (bytes_eq text (marker_after f))) (front_of front (text ∷ more))
     ∙ ap (λ b. (is_mark text || b) && not (bytes_eq text (marker (marks front)))) (first_line (length front))
 
-rule_behind : (front : List (List ℕ)) (text : List ℕ) (more : List (List ℕ)) → bundle_rule (front ++ text ∷ more) (length front) ≡ cond (is_wrong (marks front) (length front + 1) text) (Some 81) None
+rule_behind : (front : List (List ℕ)) (text : List ℕ) (more : List (List ℕ)) → bundle_rule (front ++ text ∷ more) (length front) ≡ cond (is_wrong (marks front) (length front + 1) text) (Some WRONG_MARK) None
 rule_behind front text more =
     let not_last : (length front == length (front ++ text ∷ more)) ≡ false = ne_eqb _ _ (λ e. omega (arith, length-append front (text ∷ more))) in
-    rw not_last (ap (λ b. cond b (Some 81) None) (wrong_behind front text more))
+    rw not_last (ap (λ b. cond b (Some WRONG_MARK) None) (wrong_behind front text more))
 
-rule_at_end : (front : List (List ℕ)) → bundle_rule (front ++ []) (length front) ≡ cond (nat_lt (marks front) 4) (Some 81) None
+rule_at_end : (front : List (List ℕ)) → bundle_rule (front ++ []) (length front) ≡ cond (nat_lt (marks front) 4) (Some WRONG_MARK) None
 rule_at_end front =
     let whole : front ++ [] ≡ front = append-nil front in
     let last : (length front == length front) ≡ true = eq-eqb _ _ refl in
     rw (whole, last) refl
 
-fault_or : (n : ℕ) (w : Bool) (o p : Option (ℕ × ℕ)) → o ≡ p → or_else (option_map (λ r. (n, r)) (cond w (Some 81) None)) o ≡ cond w (Some (n, 81)) p
+fault_or : (n : ℕ) (w : Bool) (o p : Option (ℕ × ℕ)) → o ≡ p → or_else (option_map (λ r. (n, r)) (cond w (Some WRONG_MARK) None)) o ≡ cond w (Some (n, WRONG_MARK)) p
 fault_or n true o p e = refl
 fault_or n false o p e = e
 
 -- after the lines in front
 faults_behind : (lines front rest : List (List ℕ)) → lines ≡ front ++ rest → fault_from (bundle_rule lines) (length front) (suc (length rest)) ≡ fault_after (marks front) (length front + 1) rest
 faults_behind lines front [] e =
-    let rule : bundle_rule lines (length front) ≡ cond (nat_lt (marks front) 4) (Some 81) None = ap (λ l. bundle_rule l (length front)) e ∙ rule_at_end front in
+    let rule : bundle_rule lines (length front) ≡ cond (nat_lt (marks front) 4) (Some WRONG_MARK) None = ap (λ l. bundle_rule l (length front)) e ∙ rule_at_end front in
     ap (λ r. or_else (option_map (λ r. (length front + 1, r)) r) None) rule ∙ fault_or (length front + 1) (nat_lt (marks front) 4) None None refl
 faults_behind lines front (text ∷ more) e =
-    let rule : bundle_rule lines (length front) ≡ cond (is_wrong (marks front) (length front + 1) text) (Some 81) None = ap (λ l. bundle_rule l (length front)) e ∙ rule_behind front text more in
+    let rule : bundle_rule lines (length front) ≡ cond (is_wrong (marks front) (length front + 1) text) (Some WRONG_MARK) None = ap (λ l. bundle_rule l (length front)) e ∙ rule_behind front text more in
     let later = faults_behind lines (front ++ text ∷ []) more (e ∙ sym (append_assoc front (text ∷ []) more)) in
     let next = subst (λ (n : ℕ). fault_from (bundle_rule lines) n (suc (length more)) ≡ fault_after (marks (front ++ text ∷ [])) (n + 1) more) (length_push front text) later
     ∙ ap (λ n. fault_after n (length front + 1 + 1) more) (marks_push front text) in

@@ -6,6 +6,7 @@ use Rattle.std.specs.Str.Lines.{strip_carriage_return}
 use Rattle.std.specs.Cmp.Lexicographic.{bytes_decides}
 use Rattle.std.proofs.lemmas.List.{length-map}
 use Rattle.std.proofs.lemmas.List.Splits.{length-slice_split, slice_split-cons_yes, slice_split-cons_no}
+use Rattle.scan_model.specs.declared.rules.TheConstants.{WRONG_MARK}
 use Rattle.scan_model.specs.ReportText.{concatenated}
 use Rattle.diagnosis.specs.Bundle.{is_mark, pieces, sections}
 use Rattle.diagnosis.specs.BundleRest.{marker, line_in, is_wrong, fault_after}
@@ -93,7 +94,7 @@ IsBefore-line whole text piece rest h cut lines plain = record {
 
 -- ---- rule 81
 
-pub fault_after-wrong : (due line : ℕ) (text : List ℕ) (more : List (List ℕ)) → is_wrong due line text ≡ true → fault_after due line (text ∷ more) ≡ Some (line, 81)
+pub fault_after-wrong : (due line : ℕ) (text : List ℕ) (more : List (List ℕ)) → is_wrong due line text ≡ true → fault_after due line (text ∷ more) ≡ Some (line, WRONG_MARK)
 fault_after-wrong due line text more wrong = rw wrong refl
 
 pub fault_after-right : (due line : ℕ) (text : List ℕ) (more : List (List ℕ)) → is_wrong due line text ≡ false → fault_after due line (text ∷ more) ≡ fault_after (cond (is_mark text) (due + 1) due) (line + 1) more

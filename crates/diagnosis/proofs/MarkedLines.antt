@@ -10,6 +10,7 @@ use Rattle.scan_model.specs.Netlist.{Netlist}
 use Rattle.scan_model.specs.Lines.{line_at, has_refused_byte, without_comment, is_blank}
 use Rattle.scan_model.specs.Words.{words, is_filled, has_words}
 use Rattle.scan_model.specs.TextFaults.{lowest, first_fault}
+use Rattle.scan_model.specs.declared.rules.TheConstants.{REFUSED_BYTE, NO_FORM, OTHER_CHAIN_FORM, OTHER_KEYWORD}
 use Rattle.scan_model.specs.NetlistLines.{form_of}
 use Rattle.scan_model.specs.NetlistRules.{is_no_form, forms_of, defined_names, outputs_of, pins_after, first_rules, first_rule}
 use Rattle.scan_model.specs.ScanText.{chain_of, chains_before, cells_in, titles_in, scan_rules, scan_rule}
@@ -62,16 +63,16 @@ breaks_netlist : (defined outputs : List (List ℕ)) (pins : ℕ) (line : List �
 breaks_netlist defined outputs pins line mark = go (has_refused_byte line) refl
   where
     go : (refused : Bool) → has_refused_byte line ≡ refused → lowest (first_rules defined outputs pins line) ≡ None → ⊥
-    go true e none = let some : lowest (first_rules defined outputs pins line) ≡ Some 1 = rw e refl in cc
-    go false e none = let some : lowest (first_rules defined outputs pins line) ≡ Some 2 = rw (e, has_no_form line mark) refl in cc
+    go true e none = let some : lowest (first_rules defined outputs pins line) ≡ Some REFUSED_BYTE = rw e refl in cc
+    go false e none = let some : lowest (first_rules defined outputs pins line) ≡ Some NO_FORM = rw (e, has_no_form line mark) refl in cc
 
 breaks_scan : (nets : List Net) (cells titles : List (List ℕ)) (line : List ℕ) → is_mark line ≡ true → lowest (scan_rules nets cells titles line) ≡ None → ⊥
 breaks_scan nets cells titles line mark none =
-    let some : lowest (scan_rules nets cells titles line) ≡ Some 11 = rw (or_right (has_refused_byte line) _ (has_no_chain line mark)) refl in cc
+    let some : lowest (scan_rules nets cells titles line) ≡ Some OTHER_CHAIN_FORM = rw (or_right (has_refused_byte line) _ (has_no_chain line mark)) refl in cc
 
 breaks_patterns : (c : Netlist) (chains : List Chain) (earlier : ℕ) (line : List ℕ) → is_mark line ≡ true → lowest (pattern_rules (pattern_frame c chains) earlier line) ≡ None → ⊥
 breaks_patterns c chains earlier line mark none =
-    let some : lowest (pattern_rules (pattern_frame c chains) earlier line) ≡ Some 21 = rw (or_right (has_refused_byte line) _ (has_no_kind c chains line mark)) refl in cc
+    let some : lowest (pattern_rules (pattern_frame c chains) earlier line) ≡ Some OTHER_KEYWORD = rw (or_right (has_refused_byte line) _ (has_no_kind c chains line mark)) refl in cc
 
 -- ---- lines without a fault
 

@@ -7,6 +7,7 @@ use Rattle.std.proofs.Math.Seq.{get_or-append_seam, take-append_seam}
 use Rattle.std.proofs.lemmas.Bool.Decides.{nat_tests}
 use Rattle.std.proofs.lemmas.List.Elements.{All-head, All-tail, filter-append}
 use Rattle.scan_model.specs.TextFaults.{fault_from}
+use Rattle.scan_model.specs.declared.rules.TheConstants.{WRONG_MARK}
 use Rattle.diagnosis.specs.Bundle.{is_mark, markers, marker_after, bundle_rule}
 
 abbrev pub IsUnmarked : List (List ℕ) → Type 0
@@ -37,7 +38,7 @@ and_false false = refl
 
 module _ (before : List (List ℕ)) (line : List ℕ) (after : List (List ℕ)) where
   rule_here : bundle_rule (before ++ line ∷ after) (length before)
-      ≡ cond ((is_mark line || eqb (length before) 0) && not (bytes_eq line (marker_after before))) (Some 81) None
+      ≡ cond ((is_mark line || eqb (length before) 0) && not (bytes_eq line (marker_after before))) (Some WRONG_MARK) None
   rule_here =
       let lt : length before < length (before ++ line ∷ after) = omega (arith, length-append before (line ∷ after)) in
       rw (differs (length before) (length (before ++ line ∷ after)) lt, get_or-append_seam before line after [], take-append_seam before (line ∷ after)) refl
@@ -50,7 +51,7 @@ module _ (before : List (List ℕ)) (line : List ℕ) (after : List (List ℕ)) 
       rw (n, none) (rw (whole, i) at more)
 
   marker_here : bytes_eq line (marker_after before) ≡ true → GoesOn (before ++ line ∷ []) after → GoesOn before (line ∷ after)
-  marker_here due more = one_more (rule_here ∙ ap (λ b. cond ((is_mark line || eqb (length before) 0) && not b) (Some 81) None) due ∙ ap (λ b. cond b (Some 81) None) (and_false (is_mark line || eqb (length before) 0))) more
+  marker_here due more = one_more (rule_here ∙ ap (λ b. cond ((is_mark line || eqb (length before) 0) && not b) (Some WRONG_MARK) None) due ∙ ap (λ b. cond b (Some WRONG_MARK) None) (and_false (is_mark line || eqb (length before) 0))) more
 
   other_here : 0 < length before → is_mark line ≡ false → GoesOn (before ++ line ∷ []) after → GoesOn before (line ∷ after)
   other_here some unmarked more = one_more (rule_here ∙ rw (unmarked, filled (length before) some) refl) more

@@ -11,6 +11,7 @@ use Rattle.scan_model.specs.declared.parts.Pair.{Pair}
 use Rattle.scan_model.specs.Lines.{is_blank}
 use Rattle.scan_model.specs.Words.{has_word}
 use Rattle.scan_model.specs.TextFaults.{lowest}
+use Rattle.scan_model.specs.declared.rules.TheConstants.{OTHER_PAIR_FORM, NAMES_NO_NET, NAMES_ONE_NET, TOO_MANY_PAIRS}
 use Rattle.scan_model.proofs.FaultSteps.{fault_from-clean}
 use Rattle.text_parts.specs.TextEnd.{ended}
 use Rattle.bridge_pairs.specs.PairText.{after_blanks, trimmed, records_in, record_at, two_names, is_header, has_other_form, names_no_net, names_one_net, names_too_many, nets_named, pairs_before, pair_rules, pair_rule, pairs_fault}
@@ -85,7 +86,7 @@ plain_header a b e =
     let both = and_parts (bytes_eq a (codes "net_a")) (bytes_eq b (codes "net_b")) e in
     rw ((bytes_eq-Decides a (codes "net_a")).0 both.0, (bytes_eq-Decides b (codes "net_b")).0 both.1) refl
 
-none_of_two : (a b : Bool) (more : List (ℕ × Bool)) → lowest ((31, a) ∷ (32, b) ∷ more) ≡ None → (a ≡ false) × (b ≡ false)
+none_of_two : (a b : Bool) (more : List (ℕ × Bool)) → lowest ((OTHER_PAIR_FORM, a) ∷ (NAMES_NO_NET, b) ∷ more) ≡ None → (a ≡ false) × (b ≡ false)
 none_of_two true b more none = absurd cc
 none_of_two false true more none = absurd cc
 none_of_two false false more none = (refl, refl)
@@ -118,7 +119,7 @@ module _ (names : List (List ℕ)) (plain : some_field names ≡ false) where
   plain_record : (seen : List Pair) (i : ℕ) (fields : List (List ℕ)) → lowest (pair_rules names seen i fields) ≡ None → some_field fields ≡ false
   plain_record seen i fields none =
       let named = nets_named i fields in
-      let both = none_of_two (has_other_form i fields) (names_no_net names named) ((33, names_one_net names named) ∷ (34, names_too_many names seen i named) ∷ []) none in
+      let both = none_of_two (has_other_form i fields) (names_no_net names named) ((NAMES_ONE_NET, names_one_net names named) ∷ (TOO_MANY_PAIRS, names_too_many names seen i named) ∷ []) none in
       plain_fields i fields both.0 both.1
 
   pub plain_records : (rows : List (List (List ℕ))) → pairs_fault names rows ≡ None → some_record rows ≡ false

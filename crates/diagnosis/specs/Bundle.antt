@@ -8,6 +8,7 @@ use Rattle.scan_model.specs.declared.fault.Profile.TheVariants.{One, Two}
 use Rattle.scan_model.specs.ScanTest.{ScanTest}
 use Rattle.scan_model.specs.Lines.{text_lines, line_at}
 use Rattle.scan_model.specs.TextFaults.{first_fault}
+use Rattle.scan_model.specs.declared.rules.TheConstants.{WRONG_MARK}
 use Rattle.scan_model.specs.ReportText.{concatenated}
 use Rattle.text_parts.specs.TextEnd.{ended}
 use Rattle.diagnosis.specs.declared.section.Section.{Section}
@@ -37,7 +38,7 @@ abbrev pub misses_a_marker : List (List ℕ) → Bool
 misses_a_marker lines = nat_lt (length (filter is_mark lines)) 4
 
 abbrev pub bundle_rule : List (List ℕ) → ℕ → Option ℕ
-bundle_rule lines i = if cond (i == length lines) (misses_a_marker lines) (has_wrong_mark lines i) then Some 81 else None
+bundle_rule lines i = if cond (i == length lines) (misses_a_marker lines) (has_wrong_mark lines i) then Some WRONG_MARK else None
 
 abbrev pub marks_fault : List ℕ → Option (ℕ × ℕ)
 marks_fault bytes = first_fault (bundle_rule (text_lines bytes)) (length (text_lines bytes) + 1)

@@ -3,6 +3,7 @@ use Rattle.std.specs.Prelude.{◌≤◌, ℕ, ◌^◌, ◌+◌, ◌-◌, ◌==�
 use Rattle.std.specs.Str.{bytes_eq}
 use Rattle.std.specs.Str.Lines.{strip_carriage_return}
 use Rattle.scan_model.specs.Lines.{text_lines}
+use Rattle.scan_model.specs.declared.rules.TheConstants.{WRONG_MARK}
 use Rattle.diagnosis.specs.declared.bundle.Rest.{Rest}
 use Rattle.diagnosis.specs.Bundle.{markers, is_mark, sections}
 
@@ -20,9 +21,9 @@ is_wrong due line text = (is_mark text || (line == 1)) && not (bytes_eq text (ma
 
 -- rule 81 on these lines, the first of this number from 1, after so many markers
 abbrev pub fault_after : ℕ → ℕ → List (List ℕ) → Option (ℕ × ℕ)
-fault_after due line [] = if nat_lt due 4 then Some (line, 81) else None
+fault_after due line [] = if nat_lt due 4 then Some (line, WRONG_MARK) else None
 fault_after due line (text ∷ more) =
-    if is_wrong due line text then Some (line, 81) else fault_after (if is_mark text then due + 1 else due) (line + 1) more
+    if is_wrong due line text then Some (line, WRONG_MARK) else fault_after (if is_mark text then due + 1 else due) (line + 1) more
 
 -- the text is at its end, or at a line that begins with `%`
 abbrev pub is_at_mark : List ℕ → Bool

@@ -1,12 +1,13 @@
 //! The profile and the four texts in a bundle.
 ghost use Rattle.std.specs.Prelude.{◌≡◌, ◌<◌, ◌≤◌, ◌^◌, ◌+◌, ℕ, List, true, [], ◌∷◌, ◌++◌, length, None, Some, IfOk, IfErr, IfSome, IfNone, OnOk};
 ghost use Rattle.scan_model.specs.Lines.{text_lines};
+ghost use Rattle.scan_model.specs.declared.rules.TheConstants.{WRONG_MARK};
 ghost use Rattle.text_parts.specs.TextEnd.{is_ended, ended};
 ghost use Rattle.diagnosis.specs.Bundle.{is_mark, pieces, sections, marks_fault, texts_in, behind_line, profile_of, marked_part, lines_before, bundle_fault, bundle_texts, named_text, bundle_text};
 ghost use Rattle.diagnosis.specs.BundleRest.{marker, line_in, is_at_mark, is_due, rest_fault, rest_texts, HasRoom};
 ghost use Rattle.diagnosis.specs.Sections.{four_texts};
 
-use scan_model::{Name, NoMemory, Profile};
+use scan_model::{Name, NoMemory, Profile, rules};
 use std::alloc::Global;
 use text_parts::{TextFault, is_ended};
 
@@ -75,11 +76,11 @@ fn line_in(piece: &[u8]) -> &[u8]
 impl<'a> Rest<'a> {
     fn fault(&self) -> TextFault
         ensures line { result.line ≡ self.now.line }
-        ensures rule { result.rule ≡ 81 }
+        ensures rule { result.rule ≡ WRONG_MARK }
     {
         TextFault {
             line: self.line,
-            rule: 81,
+            rule: rules::WRONG_MARK,
         }
     }
 
@@ -92,7 +93,7 @@ impl<'a> Rest<'a> {
         ensures fault { IfSome result (λ rest. rest_fault due self.now ≡ rest_fault (due + 1) rest) }
         ensures line { IfSome result (λ rest. 0 < self.now.line → 1 < rest.line) }
         ensures room { IfSome result HasRoom }
-        ensures none { IfNone result (rest_fault due self.now ≡ Some (self.now.line, 81)) }
+        ensures none { IfNone result (rest_fault due self.now ≡ Some (self.now.line, WRONG_MARK)) }
     {
         if self.text.is_empty() {
             return None;

@@ -15,6 +15,7 @@ use Rattle.scan_model.specs.Coverage.{not_after}
 use Rattle.scan_model.specs.Lines.{text_lines, line_at, has_refused_byte}
 use Rattle.scan_model.specs.Words.{words, word_lines, has_words}
 use Rattle.scan_model.specs.TextFaults.{lowest, fault_from, first_fault, refused_or}
+use Rattle.scan_model.specs.declared.rules.TheConstants.{REFUSED_LOG_BYTE, AFTER_CLOSING_LINE}
 use Rattle.scan_model.specs.LogText as new
 use Rattle.scan_model.specs.ScanTest.{ScanTest}
 use Rattle.scan_model.specs.LogText.{LogFrame, log_frame, LogLine, Headers, die_line, design_line, tested_line, out_line, cell_line, cut_out_line, cut_chain_line, end_line, truncated_line, other_line, is_word, range_of, group_cut, has_ranges, has_all, is_misplaced, is_late, is_untested, pattern_named, is_end, is_die, is_design, is_entry, headers_in, number, first_version, lines_after, version_of, title_version}
@@ -236,7 +237,7 @@ pub record IsSingle (later : List LogLine) : Type 0 where
   pub one : IsOne (filter_map range_of later)
   pub there : new.is_closed later ≡ true → has_ranges (filter_map range_of later) ≡ true
 
-single_line : (frame : LogFrame) (later : List LogLine) (l : LogLine) (closed : Bool) → new.is_closed later ≡ closed → NoneBroken (cond closed ((62, true) ∷ []) (new.later_rules frame First (headers_in later) l)) → IsSingle later → IsSingle (later ++ l ∷ [])
+single_line : (frame : LogFrame) (later : List LogLine) (l : LogLine) (closed : Bool) → new.is_closed later ≡ closed → NoneBroken (cond closed ((AFTER_CLOSING_LINE, true) ∷ []) (new.later_rules frame First (headers_in later) l)) → IsSingle later → IsSingle (later ++ l ∷ [])
 single_line frame later l true closed all is = absurd (let broken : true ≡ false = all.0 in cc)
 single_line frame later l false closed all is =
     let h : Headers = headers_in later in
@@ -280,7 +281,7 @@ module _ (t : ScanTest) (design die : List ℕ) where
       → lowest (new.rules_of_words frame (first_version FailLog fs) closed h ws) ≡ lowest (v1.rules_of_words frame (is_some (first_version FailLog fs)) closed (before h) ws)
   words_step fs closed h ws begun after one = go (has_words ws) refl fs begun after
     where
-      later : (closed : Bool) → lowest (cond closed ((62, true) ∷ []) (new.later_rules frame First h (new.log_line frame.form First ws))) ≡ lowest (cond closed ((62, true) ∷ []) (v1.later_rules frame (before h) (v1.log_line ws)))
+      later : (closed : Bool) → lowest (cond closed ((AFTER_CLOSING_LINE, true) ∷ []) (new.later_rules frame First h (new.log_line frame.form First ws))) ≡ lowest (cond closed ((AFTER_CLOSING_LINE, true) ∷ []) (v1.later_rules frame (before h) (v1.log_line ws)))
       later true = refl
       later false = rw (same_line ws) (same_later frame h (v1.log_line ws) one)
 
@@ -292,7 +293,7 @@ module _ (t : ScanTest) (design die : List ℕ) where
 
   single_at : (version : LogVersion) → version ≡ First → (later : List LogLine) (ws : List (List ℕ)) → NoneBroken (new.rules_after frame (Some version) (new.is_closed later) (headers_in later) ws) → IsSingle later → IsSingle (later ++ new.log_line FailLog version ws ∷ [])
   single_at version e later ws all is =
-      let rules : NoneBroken (cond (new.is_closed later) ((62, true) ∷ []) (new.later_rules frame First (headers_in later) (new.log_line FailLog First ws))) = rw e at all in
+      let rules : NoneBroken (cond (new.is_closed later) ((AFTER_CLOSING_LINE, true) ∷ []) (new.later_rules frame First (headers_in later) (new.log_line FailLog First ws))) = rw e at all in
       rw e (single_line frame later (new.log_line FailLog First ws) (new.is_closed later) refl rules is)
 
   single_words : (fs : List (List (List ℕ))) (ws : List (List ℕ)) → IsBegun fs → NoneBroken (new.rules_of_words frame (first_version FailLog fs) (new.is_closed (lines_after FailLog fs)) (headers_in (lines_after FailLog fs)) ws)
@@ -337,13 +338,13 @@ module _ (t : ScanTest) (design die : List ℕ) where
           let later : List LogLine = lines_after FailLog fs in
           let single : IsSingle later = single_before i (omega arith) none in
           let after : IsBegun (fs ++ cond (has_words ws) (ws ∷ []) []) = rw (next_filled i lt) at (front_begun (i + 1)) in
-          let new_is : new.log_rule frame ls i ≡ lowest ((51, has_refused_byte (line_at ls i)) ∷ new.rules_of_words frame (first_version FailLog fs) (new.is_closed later) (headers_in later) ws) = rw (differs i (length ls) lt) refl in
+          let new_is : new.log_rule frame ls i ≡ lowest ((REFUSED_LOG_BYTE, has_refused_byte (line_at ls i)) ∷ new.rules_of_words frame (first_version FailLog fs) (new.is_closed later) (headers_in later) ws) = rw (differs i (length ls) lt) refl in
           let old_lines : v1.later_lines (take i ls) ≡ later = sym (same_later_lines fs (front_begun i)) in
-          let old_is : v1.log_rule frame ls i ≡ lowest ((51, has_refused_byte (line_at ls i)) ∷ v1.rules_of_words frame (is_some (first_version FailLog fs)) (new.is_closed later) (before (headers_in later)) ws) =
+          let old_is : v1.log_rule frame ls i ≡ lowest ((REFUSED_LOG_BYTE, has_refused_byte (line_at ls i)) ∷ v1.rules_of_words frame (is_some (first_version FailLog fs)) (new.is_closed later) (before (headers_in later)) ws) =
           rw (differs i (length ls) lt) (ap (λ (ls' : List LogLine). lowest (v1.log_rules frame (v1.is_titled (take i ls)) (v1.is_closed ls') (v1.headers_in ls') (line_at ls i))) old_lines
           ∙ ap (λ (b : Bool). lowest (v1.log_rules frame b (v1.is_closed later) (v1.headers_in later) (line_at ls i))) (titled_is (word_lines (take i ls)))
           ∙ ap (λ (h : v1.Headers). lowest (v1.log_rules frame (is_some (first_version FailLog fs)) (v1.is_closed later) h (line_at ls i))) (same_headers later)) in
-          new_is ∙ ap (λ (o : Option ℕ). cond (has_refused_byte (line_at ls i)) (Some 51) o) (words_step fs (new.is_closed later) (headers_in later) ws (front_begun i) after single.one) ∙ sym old_is
+          new_is ∙ ap (λ (o : Option ℕ). cond (has_refused_byte (line_at ls i)) (Some REFUSED_LOG_BYTE) o) (words_step fs (new.is_closed later) (headers_in later) ws (front_begun i) after single.one) ∙ sym old_is
       | inr past ↦
           let at : i ≡ length ls = omega arith in
           let whole : take (length ls) ls ≡ ls = take_all (length ls) ls (omega arith) in

@@ -17,7 +17,7 @@ use crate::number::number;
 use crate::rules::{Headers, later_rule};
 use crate::target::LineTarget;
 use crate::tested::Tested;
-use scan_model::{CutGroup, LogForm, LogVersion, Range};
+use scan_model::{CutGroup, LogForm, LogVersion, Range, rules};
 use std::alloc::{AllocError, Global};
 use text_parts::{fill_words, has_refused_byte};
 
@@ -204,10 +204,14 @@ impl LogDraft {
         }
         let Some(version) = self.title else {
             self.title = title_version(frame.form, words);
-            return Ok(if self.title.is_none() { Some(52) } else { None });
+            return Ok(if self.title.is_none() {
+                Some(rules::NO_TITLE)
+            } else {
+                None
+            });
         };
         if self.closed {
-            return Ok(Some(62));
+            return Ok(Some(rules::AFTER_CLOSING_LINE));
         }
         self.take_later(frame, version, words)
     }
@@ -225,7 +229,7 @@ impl LogDraft {
     {
         fill_words(list, bytes)?;
         if has_refused_byte(bytes) {
-            return Ok(Some(51));
+            return Ok(Some(rules::REFUSED_LOG_BYTE));
         }
         self.take_words(frame, list)
     }

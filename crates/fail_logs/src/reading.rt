@@ -20,7 +20,7 @@ use crate::frame::Frame;
 use crate::groups::cut_points;
 use crate::log_draft::LogDraft;
 use crate::rules::Headers;
-use scan_model::{LogFacts, Parts};
+use scan_model::{LogFacts, Parts, rules};
 use std::alloc::Global;
 use text_parts::{ReadFault, TextFault, lines_of};
 
@@ -29,10 +29,10 @@ fn end_rule(draft: &LogDraft) -> Option<u32>
     ensures { result ≡ lowest (log_end_rules (is_some draft.now.title) draft.now.closed) }
 {
     if draft.title.is_none() {
-        return Some(52);
+        return Some(rules::NO_TITLE);
     }
     if !draft.closed {
-        return Some(61);
+        return Some(rules::NO_CLOSING_LINE);
     }
     None
 }

@@ -12,7 +12,7 @@ use crate::line::LogLine;
 use crate::number::number;
 use crate::target::LineTarget;
 use crate::tested::Tested;
-use scan_model::LogVersion;
+use scan_model::{LogVersion, rules};
 
 /// What the headers so far say: whether a `die` and a `design` line came, whether a fail or cut line came, and the tested
 /// patterns.
@@ -128,34 +128,34 @@ pub fn later_rule(
     ensures { result ≡ lowest (later_rules (frame_view frame.now) version (headers_view headers.now) (line_view line.entry)) }
 {
     if is_other(line) {
-        return Some(53);
+        return Some(rules::OTHER_LINE);
     }
     if target.numberless {
-        return Some(54);
+        return Some(rules::NO_NUMBER);
     }
     if has_other_design(frame, line) {
-        return Some(55);
+        return Some(rules::OTHER_DESIGN);
     }
     if has_other_die(frame, line) {
-        return Some(56);
+        return Some(rules::OTHER_DIE);
     }
     if has_bad_range(frame, line) {
-        return Some(57);
+        return Some(rules::BAD_RANGE);
     }
     if target.nowhere {
-        return Some(58);
+        return Some(rules::NOWHERE);
     }
     if is_untested(&headers.tested, target.pattern) {
-        return Some(59);
+        return Some(rules::UNTESTED_PATTERN);
     }
     if is_out_of_shift(frame, line, target.pattern) {
-        return Some(60);
+        return Some(rules::OUT_OF_SHIFT);
     }
     if is_misplaced(version, headers, line) {
-        return Some(63);
+        return Some(rules::MISPLACED_LINE);
     }
     if is_late(version, headers, line) {
-        return Some(64);
+        return Some(rules::LATE_RANGE);
     }
     None
 }

@@ -9,6 +9,7 @@ use Rattle.std.proofs.lemmas.List.FromFn.{length-range_with_len}
 use Rattle.scan_model.specs.Lines.{text_lines, line_at, has_refused_byte}
 use Rattle.scan_model.specs.Words.{word_lines, has_words, has_word, is_name_byte, is_short, is_short_name, is_filled}
 use Rattle.scan_model.specs.TextFaults.{lowest, fault_from, first_fault, refused_or}
+use Rattle.scan_model.specs.declared.rules.TheConstants.{OTHER_CHAIN_FORM, UNKNOWN_CELL, NOT_A_FLOP, CHAIN_TAKEN, TOO_MANY_CHAINS}
 use Rattle.scan_model.specs.ReportText.{spaced, line}
 use Rattle.scan_model.specs.declared.circuit.Net.{Net}
 use Rattle.scan_model.specs.declared.parts.Chain.{Chain}
@@ -163,16 +164,16 @@ module _ (blocks : ℕ) (few : blocks ≤ 200) where
 
   -- ---- rules
 
-  none_of_five : (p q r s t : Bool) → p ≡ false → q ≡ false → r ≡ false → s ≡ false → t ≡ false → lowest ((11, p) ∷ (12, q) ∷ (13, r) ∷ (14, s) ∷ (15, t) ∷ []) ≡ None
+  none_of_five : (p q r s t : Bool) → p ≡ false → q ≡ false → r ≡ false → s ≡ false → t ≡ false → lowest ((OTHER_CHAIN_FORM, p) ∷ (UNKNOWN_CELL, q) ∷ (NOT_A_FLOP, r) ∷ (CHAIN_TAKEN, s) ∷ (TOO_MANY_CHAINS, t) ∷ []) ≡ None
   none_of_five p q r s t a b c d e = rw (a, b, c, d, e) refl
 
   abbrev table : List Net → List (List ℕ) → List (List ℕ) → Bool → List (List ℕ) → Option ChainNames → List (ℕ × Bool)
   table nets cells titles refused ws o =
-      (11, refused || (has_words ws && is_none o)) ∷
-      (12, list_any (λ w. not (is_net nets w)) (cells_named o)) ∷
-      (13, list_any (λ w. not (is_flop_net nets w)) (cells_named o)) ∷
-      (14, is_taken cells titles o) ∷
-      (15, is_some o && leb chain_limit (length titles)) ∷ []
+      (OTHER_CHAIN_FORM, refused || (has_words ws && is_none o)) ∷
+      (UNKNOWN_CELL, list_any (λ w. not (is_net nets w)) (cells_named o)) ∷
+      (NOT_A_FLOP, list_any (λ w. not (is_flop_net nets w)) (cells_named o)) ∷
+      (CHAIN_TAKEN, is_taken cells titles o) ∷
+      (TOO_MANY_CHAINS, is_some o && leb chain_limit (length titles)) ∷ []
 
   none_fails : (p : List ℕ → Bool) (ws : List (List ℕ)) → AllByRecursion (λ w. p w ≡ true) ws → list_any (λ w. not (p w)) ws ≡ false
   none_fails p [] all = refl

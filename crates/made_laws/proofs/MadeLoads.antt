@@ -9,6 +9,7 @@ use Rattle.std.proofs.lemmas.List.FromFn.{length-range_with_len}
 use Rattle.scan_model.specs.Lines.{text_lines, line_at}
 use Rattle.scan_model.specs.Words.{word_lines, has_words}
 use Rattle.scan_model.specs.TextFaults.{lowest, fault_from, first_fault, refused_or}
+use Rattle.scan_model.specs.declared.rules.TheConstants.{OTHER_KEYWORD, WRONG_WORDS, WRONG_LENGTH, OTHER_VALUE, TOO_MANY_PATTERNS, NO_PATTERN}
 use Rattle.scan_model.specs.ReportText.{spaced}
 use Rattle.scan_model.specs.declared.parts.Pattern.{Pattern}
 use Rattle.scan_model.specs.PatternText.{PatternFrame, kind_of, has_wrong_words, has_wrong_length, has_other_value, pattern_lines, pattern_rules, pattern_end_rules, pattern_limit, pattern_rule, line_pattern, patterns_of, pattern_reading}
@@ -23,17 +24,17 @@ use Rattle.made_laws.proofs.PatternWords.{digit_values, digit_count, shift_words
 abbrev pub made_frame : ℕ → PatternFrame
 made_frame blocks = record { inputs = 10 * blocks; lengths = map (λ h. 5 * chain_blocks blocks h) (range_with_len 0 (chain_count blocks)); keyword = codes "CAPTURE"; shifts = true }
 
-none_of_five : (p q r s t : Bool) → p ≡ false → q ≡ false → r ≡ false → s ≡ false → t ≡ false → lowest ((21, p) ∷ (22, q) ∷ (23, r) ∷ (24, s) ∷ (25, t) ∷ []) ≡ None
+none_of_five : (p q r s t : Bool) → p ≡ false → q ≡ false → r ≡ false → s ≡ false → t ≡ false → lowest ((OTHER_KEYWORD, p) ∷ (WRONG_WORDS, q) ∷ (WRONG_LENGTH, r) ∷ (OTHER_VALUE, s) ∷ (TOO_MANY_PATTERNS, t) ∷ []) ≡ None
 none_of_five p q r s t a b c d e = rw (a, b, c, d, e) refl
 
 -- the rules of a line with words, after fewer patterns than may be
 abbrev table : PatternFrame → ℕ → Bool → List (List ℕ) → List (ℕ × Bool)
 table frame earlier refused ws =
-    (21, refused || (has_words ws && not (is_some (kind_of frame ws)))) ∷
-    (22, has_wrong_words frame (kind_of frame ws) ws) ∷
-    (23, has_wrong_length frame (kind_of frame ws) ws) ∷
-    (24, has_other_value frame (kind_of frame ws) ws) ∷
-    (25, has_words ws && leb pattern_limit earlier) ∷ []
+    (OTHER_KEYWORD, refused || (has_words ws && not (is_some (kind_of frame ws)))) ∷
+    (WRONG_WORDS, has_wrong_words frame (kind_of frame ws) ws) ∷
+    (WRONG_LENGTH, has_wrong_length frame (kind_of frame ws) ws) ∷
+    (OTHER_VALUE, has_other_value frame (kind_of frame ws) ws) ∷
+    (TOO_MANY_PATTERNS, has_words ws && leb pattern_limit earlier) ∷ []
 
 filtered : (wss : List (List (List ℕ))) → length (filter has_words wss) ≤ length wss
 filtered [] = omega arith
@@ -120,7 +121,7 @@ module _ (seed blocks : ℕ) (some : 0 < blocks) (few : blocks ≤ 200) where
         let total : length (pattern_lines ls) ≡ n = ap length all_patterns ∙ length-map (range_with_len 0 n) (pattern_words seed blocks) ∙ length-range_with_len 0 n in
         let there : eqb (length (pattern_lines ls)) 0 ≡ false = grind (arith, nat_tests) in
         ap (λ (b : Bool). lowest (cond b (pattern_end_rules (length (pattern_lines ls))) (pattern_rules frame (length (pattern_lines (take i ls))) (line_at ls i)))) past
-        ∙ ap (λ (b : Bool). lowest ((26, b) ∷ [])) there
+        ∙ ap (λ (b : Bool). lowest ((NO_PATTERN, b) ∷ [])) there
 
     rule_at : (i : ℕ) → i < n + 1 → pattern_rule frame ls i ≡ None
     rule_at i lt = elim (cases_lt i n) [ inl below ↦ rule_within i below | inr past ↦ rule_past i (omega arith) ]

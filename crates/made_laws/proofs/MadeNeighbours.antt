@@ -11,6 +11,7 @@ use Rattle.scan_model.specs.declared.parts.Pair.{Pair}
 use Rattle.scan_model.specs.declared.parts.Pairs.{Pairs}
 use Rattle.scan_model.specs.Words.{has_word}
 use Rattle.scan_model.specs.TextFaults.{lowest, fault_from, refused_or}
+use Rattle.scan_model.specs.declared.rules.TheConstants.{OTHER_PAIR_FORM, NAMES_NO_NET, NAMES_ONE_NET, TOO_MANY_PAIRS}
 use Rattle.scan_model.specs.Netlist.{Netlist}
 use Rattle.scan_model.specs.ScanText.{net_names}
 use Rattle.scan_model.specs.NetlistText.{net_number}
@@ -71,7 +72,7 @@ module _ (blocks : ℕ) (few : blocks ≤ 200) where
   few_pairs names rows zero = omega arith
   few_pairs names rows (suc i) = omega (arith, few_pairs names rows i, more_pairs names (pairs_before names rows i) i (nets_named i (record_at rows i)))
 
-  none_of_four : (p q r s : Bool) → p ≡ false → q ≡ false → r ≡ false → s ≡ false → lowest ((31, p) ∷ (32, q) ∷ (33, r) ∷ (34, s) ∷ []) ≡ None
+  none_of_four : (p q r s : Bool) → p ≡ false → q ≡ false → r ≡ false → s ≡ false → lowest ((OTHER_PAIR_FORM, p) ∷ (NAMES_NO_NET, q) ∷ (NAMES_ONE_NET, r) ∷ (TOO_MANY_PAIRS, s) ∷ []) ≡ None
   none_of_four p q r s a b c d = rw (a, b, c, d) refl
 
   module _ (names : List (List ℕ)) (there : (b : ℕ) → b < blocks → has_word names (gate_name b 50) ≡ true)
@@ -82,10 +83,10 @@ module _ (blocks : ℕ) (few : blocks ≤ 200) where
     -- the rules at a record after the first
     abbrev table : List Pair → ℕ → Bool → List (List ℕ) → List (ℕ × Bool)
     table seen i first fields =
-        (31, cond first (not (is_header (two_names fields))) (is_none (two_names fields))) ∷
-        (32, names_no_net names (cond first None (two_names fields))) ∷
-        (33, names_one_net names (cond first None (two_names fields))) ∷
-        (34, names_too_many names seen i (cond first None (two_names fields))) ∷ []
+        (OTHER_PAIR_FORM, cond first (not (is_header (two_names fields))) (is_none (two_names fields))) ∷
+        (NAMES_NO_NET, names_no_net names (cond first None (two_names fields))) ∷
+        (NAMES_ONE_NET, names_one_net names (cond first None (two_names fields))) ∷
+        (TOO_MANY_PAIRS, names_too_many names seen i (cond first None (two_names fields))) ∷ []
 
     other_nets : (b : ℕ) → b + 1 < blocks → eqb (net_number names (gate_name b 50)) (net_number names (gate_name (b + 1) 50)) ≡ false
     other_nets b lt =

@@ -9,6 +9,7 @@ use Rattle.scan_model.proofs.FaultSteps.{fault_from_none}
 use Rattle.scan_model.specs.Lines.{line_at}
 use Rattle.scan_model.specs.Words.{has_word, is_short}
 use Rattle.scan_model.specs.TextFaults.{lowest, fault_from, first_fault}
+use Rattle.scan_model.specs.declared.rules.TheConstants.{REFUSED_BYTE, NO_FORM, UNKNOWN_WORD, WRONG_COUNT, LONG_NAME, DEFINED_TWICE, UNDEFINED_NET, TOO_MANY_NETS_OR_PINS}
 use Rattle.scan_model.specs.NetlistLines.{Form, output, form_of}
 use Rattle.scan_model.specs.NetlistRules.{forms_of, form_at, nets_of, uses_of, defined_names, used_names, new_output, outputs_of, pins_of, pins_after, is_no_form, has_unknown_word, has_wrong_count, has_long_name, defines_among, makes_past, net_limit, pin_limit, first_rules, first_rule, uses_undefined_first, second_rule, early_fault}
 use Rattle.made_laws.proofs.Plans.{Plan, an_input, an_output, a_cell, a_gate, line_of, planned, IsNetName, IsPlan, IsNumbered, AreNumbered, IsKnown, AreKeyed}
@@ -20,19 +21,19 @@ use Rattle.made_laws.proofs.Keyed.{keyed_append, keyed_new}
 -- the table of a line with a form
 abbrev table : List (List ℕ) → List (List ℕ) → ℕ → Bool → Form → List (ℕ × Bool)
 table defined outputs pins refused f =
-    (1, refused) ∷
-    (2, is_no_form f) ∷
-    (3, has_unknown_word f) ∷
-    (4, has_wrong_count f) ∷
-    (5, has_long_name f) ∷
-    (6, defines_among defined f) ∷ (
-      9,
+    (REFUSED_BYTE, refused) ∷
+    (NO_FORM, is_no_form f) ∷
+    (UNKNOWN_WORD, has_unknown_word f) ∷
+    (WRONG_COUNT, has_wrong_count f) ∷
+    (LONG_NAME, has_long_name f) ∷
+    (DEFINED_TWICE, defines_among defined f) ∷ (
+      TOO_MANY_NETS_OR_PINS,
       makes_past (length defined) (length (nets_of f)) net_limit
           || makes_past pins (length (pins_of outputs f)) pin_limit,
     ) ∷ []
 
 none_of_seven : (p q r s t u v : Bool) → p ≡ false → q ≡ false → r ≡ false → s ≡ false → t ≡ false → u ≡ false → v ≡ false
-    → lowest ((1, p) ∷ (2, q) ∷ (3, r) ∷ (4, s) ∷ (5, t) ∷ (6, u) ∷ (9, v) ∷ []) ≡ None
+    → lowest ((REFUSED_BYTE, p) ∷ (NO_FORM, q) ∷ (UNKNOWN_WORD, r) ∷ (WRONG_COUNT, s) ∷ (LONG_NAME, t) ∷ (DEFINED_TWICE, u) ∷ (TOO_MANY_NETS_OR_PINS, v) ∷ []) ≡ None
 none_of_seven p q r s t u v a b c d e f g = rw (a, b, c, d, e, f, g) refl
 
 short_name : (n : List ℕ) → IsNetName n → not (is_short n) ≡ false
@@ -173,8 +174,8 @@ uses_at names (p ∷ ps) known (suc i) = uses_at names ps known.1 i
 
 second_none : (ps : List Plan) → AllByRecursion IsPlan ps → AllByRecursion (IsKnown (names_in ps)) ps → first_fault (second_rule (map line_of ps)) (length (map line_of ps)) ≡ None
 second_none ps plans known = fault_from_none (second_rule (map line_of ps)) 0 (length (map line_of ps)) (λ k low high.
-    ap (λ (fs : List Form). lowest ((7, uses_undefined_first fs k) ∷ [])) (line_forms ps plans)
-    ∙ ap (λ (b : Bool). lowest ((7, b) ∷ [])) (none_unknown (names_in ps) (λ n. not (has_word (used_names (take k (map planned ps))) n)) (uses_of (form_at (map planned ps) k)) (uses_at (names_in ps) ps known k)))
+    ap (λ (fs : List Form). lowest ((UNDEFINED_NET, uses_undefined_first fs k) ∷ [])) (line_forms ps plans)
+    ∙ ap (λ (b : Bool). lowest ((UNDEFINED_NET, b) ∷ [])) (none_unknown (names_in ps) (λ n. not (has_word (used_names (take k (map planned ps))) n)) (uses_of (form_at (map planned ps) k)) (uses_at (names_in ps) ps known k)))
 
 pub early_none : (key : List ℕ → ℕ) (ps : List Plan) (end : ℕ) → length ps ≤ 60000 → AreNumbered key 0 ps end → AllByRecursion (IsKnown (names_in ps)) ps → early_fault (map line_of ps) ≡ None
 early_none key ps end few numbered known = rw (first_none key ps few end numbered) (second_none ps (numbered_plans key 0 ps end numbered) known)

@@ -1,4 +1,4 @@
--- Small texts, computed: what each stands for, or its first fault.
+-- Small texts, computed: what each stands for, or its first fault. Rules stand here by the numbers of the formats.
 use Rattle.std.specs.Prelude.{◌≡◌, ℕ, true, false, List, [], ◌∷◌, ◌++◌, length, Some, None, Ok, Err, codes, refl}
 use Rattle.scan_model.specs.declared.circuit.GateKind.TheVariants.{Nand}
 use Rattle.scan_model.specs.declared.circuit.Driver.{Driver}

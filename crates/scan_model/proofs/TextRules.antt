@@ -4,6 +4,7 @@ use Rattle.scan_model.specs.declared.circuit.Net.{Net}
 use Rattle.scan_model.specs.Lines.{line_at}
 use Rattle.scan_model.specs.Words.{words, has_words}
 use Rattle.scan_model.specs.TextFaults.{HasNoFault, IsFirstInRounds, broken_among, breaks, or_else, first_fault}
+use Rattle.scan_model.specs.declared.rules.TheConstants.{REFUSED_BYTE, NO_FORM, UNKNOWN_WORD, WRONG_COUNT, LONG_NAME, DEFINED_TWICE, UNDEFINED_NET, WITHOUT_LEVEL, TOO_MANY_NETS_OR_PINS, REFUSED_LOG_BYTE, AFTER_CLOSING_LINE}
 use Rattle.scan_model.specs.NetlistRules.{first_table, second_table, first_rule, second_rule, early_fault}
 use Rattle.scan_model.specs.NetlistText.{third_table, third_rule, netlist_breaks, netlist_rounds}
 use Rattle.scan_model.specs.ScanText.{scan_table, scan_rule, scan_breaks}
@@ -14,14 +15,14 @@ use Rattle.scan_model.proofs.FirstFaults.{IsLowest, rises_from, rises, breaks-ap
 
 -- ---- netlists
 
-pub first_lowest : (ls : List (List ℕ)) (i : ℕ) → IsLowest (broken_among (1 ∷ 2 ∷ 3 ∷ 4 ∷ 5 ∷ 6 ∷ 9 ∷ []) (netlist_breaks ls) i) (first_rule ls i)
-first_lowest ls i = lowest_in_round (1 ∷ 2 ∷ 3 ∷ 4 ∷ 5 ∷ 6 ∷ 9 ∷ []) (λ k. first_table ls k ++ (second_table ls k ++ third_table ls k)) i (first_table ls i) refl refl
+pub first_lowest : (ls : List (List ℕ)) (i : ℕ) → IsLowest (broken_among (REFUSED_BYTE ∷ NO_FORM ∷ UNKNOWN_WORD ∷ WRONG_COUNT ∷ LONG_NAME ∷ DEFINED_TWICE ∷ TOO_MANY_NETS_OR_PINS ∷ []) (netlist_breaks ls) i) (first_rule ls i)
+first_lowest ls i = lowest_in_round (REFUSED_BYTE ∷ NO_FORM ∷ UNKNOWN_WORD ∷ WRONG_COUNT ∷ LONG_NAME ∷ DEFINED_TWICE ∷ TOO_MANY_NETS_OR_PINS ∷ []) (λ k. first_table ls k ++ (second_table ls k ++ third_table ls k)) i (first_table ls i) refl refl
 
-pub second_lowest : (ls : List (List ℕ)) (i : ℕ) → IsLowest (broken_among (7 ∷ []) (netlist_breaks ls) i) (second_rule ls i)
-second_lowest ls i = lowest_in_round (7 ∷ []) (λ k. first_table ls k ++ (second_table ls k ++ third_table ls k)) i (second_table ls i) refl refl
+pub second_lowest : (ls : List (List ℕ)) (i : ℕ) → IsLowest (broken_among (UNDEFINED_NET ∷ []) (netlist_breaks ls) i) (second_rule ls i)
+second_lowest ls i = lowest_in_round (UNDEFINED_NET ∷ []) (λ k. first_table ls k ++ (second_table ls k ++ third_table ls k)) i (second_table ls i) refl refl
 
-pub third_lowest : (ls : List (List ℕ)) (i : ℕ) → IsLowest (broken_among (8 ∷ []) (netlist_breaks ls) i) (third_rule ls i)
-third_lowest ls i = lowest_in_round (8 ∷ []) (λ k. first_table ls k ++ (second_table ls k ++ third_table ls k)) i (third_table ls i) refl refl
+pub third_lowest : (ls : List (List ℕ)) (i : ℕ) → IsLowest (broken_among (WITHOUT_LEVEL ∷ []) (netlist_breaks ls) i) (third_rule ls i)
+third_lowest ls i = lowest_in_round (WITHOUT_LEVEL ∷ []) (λ k. first_table ls k ++ (second_table ls k ++ third_table ls k)) i (third_table ls i) refl refl
 
 module _ (ls : List (List ℕ)) where
   -- the fault that a netlist is refused with is the first in the rounds
@@ -30,16 +31,16 @@ module _ (ls : List (List ℕ)) where
     where
       go : (a : Option (ℕ × ℕ)) → first_fault (first_rule ls) (length ls) ≡ a → (b : Option (ℕ × ℕ)) → first_fault (second_rule ls) (length ls) ≡ b
           → or_else (or_else a b) (first_fault (third_rule ls) (length ls)) ≡ Some (line, r) → IsFirstInRounds netlist_rounds (netlist_breaks ls) (length ls) (line, r)
-      go (Some f) one b two e = inl (is_first (first_rule ls) (broken_among (1 ∷ 2 ∷ 3 ∷ 4 ∷ 5 ∷ 6 ∷ 9 ∷ []) (netlist_breaks ls)) (first_lowest ls) (length ls) line r (one ∙ e))
+      go (Some f) one b two e = inl (is_first (first_rule ls) (broken_among (REFUSED_BYTE ∷ NO_FORM ∷ UNKNOWN_WORD ∷ WRONG_COUNT ∷ LONG_NAME ∷ DEFINED_TWICE ∷ TOO_MANY_NETS_OR_PINS ∷ []) (netlist_breaks ls)) (first_lowest ls) (length ls) line r (one ∙ e))
       go None one (Some f) two e = inr (
-        has_none (first_rule ls) (broken_among (1 ∷ 2 ∷ 3 ∷ 4 ∷ 5 ∷ 6 ∷ 9 ∷ []) (netlist_breaks ls)) (first_lowest ls) (length ls) one,
-        inl (is_first (second_rule ls) (broken_among (7 ∷ []) (netlist_breaks ls)) (second_lowest ls) (length ls) line r (two ∙ e)),
+        has_none (first_rule ls) (broken_among (REFUSED_BYTE ∷ NO_FORM ∷ UNKNOWN_WORD ∷ WRONG_COUNT ∷ LONG_NAME ∷ DEFINED_TWICE ∷ TOO_MANY_NETS_OR_PINS ∷ []) (netlist_breaks ls)) (first_lowest ls) (length ls) one,
+        inl (is_first (second_rule ls) (broken_among (UNDEFINED_NET ∷ []) (netlist_breaks ls)) (second_lowest ls) (length ls) line r (two ∙ e)),
       )
       go None one None two e = inr (
-        has_none (first_rule ls) (broken_among (1 ∷ 2 ∷ 3 ∷ 4 ∷ 5 ∷ 6 ∷ 9 ∷ []) (netlist_breaks ls)) (first_lowest ls) (length ls) one,
+        has_none (first_rule ls) (broken_among (REFUSED_BYTE ∷ NO_FORM ∷ UNKNOWN_WORD ∷ WRONG_COUNT ∷ LONG_NAME ∷ DEFINED_TWICE ∷ TOO_MANY_NETS_OR_PINS ∷ []) (netlist_breaks ls)) (first_lowest ls) (length ls) one,
         inr (
-          has_none (second_rule ls) (broken_among (7 ∷ []) (netlist_breaks ls)) (second_lowest ls) (length ls) two,
-          inl (is_first (third_rule ls) (broken_among (8 ∷ []) (netlist_breaks ls)) (third_lowest ls) (length ls) line r e),
+          has_none (second_rule ls) (broken_among (UNDEFINED_NET ∷ []) (netlist_breaks ls)) (second_lowest ls) (length ls) two,
+          inl (is_first (third_rule ls) (broken_among (WITHOUT_LEVEL ∷ []) (netlist_breaks ls)) (third_lowest ls) (length ls) line r e),
         ),
       )
 
@@ -80,11 +81,11 @@ rises_from-if r true x y up other = up
 rises_from-if r false x y other up = up
 
 log_rises : (frame : LogFrame) (title : Option LogVersion) (closed : Bool) (headers : Headers) (line : List ℕ) → rises (log_rules frame title closed headers line) ≡ true
-log_rises frame title closed headers line = rises_from-if 51 (not (has_words (words line))) [] (rules_after frame title closed headers (words line)) refl (after title)
+log_rises frame title closed headers line = rises_from-if REFUSED_LOG_BYTE (not (has_words (words line))) [] (rules_after frame title closed headers (words line)) refl (after title)
   where
-    after : (title : Option LogVersion) → rises_from 51 (rules_after frame title closed headers (words line)) ≡ true
+    after : (title : Option LogVersion) → rises_from REFUSED_LOG_BYTE (rules_after frame title closed headers (words line)) ≡ true
     after None = refl
-    after (Some version) = rises_from-if 51 closed ((62, true) ∷ []) (later_rules frame version headers (log_line frame.form version (words line))) refl refl
+    after (Some version) = rises_from-if REFUSED_LOG_BYTE closed ((AFTER_CLOSING_LINE, true) ∷ []) (later_rules frame version headers (log_line frame.form version (words line))) refl refl
 
 pub log_lowest : (frame : LogFrame) (ls : List (List ℕ)) (i : ℕ) → IsLowest (log_breaks frame ls i) (log_rule frame ls i)
 log_lowest frame ls i =

@@ -5,6 +5,7 @@ use Rattle.std.specs.Str.{bytes_eq}
 use Rattle.scan_model.specs.Lines.{text_lines, line_at, has_refused_byte}
 use Rattle.scan_model.specs.Words.{words, word_lines, has_words, number_of}
 use Rattle.scan_model.specs.TextFaults.{breaks, lowest, first_fault, refused_or}
+use Rattle.scan_model.specs.declared.rules.TheConstants.{REFUSED_LOG_BYTE, NO_TITLE, OTHER_LINE, NO_NUMBER, OTHER_DESIGN, OTHER_DIE, BAD_RANGE, NOWHERE, UNTESTED_PATTERN, OUT_OF_SHIFT, NO_CLOSING_LINE, AFTER_CLOSING_LINE, MISPLACED_LINE, LATE_RANGE}
 use Rattle.scan_model.specs.declared.parts.PatternKind.{PatternKind}
 use Rattle.scan_model.specs.declared.parts.PatternKind.TheVariants.{Capture, Shift}
 use Rattle.scan_model.specs.declared.parts.Pattern.{Pattern}
@@ -287,16 +288,16 @@ is_late version headers l = false
 -- the rules of a later line, after these headers
 abbrev pub later_rules : LogFrame → LogVersion → Headers → LogLine → List (ℕ × Bool)
 later_rules frame version headers l =
-    (53, is_other l) ∷
-    (54, has_no_number l) ∷
-    (55, has_other_design frame l) ∷
-    (56, has_other_die frame l) ∷
-    (57, has_bad_range frame l) ∷
-    (58, is_nowhere frame l) ∷
-    (59, is_untested headers.ranges (pattern_named l)) ∷
-    (60, is_out_of_shift frame l) ∷
-    (63, is_misplaced version headers l) ∷
-    (64, is_late version headers l) ∷ []
+    (OTHER_LINE, is_other l) ∷
+    (NO_NUMBER, has_no_number l) ∷
+    (OTHER_DESIGN, has_other_design frame l) ∷
+    (OTHER_DIE, has_other_die frame l) ∷
+    (BAD_RANGE, has_bad_range frame l) ∷
+    (NOWHERE, is_nowhere frame l) ∷
+    (UNTESTED_PATTERN, is_untested headers.ranges (pattern_named l)) ∷
+    (OUT_OF_SHIFT, is_out_of_shift frame l) ∷
+    (MISPLACED_LINE, is_misplaced version headers l) ∷
+    (LATE_RANGE, is_late version headers l) ∷ []
 
 -- ---- the rules of a line
 
@@ -306,19 +307,19 @@ is_closed later = list_any is_end later
 
 -- the rule of the title where no line with words came, rule 62 alone after a closing line, and else those of a later line
 abbrev pub rules_after : LogFrame → Option LogVersion → Bool → Headers → List (List ℕ) → List (ℕ × Bool)
-rules_after frame None closed headers ws = (52, not (is_some (title_version frame.form ws))) ∷ []
+rules_after frame None closed headers ws = (NO_TITLE, not (is_some (title_version frame.form ws))) ∷ []
 rules_after frame (Some version) closed headers ws =
-    if closed then (62, true) ∷ [] else later_rules frame version headers (log_line frame.form version ws)
+    if closed then (AFTER_CLOSING_LINE, true) ∷ [] else later_rules frame version headers (log_line frame.form version ws)
 
 abbrev pub rules_of_words : LogFrame → Option LogVersion → Bool → Headers → List (List ℕ) → List (ℕ × Bool)
 rules_of_words frame title closed headers ws = if not (has_words ws) then [] else rules_after frame title closed headers ws
 
 abbrev pub log_rules : LogFrame → Option LogVersion → Bool → Headers → List ℕ → List (ℕ × Bool)
-log_rules frame title closed headers line = (51, has_refused_byte line) ∷ rules_of_words frame title closed headers (words line)
+log_rules frame title closed headers line = (REFUSED_LOG_BYTE, has_refused_byte line) ∷ rules_of_words frame title closed headers (words line)
 
 -- at the line after the last
 abbrev pub log_end_rules : Bool → Bool → List (ℕ × Bool)
-log_end_rules titled closed = (52, not titled) ∷ (61, not closed) ∷ []
+log_end_rules titled closed = (NO_TITLE, not titled) ∷ (NO_CLOSING_LINE, not closed) ∷ []
 
 -- the rules at the line i, which may be the one after the last
 abbrev pub log_table : LogFrame → List (List ℕ) → ℕ → List (ℕ × Bool)

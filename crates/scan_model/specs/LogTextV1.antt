@@ -5,6 +5,7 @@ use Rattle.std.specs.List.{list_any}
 use Rattle.scan_model.specs.Lines.{text_lines, line_at, has_refused_byte}
 use Rattle.scan_model.specs.Words.{words, word_lines, has_words}
 use Rattle.scan_model.specs.TextFaults.{lowest, first_fault, refused_or}
+use Rattle.scan_model.specs.declared.rules.TheConstants.{REFUSED_LOG_BYTE, NO_TITLE, OTHER_LINE, NO_NUMBER, OTHER_DESIGN, OTHER_DIE, BAD_RANGE, NOWHERE, UNTESTED_PATTERN, OUT_OF_SHIFT, AFTER_CLOSING_LINE, MISPLACED_LINE}
 use Rattle.scan_model.specs.declared.logs.Bit.{Bit}
 use Rattle.scan_model.specs.declared.logs.LogForm.TheVariants.{FailLog}
 use Rattle.scan_model.specs.Coverage.{not_after}
@@ -98,15 +99,15 @@ is_misplaced headers l = not (has_all headers)
 -- the rules of a later line, after these headers
 abbrev pub later_rules : LogFrame → Headers → LogLine → List (ℕ × Bool)
 later_rules frame headers l =
-    (53, is_other l) ∷
-    (54, has_no_number l) ∷
-    (55, has_other_design frame l) ∷
-    (56, has_other_die frame l) ∷
-    (57, has_bad_range frame l) ∷
-    (58, is_nowhere frame l) ∷
-    (59, is_untested headers.tested (pattern_named l)) ∷
-    (60, is_out_of_shift frame l) ∷
-    (63, is_misplaced headers l) ∷ []
+    (OTHER_LINE, is_other l) ∷
+    (NO_NUMBER, has_no_number l) ∷
+    (OTHER_DESIGN, has_other_design frame l) ∷
+    (OTHER_DIE, has_other_die frame l) ∷
+    (BAD_RANGE, has_bad_range frame l) ∷
+    (NOWHERE, is_nowhere frame l) ∷
+    (UNTESTED_PATTERN, is_untested headers.tested (pattern_named l)) ∷
+    (OUT_OF_SHIFT, is_out_of_shift frame l) ∷
+    (MISPLACED_LINE, is_misplaced headers l) ∷ []
 
 -- ---- the rules of a line
 
@@ -122,12 +123,12 @@ is_closed later = list_any is_end later
 abbrev pub rules_of_words : LogFrame → Bool → Bool → Headers → List (List ℕ) → List (ℕ × Bool)
 rules_of_words frame titled closed headers ws =
     if not (has_words ws) then []
-    else if not titled then (52, not (is_title ws)) ∷ []
-    else if closed then (62, true) ∷ []
+    else if not titled then (NO_TITLE, not (is_title ws)) ∷ []
+    else if closed then (AFTER_CLOSING_LINE, true) ∷ []
     else later_rules frame headers (log_line ws)
 
 abbrev pub log_rules : LogFrame → Bool → Bool → Headers → List ℕ → List (ℕ × Bool)
-log_rules frame titled closed headers line = (51, has_refused_byte line) ∷ rules_of_words frame titled closed headers (words line)
+log_rules frame titled closed headers line = (REFUSED_LOG_BYTE, has_refused_byte line) ∷ rules_of_words frame titled closed headers (words line)
 
 -- the rules at the line i, which may be the one after the last
 abbrev pub log_table : LogFrame → List (List ℕ) → ℕ → List (ℕ × Bool)

@@ -4,6 +4,7 @@ use Rattle.std.specs.List.{list_any}
 use Rattle.scan_model.specs.Lines.{line_at, has_refused_byte}
 use Rattle.scan_model.specs.Words.{is_short, has_word}
 use Rattle.scan_model.specs.TextFaults.{lowest, or_else, first_fault}
+use Rattle.scan_model.specs.declared.rules.TheConstants.{REFUSED_BYTE, NO_FORM, UNKNOWN_WORD, WRONG_COUNT, LONG_NAME, DEFINED_TWICE, UNDEFINED_NET, TOO_MANY_NETS_OR_PINS}
 use Rattle.scan_model.specs.NetlistLines.{Form, nothing, input, output, definition, no_form, form_of, driver_named, takes_one}
 
 abbrev pub net_limit : ℕ
@@ -90,13 +91,13 @@ makes_past earlier made limit = nat_lt 0 made && nat_lt limit (earlier + made)
 -- the rules at a line, after lines with these nets, outputs and so many pins
 abbrev pub first_rules : List (List ℕ) → List (List ℕ) → ℕ → List ℕ → List (ℕ × Bool)
 first_rules defined outputs pins line =
-    (1, has_refused_byte line) ∷
-    (2, is_no_form (form_of line)) ∷
-    (3, has_unknown_word (form_of line)) ∷
-    (4, has_wrong_count (form_of line)) ∷
-    (5, has_long_name (form_of line)) ∷
-    (6, defines_among defined (form_of line)) ∷ (
-      9,
+    (REFUSED_BYTE, has_refused_byte line) ∷
+    (NO_FORM, is_no_form (form_of line)) ∷
+    (UNKNOWN_WORD, has_unknown_word (form_of line)) ∷
+    (WRONG_COUNT, has_wrong_count (form_of line)) ∷
+    (LONG_NAME, has_long_name (form_of line)) ∷
+    (DEFINED_TWICE, defines_among defined (form_of line)) ∷ (
+      TOO_MANY_NETS_OR_PINS,
       makes_past (length defined) (length (nets_of (form_of line))) net_limit
           || makes_past pins (length (pins_of outputs (form_of line))) pin_limit,
     ) ∷ []
@@ -119,7 +120,7 @@ uses_undefined_first fs i =
     list_any (λ n. not (has_word (defined_names fs) n) && not (has_word (used_names (take i fs)) n)) (uses_of (form_at fs i))
 
 abbrev pub second_table : List (List ℕ) → ℕ → List (ℕ × Bool)
-second_table ls i = (7, uses_undefined_first (forms_of ls) i) ∷ []
+second_table ls i = (UNDEFINED_NET, uses_undefined_first (forms_of ls) i) ∷ []
 
 abbrev pub second_rule : List (List ℕ) → ℕ → Option ℕ
 second_rule ls i = lowest (second_table ls i)

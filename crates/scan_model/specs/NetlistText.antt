@@ -10,6 +10,7 @@ use Rattle.scan_model.specs.Netlist.{Netlist, netlist}
 use Rattle.scan_model.specs.Walks.{has_level}
 use Rattle.scan_model.specs.Lines.{text_lines}
 use Rattle.scan_model.specs.TextFaults.{breaks, lowest, or_else, first_fault, refused_or}
+use Rattle.scan_model.specs.declared.rules.TheConstants.{REFUSED_BYTE, NO_FORM, UNKNOWN_WORD, WRONG_COUNT, LONG_NAME, DEFINED_TWICE, UNDEFINED_NET, WITHOUT_LEVEL, TOO_MANY_NETS_OR_PINS}
 use Rattle.scan_model.specs.NetlistLines.{Form, input, output, definition, driver_named}
 use Rattle.scan_model.specs.NetlistRules.{forms_of, form_at, nets_of, defined_names, new_output, outputs_of, pins_of, first_table, second_table, early_fault}
 
@@ -66,7 +67,7 @@ abbrev pub defines_without_level : List Form → Form → Bool
 defines_without_level fs f = list_any (λ n. not (has_level (circuit_in fs) (net_number (defined_names fs) n))) (nets_of f)
 
 abbrev pub third_table : List (List ℕ) → ℕ → List (ℕ × Bool)
-third_table ls i = (8, defines_without_level (forms_of ls) (form_at (forms_of ls) i)) ∷ []
+third_table ls i = (WITHOUT_LEVEL, defines_without_level (forms_of ls) (form_at (forms_of ls) i)) ∷ []
 
 abbrev pub third_rule : List (List ℕ) → ℕ → Option ℕ
 third_rule ls i = lowest (third_table ls i)
@@ -79,7 +80,9 @@ netlist_breaks ls i rule = breaks (first_table ls i ++ (second_table ls i ++ thi
 
 -- the rounds in which the rules are sought
 abbrev pub netlist_rounds : List (List ℕ)
-netlist_rounds = (1 ∷ 2 ∷ 3 ∷ 4 ∷ 5 ∷ 6 ∷ 9 ∷ []) ∷ (7 ∷ []) ∷ (8 ∷ []) ∷ []
+netlist_rounds =
+    (REFUSED_BYTE ∷ NO_FORM ∷ UNKNOWN_WORD ∷ WRONG_COUNT ∷ LONG_NAME ∷ DEFINED_TWICE ∷ TOO_MANY_NETS_OR_PINS ∷ []) ∷
+    (UNDEFINED_NET ∷ []) ∷ (WITHOUT_LEVEL ∷ []) ∷ []
 
 -- the first fault: the rounds in their order
 abbrev pub netlist_fault : List ℕ → Option (ℕ × ℕ)

@@ -5,6 +5,7 @@ use Rattle.std.specs.Str.{bytes_eq}
 use Rattle.scan_model.specs.Lines.{text_lines, line_at, has_refused_byte}
 use Rattle.scan_model.specs.Words.{words, word_lines, has_words}
 use Rattle.scan_model.specs.TextFaults.{breaks, lowest, first_fault, refused_or}
+use Rattle.scan_model.specs.declared.rules.TheConstants.{OTHER_KEYWORD, WRONG_WORDS, WRONG_LENGTH, OTHER_VALUE, TOO_MANY_PATTERNS, NO_PATTERN}
 use Rattle.scan_model.specs.declared.parts.Chain.{Chain}
 use Rattle.scan_model.specs.declared.parts.Pattern.{Pattern}
 use Rattle.scan_model.specs.Netlist.{Netlist}
@@ -86,15 +87,15 @@ has_other_keyword frame line ws = has_refused_byte line || (has_words ws && not 
 -- the rules at a line, after so many patterns
 abbrev pub pattern_rules : PatternFrame → ℕ → List ℕ → List (ℕ × Bool)
 pattern_rules frame earlier line =
-    (21, has_other_keyword frame line (words line)) ∷
-    (22, has_wrong_words frame (kind_of frame (words line)) (words line)) ∷
-    (23, has_wrong_length frame (kind_of frame (words line)) (words line)) ∷
-    (24, has_other_value frame (kind_of frame (words line)) (words line)) ∷
-    (25, has_words (words line) && nat_le pattern_limit earlier) ∷ []
+    (OTHER_KEYWORD, has_other_keyword frame line (words line)) ∷
+    (WRONG_WORDS, has_wrong_words frame (kind_of frame (words line)) (words line)) ∷
+    (WRONG_LENGTH, has_wrong_length frame (kind_of frame (words line)) (words line)) ∷
+    (OTHER_VALUE, has_other_value frame (kind_of frame (words line)) (words line)) ∷
+    (TOO_MANY_PATTERNS, has_words (words line) && nat_le pattern_limit earlier) ∷ []
 
 -- rule 26, at the line after the last
 abbrev pub pattern_end_rules : ℕ → List (ℕ × Bool)
-pattern_end_rules patterns = (26, patterns == 0) ∷ []
+pattern_end_rules patterns = (NO_PATTERN, patterns == 0) ∷ []
 
 -- the rules at the line i, which may be the one after the last
 abbrev pub pattern_table : PatternFrame → List (List ℕ) → ℕ → List (ℕ × Bool)

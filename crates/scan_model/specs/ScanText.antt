@@ -5,6 +5,7 @@ use Rattle.std.specs.Str.{bytes_eq}
 use Rattle.scan_model.specs.Lines.{text_lines, line_at, has_refused_byte}
 use Rattle.scan_model.specs.Words.{words, word_lines, has_words, has_word, is_short_name}
 use Rattle.scan_model.specs.TextFaults.{breaks, lowest, first_fault, refused_or}
+use Rattle.scan_model.specs.declared.rules.TheConstants.{OTHER_CHAIN_FORM, UNKNOWN_CELL, NOT_A_FLOP, CHAIN_TAKEN, TOO_MANY_CHAINS}
 use Rattle.scan_model.specs.declared.circuit.Driver.{Driver}
 use Rattle.scan_model.specs.declared.circuit.Driver.TheVariants.{Input, Flop, Gate}
 use Rattle.scan_model.specs.declared.circuit.Net.{Net}
@@ -80,11 +81,11 @@ is_taken cells titles (Some c) = stands_again cells c.cells || has_word titles c
 -- the rules at a line, after chains with these cells and these names
 abbrev pub scan_rules : List Net → List (List ℕ) → List (List ℕ) → List ℕ → List (ℕ × Bool)
 scan_rules nets cells titles line =
-    (11, has_other_form line (words line)) ∷
-    (12, list_any (λ w. not (is_net nets w)) (cells_named (chain_of (words line)))) ∷
-    (13, list_any (λ w. not (is_flop_net nets w)) (cells_named (chain_of (words line)))) ∷
-    (14, is_taken cells titles (chain_of (words line))) ∷
-    (15, is_some (chain_of (words line)) && nat_le chain_limit (length titles)) ∷ []
+    (OTHER_CHAIN_FORM, has_other_form line (words line)) ∷
+    (UNKNOWN_CELL, list_any (λ w. not (is_net nets w)) (cells_named (chain_of (words line)))) ∷
+    (NOT_A_FLOP, list_any (λ w. not (is_flop_net nets w)) (cells_named (chain_of (words line)))) ∷
+    (CHAIN_TAKEN, is_taken cells titles (chain_of (words line))) ∷
+    (TOO_MANY_CHAINS, is_some (chain_of (words line)) && nat_le chain_limit (length titles)) ∷ []
 
 -- the chains of the lines before the line i
 abbrev pub chains_before : List (List ℕ) → ℕ → List ChainNames

@@ -16,6 +16,7 @@ mod observed;
 mod pair_index;
 mod parts;
 mod rows;
+pub mod rules;
 mod steps;
 mod test_order;
 mod values;

@@ -8,6 +8,7 @@ use Rattle.scan_model.specs.declared.parts.Pattern.{Pattern}
 use Rattle.scan_model.specs.Lines.{line_at}
 use Rattle.scan_model.specs.Words.{words, word_lines, has_words}
 use Rattle.scan_model.specs.TextFaults.{lowest, fault_from, first_fault, refused_or}
+use Rattle.scan_model.specs.declared.rules.TheConstants.{NO_PATTERN}
 use Rattle.scan_model.specs.PatternText.{PatternFrame, pattern_lines, pattern_rules, pattern_end_rules, pattern_rule, line_pattern, patterns_of}
 use Rattle.scan_model.proofs.FaultSteps.{fault_goes_on, fault_is_here, fault_is_none}
 use Rattle.text_parts.specs.Views.{nows}
@@ -68,12 +69,12 @@ module _ (frame : PatternFrame) (ls : List (List ℕ)) (items : List (Bor (List 
       rw (count_is, whole, n, same (length ls)) refl
 
   -- past the last line
-  pub end_is_faulty : i ≡ length items → eqb (length kept) 0 ≡ true → refused_or (first_fault (pattern_rule frame ls) (length ls + 1)) (patterns_of frame ls) ≡ Err (length items + 1, 26)
+  pub end_is_faulty : i ≡ length items → eqb (length kept) 0 ≡ true → refused_or (first_fault (pattern_rule frame ls) (length ls + 1)) (patterns_of frame ls) ≡ Err (length items + 1, NO_PATTERN)
   end_is_faulty done empty =
       let lt' : i < length ls + 1 = omega (arith, lines_length) in
-      let broken : lowest (pattern_end_rules (length kept)) ≡ Some 26 = rw empty refl in
+      let broken : lowest (pattern_end_rules (length kept)) ≡ Some NO_PATTERN = rw empty refl in
       ap (λ f. refused_or f (patterns_of frame ls)) (fault_is_here (pattern_rule frame ls) (length ls + 1) i (first_fault (pattern_rule frame ls) (length ls + 1)) 26 lt' (sym (end_is done) ∙ broken) so_far)
-      ∙ ap (λ k. Err (k + 1, 26)) done
+      ∙ ap (λ k. Err (k + 1, NO_PATTERN)) done
 
   pub text_is_whole : i ≡ length items → eqb (length kept) 0 ≡ false → refused_or (first_fault (pattern_rule frame ls) (length ls + 1)) (patterns_of frame ls) ≡ Ok kept
   text_is_whole done filled =

@@ -16,6 +16,7 @@ use Rattle.scan_model.specs.declared.circuit.Net.{Net}
 use Rattle.scan_model.specs.Netlist.{Netlist, driver_of}
 use Rattle.scan_model.specs.Words.{words, is_short, is_short_name, is_name_byte, has_word}
 use Rattle.scan_model.specs.TextFaults.{lowest}
+use Rattle.scan_model.specs.declared.rules.TheConstants.{OTHER_CHAIN_FORM, UNKNOWN_CELL, NOT_A_FLOP, CHAIN_TAKEN, TOO_MANY_CHAINS}
 use Rattle.scan_model.specs.ScanText.{ChainNames, net_names, number_of_net, is_net, is_flop_net, is_flop_driver, chain_of, chain_limit, cells_named, has_other_form, is_taken, stands_again, cells_in, titles_in, scan_rules, numbered}
 use Rattle.scan_model.specs.ScanTest.{IsFlop, cells_of, AreChains}
 use Rattle.text_parts.proofs.Places.{any_position}
@@ -78,7 +79,7 @@ cells_push cs c = flat_map-append (λ x. x.cells) cs (c ∷ []) ∙ ap (λ xs. c
 module _ (nets : List Net) (cs : List ChainNames) (sound : AreSound nets cs) where
   -- a line's chain, which breaks no rule
   chain_more : (ws : List (List ℕ)) (form : Bool) (o : Option ChainNames) → chain_of ws ≡ o
-      → None ≡ lowest ((11, form) ∷ (12, list_any (λ w. not (is_net nets w)) (cells_named o)) ∷ (13, list_any (λ w. not (is_flop_net nets w)) (cells_named o)) ∷ (14, is_taken (cells_in cs) (titles_in cs) o) ∷ (15, is_some o && nat_le chain_limit (length (titles_in cs))) ∷ [])
+      → None ≡ lowest ((OTHER_CHAIN_FORM, form) ∷ (UNKNOWN_CELL, list_any (λ w. not (is_net nets w)) (cells_named o)) ∷ (NOT_A_FLOP, list_any (λ w. not (is_flop_net nets w)) (cells_named o)) ∷ (CHAIN_TAKEN, is_taken (cells_in cs) (titles_in cs) o) ∷ (TOO_MANY_CHAINS, is_some o && nat_le chain_limit (length (titles_in cs))) ∷ [])
       → AreSound nets (cs ++ option_to_list o)
   chain_more ws form None e none = rw append-nil sound
   chain_more ws form (Some c) e none =

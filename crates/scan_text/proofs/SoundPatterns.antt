@@ -12,6 +12,7 @@ use Rattle.scan_model.specs.Netlist.{Netlist}
 use Rattle.scan_model.specs.Lines.{has_refused_byte}
 use Rattle.scan_model.specs.Words.{words, has_words}
 use Rattle.scan_model.specs.TextFaults.{lowest}
+use Rattle.scan_model.specs.declared.rules.TheConstants.{OTHER_KEYWORD, WRONG_WORDS, WRONG_LENGTH, OTHER_VALUE, TOO_MANY_PATTERNS}
 use Rattle.scan_model.specs.PatternText.{PatternFrame, pattern_limit, character_value, kind_of, is_dash, have_lengths, has_wrong_words, inputs_fit, has_wrong_length, has_other_value, pattern_rules, input_values, line_pattern, patterns_of}
 use Rattle.scan_model.specs.ScanTest.{FitsPattern, ArePatterns}
 use Rattle.scan_text.proofs.Tables.{none_broken}
@@ -72,7 +73,7 @@ module _ (frame : PatternFrame) (never : frame.shifts ≡ false) where
   line_captures (keyword ∷ p ∷ ws) (Some Capture) e some counted = rw (is_capture (bytes_eq keyword frame.keyword) (frame.shifts && bytes_eq keyword (codes "SHIFT")) e) refl
 
   words_capture : (ps : List Pattern) (ws : List (List ℕ)) (refused long other many : Bool) → All (λ w. w.kind ≡ Capture) ps
-      → None ≡ lowest ((21, refused || (has_words ws && not (is_some (kind_of frame ws)))) ∷ (22, has_wrong_words frame (kind_of frame ws) ws) ∷ (23, long) ∷ (24, other) ∷ (25, many) ∷ [])
+      → None ≡ lowest ((OTHER_KEYWORD, refused || (has_words ws && not (is_some (kind_of frame ws)))) ∷ (WRONG_WORDS, has_wrong_words frame (kind_of frame ws) ws) ∷ (WRONG_LENGTH, long) ∷ (OTHER_VALUE, other) ∷ (TOO_MANY_PATTERNS, many) ∷ [])
       → (b : Bool) → has_words ws ≡ b → All (λ w. w.kind ≡ Capture) (ps ++ map (line_pattern frame) (cond b (ws ∷ []) []))
   words_capture ps ws refused long other many all none false e = rw append-nil all
   words_capture ps ws refused long other many all none true e =
@@ -128,7 +129,7 @@ module _ (c : Netlist) (chains : List Chain) (key : List ℕ) (shifts : Bool) wh
 
   -- the words of a line that breaks no rule
   words_more : (ps : List Pattern) (ws : List (List ℕ)) (refused other : Bool) → AreSound c chains ps
-      → None ≡ lowest ((21, refused || (has_words ws && not (is_some (kind_of frame ws)))) ∷ (22, has_wrong_words frame (kind_of frame ws) ws) ∷ (23, has_wrong_length frame (kind_of frame ws) ws) ∷ (24, other) ∷ (25, has_words ws && nat_le pattern_limit (length ps)) ∷ [])
+      → None ≡ lowest ((OTHER_KEYWORD, refused || (has_words ws && not (is_some (kind_of frame ws)))) ∷ (WRONG_WORDS, has_wrong_words frame (kind_of frame ws) ws) ∷ (WRONG_LENGTH, has_wrong_length frame (kind_of frame ws) ws) ∷ (OTHER_VALUE, other) ∷ (TOO_MANY_PATTERNS, has_words ws && nat_le pattern_limit (length ps)) ∷ [])
       → (b : Bool) → has_words ws ≡ b → AreSound c chains (ps ++ map (line_pattern frame) (cond b (ws ∷ []) []))
   words_more ps ws refused other sound none false e = rw append-nil sound
   words_more ps ws refused other sound none true e =

@@ -10,7 +10,7 @@ ghost use Rattle.scan_model.specs.ScanText.{ChainNames, net_names, number_of_net
 ghost use Rattle.text_parts.specs.Views.{nows};
 
 use crate::chain::NamedChain;
-use scan_model::{Chain, Driver, Net, NoMemory, Rows};
+use scan_model::{Chain, Driver, Net, NoMemory, Rows, rules};
 use std::alloc::Global;
 use text_parts::{Names, has_refused_byte, words_of};
 
@@ -135,19 +135,19 @@ impl<'a> ScanDraft<'a> {
     {
         let found = cell_nets(alloc, nets, names, chain.cells)?;
         if found.lacks_net {
-            return Ok(Some(12));
+            return Ok(Some(rules::UNKNOWN_CELL));
         }
         if found.has_other {
-            return Ok(Some(13));
+            return Ok(Some(rules::NOT_A_FLOP));
         }
         if !self.cells.add_new(chain.cells)? {
-            return Ok(Some(14));
+            return Ok(Some(rules::CHAIN_TAKEN));
         }
         if self.titles.contains(chain.name) {
-            return Ok(Some(14));
+            return Ok(Some(rules::CHAIN_TAKEN));
         }
         if self.titles.len() >= CHAIN_LIMIT {
-            return Ok(Some(15));
+            return Ok(Some(rules::TOO_MANY_CHAINS));
         }
         self.titles.add(chain.name)?;
         self.chains
@@ -169,12 +169,16 @@ impl<'a> ScanDraft<'a> {
         ensures taken { result ≡ Ok None → (cs : List ChainNames) → IsAfter nets.now self.old cs → IsAfter nets.now self.new (cs ++ option_to_list (chain_of (words line.now))) }
     {
         if has_refused_byte(line) {
-            return Ok(Some(11));
+            return Ok(Some(rules::OTHER_CHAIN_FORM));
         }
         let words = words_of(alloc, line)?;
         match NamedChain::of_words(&words) {
             Some(chain) => self.take(alloc, nets, names, chain),
-            None => Ok(if words.is_empty() { None } else { Some(11) }),
+            None => Ok(if words.is_empty() {
+                None
+            } else {
+                Some(rules::OTHER_CHAIN_FORM)
+            }),
         }
     }
 }

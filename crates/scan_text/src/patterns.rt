@@ -14,7 +14,7 @@ ghost use Rattle.text_parts.specs.Views.{nows};
 use crate::pattern::{
     Frame, has_other_value, has_wrong_length, has_wrong_words, kind_of, pattern_of,
 };
-use scan_model::{Chain, Circuit, NoMemory, Pattern, PatternKind, Rows};
+use scan_model::{Chain, Circuit, NoMemory, Pattern, PatternKind, Rows, rules};
 use std::alloc::Global;
 use text_parts::{ReadFault, TextFault, fill_words, has_refused_byte, lines_of};
 
@@ -33,16 +33,16 @@ fn take_pattern(
     ensures taken { result ≡ Ok None → patterns.new ≡ patterns.old ++ line_pattern (frame_view frame.now) (nows words.now) ∷ [] }
 {
     if has_wrong_words(frame, kind, words) {
-        return Ok(Some(22));
+        return Ok(Some(rules::WRONG_WORDS));
     }
     if has_wrong_length(frame, kind, words) {
-        return Ok(Some(23));
+        return Ok(Some(rules::WRONG_LENGTH));
     }
     if has_other_value(frame, kind, words) {
-        return Ok(Some(24));
+        return Ok(Some(rules::OTHER_VALUE));
     }
     if patterns.len() >= PATTERN_LIMIT {
-        return Ok(Some(25));
+        return Ok(Some(rules::TOO_MANY_PATTERNS));
     }
     patterns.push(pattern_of(alloc, frame, words)?)?;
     Ok(None)
@@ -60,13 +60,17 @@ fn take_line<'a>(
     ensures taken { result ≡ Ok None → patterns.new ≡ patterns.old ++ patterns_of (frame_view frame.now) (line.now ∷ []) }
 {
     if has_refused_byte(line) {
-        return Ok(Some(21));
+        return Ok(Some(rules::OTHER_KEYWORD));
     }
     fill_words(words, line)?;
     let words = words.as_slice();
     match kind_of(frame, words) {
         Some(kind) => take_pattern(alloc, frame, patterns, kind, words),
-        None => Ok(if words.is_empty() { None } else { Some(21) }),
+        None => Ok(if words.is_empty() {
+            None
+        } else {
+            Some(rules::OTHER_KEYWORD)
+        }),
     }
 }
 
@@ -91,7 +95,8 @@ fn take_lines(
     }
     if patterns.is_empty() {
         let line = lines.len() as u64 + 1;
-        return Err(ReadFault::Text(TextFault { line, rule: 26 }));
+        let rule = rules::NO_PATTERN;
+        return Err(ReadFault::Text(TextFault { line, rule }));
     }
     Ok(())
 }

@@ -17,7 +17,7 @@ use desk_replies::{
     AnswerFault, Entry, Response, Status, TextKind, put_response, refused_look, sign_off_body,
 };
 use report_cache::ReportCache;
-use scan_model::NoMemory;
+use scan_model::{NoMemory, rules};
 use std::alloc::Global;
 use std::thread::Threads;
 use text_parts::TextFault;
@@ -44,7 +44,10 @@ pub(super) fn post_sign<R: Threads + Sync, D, S: SeatAt<R, D>, G: Gate>(
     match sign_body(alloc, body) {
         Ok(sign) => put_sign(rt, alloc, desk, seat, cache, gate, design, die, &sign),
         Err(BodyFault::NotASign) => {
-            let fault = TextFault { line: 1, rule: 91 };
+            let fault = TextFault {
+                line: 1,
+                rule: rules::NOT_A_SIGN,
+            };
             Ok(Response::unprocessable(TextKind::SignOff, fault))
         }
         Err(BodyFault::NoMemory) => Err(AnswerFault::NoMemory),

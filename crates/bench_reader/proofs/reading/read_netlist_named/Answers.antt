@@ -7,6 +7,7 @@ use Rattle.scan_model.specs.Lines.{text_lines}
 use Rattle.scan_model.specs.TextFaults.{refused_or}
 use Rattle.scan_model.specs.NetlistRules.{forms_of, early_fault}
 use Rattle.scan_model.specs.NetlistText.{circuit_of, netlist_reading}
+use Rattle.scan_model.specs.declared.rules.TheConstants.{WITHOUT_LEVEL}
 use Rattle.bench_reader.specs.declared.reading.CircuitDraft.{CircuitDraft}
 use Rattle.bench_reader.specs.CircuitDrafts.{IsDraft}
 use Rattle.bench_reader.proofs.SecondRound.{not_refused}
@@ -33,7 +34,7 @@ module _ (bytes : List ℕ) (d : CircuitDraft) (read : refused_or (early_fault (
     has_line : net < length d.net_lines.items
     has_line = omega (arith, least_in.in_range, length-nets_after (forms_of (text_lines bytes)), length-net_lines_from 1 (forms_of (text_lines bytes)), ap length draft.net_lines)
 
-    without_level : (line : ℕ) → line ≡ get_or d.net_lines.items net line → netlist_reading bytes ≡ Err (line, 8)
+    without_level : (line : ℕ) → line ≡ get_or d.net_lines.items net line → netlist_reading bytes ≡ Err (line, WITHOUT_LEVEL)
     without_level line is =
         reads_level_fault bytes early net line draft.differ least_in
         (is ∙ get_or_default d.net_lines.items net line 0 has_line ∙ ap (λ ls. get_or ls net 0) draft.net_lines)
@@ -64,4 +65,4 @@ returns-in-Err-NoLevel-clause-reading c =
 
 pub returns-in-Err-NoLevel-clause-first : goal.returns-in-Err-NoLevel-clause-first
 returns-in-Err-NoLevel-clause-first c =
-    reads_first c.args.bytes.now (Err (Text (record { line = c.index-line.result.now; rule = 8 }))) (returns-in-Err-NoLevel-clause-reading c)
+    reads_first c.args.bytes.now (Err (Text (record { line = c.index-line.result.now; rule = WITHOUT_LEVEL }))) (returns-in-Err-NoLevel-clause-reading c)
