@@ -16,7 +16,7 @@ use crate::answers::PutFault;
 use crate::recording::{record_design, record_log, record_sign};
 use crate::sign::Sign;
 use crate::state::{BookState, NumberedDesign};
-use desk_outside::Keeper;
+use desk_outside::{Deed, Keeper};
 use diagnosis::{CheckedView, Design, Put, ReadLog};
 use scan_model::{Digest, Name, NoMemory};
 use std::alloc::Global;
@@ -164,12 +164,26 @@ impl<K: Keeper> Book<K> {
         ensures { Changed (design_answer self.old.limit self.old.deeds (arc_value design.now).name (arc_value design.now).text)
             (design_deed by (arc_value design.now)) result self.old self.new }
     {
+        self.put_design_with(by, design, None)
+    }
+
+    /// Puts a design, as `put_design` does, by its deed: none is made where it was made before the book is at hand.
+    pub fn put_design_with(
+        &mut self,
+        by: u32,
+        design: &Arc<Design>,
+        deed: Option<Deed>,
+    ) -> Result<Put, PutFault>
+        requires { IfSome deed (λ made. made ≡ design_deed by (arc_value design.now)) }
+        ensures { Changed (design_answer self.old.limit self.old.deeds (arc_value design.now).name (arc_value design.now).text)
+            (design_deed by (arc_value design.now)) result self.old self.new }
+    {
         if let Some(found) = self.kept.design(design.name()) {
             return put_beside(&found, design.text());
         }
         self.has_room()?;
         let number = self.kept.designs() + 1;
-        record_design(&mut self.kept, &mut self.keeper, by, design)?;
+        record_design(&mut self.kept, &mut self.keeper, by, design, deed)?;
         Ok(Put::Created { number })
     }
 
@@ -177,6 +191,21 @@ impl<K: Keeper> Book<K> {
     /// revision that the text made.
     pub fn put_log(&mut self, by: u32, log: &Arc<ReadLog>) -> Result<Put, PutFault>
         requires { StandsIn self.old.deeds (arc_value log.now) }
+        ensures { Changed (log_answer self.old.limit self.old.deeds (arc_value log.now).design (arc_value log.now).die (arc_value log.now).text)
+            (log_deed by (arc_value log.now)) result self.old self.new }
+    {
+        self.put_log_with(by, log, None)
+    }
+
+    /// Puts a log, as `put_log` does, by its deed: none is made where it was made before the book is at hand.
+    pub fn put_log_with(
+        &mut self,
+        by: u32,
+        log: &Arc<ReadLog>,
+        deed: Option<Deed>,
+    ) -> Result<Put, PutFault>
+        requires stands { StandsIn self.old.deeds (arc_value log.now) }
+        requires deed { IfSome deed (λ made. made ≡ log_deed by (arc_value log.now)) }
         ensures { Changed (log_answer self.old.limit self.old.deeds (arc_value log.now).design (arc_value log.now).die (arc_value log.now).text)
             (log_deed by (arc_value log.now)) result self.old self.new }
     {
@@ -188,7 +217,7 @@ impl<K: Keeper> Book<K> {
             same => return Ok(same),
         };
         self.has_room()?;
-        record_log(&mut self.kept, &mut self.keeper, by, log)?;
+        record_log(&mut self.kept, &mut self.keeper, by, log, deed)?;
         Ok(Put::Created { number })
     }
 

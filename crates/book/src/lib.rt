@@ -20,3 +20,4 @@ pub use diagnosis::{
 };
 pub use opening::{StartFault, UnopenedBook};
 pub use sign::Sign;
+pub use state::{made_design_deed, made_log_deed};

@@ -194,7 +194,7 @@ fn add_design_row(
     let Some(design) = design_of_row(alloc, kept, name, text)? else {
         return Ok(false);
     };
-    let ready = kept.ready_design(by, &design)?;
+    let ready = kept.ready_design(by, &design, None)?;
     kept.add_design(ready);
     Ok(true)
 }
@@ -213,7 +213,7 @@ fn add_log_row(
     let Some(log) = log_of_row(alloc, kept, design, die, text)? else {
         return Ok(false);
     };
-    let ready = kept.ready_log(by, &log)?;
+    let ready = kept.ready_log(by, &log, None)?;
     kept.add_log(ready);
     Ok(true)
 }

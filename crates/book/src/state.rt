@@ -20,9 +20,11 @@ use self::deeds::Deeds;
 use self::designs::Designs;
 use self::die::Die;
 use self::dies::Dies;
-use self::making::{deed_of_design, deed_of_log, deed_of_sign};
+use self::making::{deed_of_sign, design_deed, log_deed};
+pub use self::making::{made_design_deed, made_log_deed};
 use self::ready::{ReadyDesign, ReadyLog, ReadySign};
 use crate::sign::Sign;
+use desk_outside::Deed;
 use diagnosis::{Design, ReadLog};
 use scan_model::NoMemory;
 use std::alloc::Global;
@@ -110,14 +112,20 @@ impl BookState {
         Ok(Some(kept))
     }
 
-    /// Takes all memory that a design and its deed need.
-    pub fn ready_design(&mut self, by: u32, design: &Arc<Design>) -> Result<ReadyDesign, NoMemory>
-        requires { fits self.old.deeds (design_deed by (arc_value design.now)).what ≡ true }
+    /// Takes all memory that a design and its deed need, which may be made already.
+    pub fn ready_design(
+        &mut self,
+        by: u32,
+        design: &Arc<Design>,
+        made: Option<Deed>,
+    ) -> Result<ReadyDesign, NoMemory>
+        requires fits { fits self.old.deeds (design_deed by (arc_value design.now)).what ≡ true }
+        requires made { IfSome made (λ deed. deed ≡ design_deed by (arc_value design.now)) }
         ensures deeds { self.new.deeds ≡ self.old.deeds }
         ensures deed { IfOk result (λ ready. ready.deed ≡ design_deed by (arc_value design.now)) }
         ensures ready { IfOk result (IsReadyDesign self.new) }
     {
-        let deed = deed_of_design(self.alloc, by, design)?;
+        let deed = design_deed(self.alloc, by, design, made)?;
         self.deeds.reserve()?;
         let design = self.designs.ready(design)?;
         Ok(ReadyDesign { deed, design })
@@ -132,15 +140,21 @@ impl BookState {
         self.designs.add(ready.design);
     }
 
-    /// Takes all memory that a log and its deed need.
-    pub fn ready_log(&mut self, by: u32, log: &Arc<ReadLog>) -> Result<ReadyLog, NoMemory>
+    /// Takes all memory that a log and its deed need, which may be made already.
+    pub fn ready_log(
+        &mut self,
+        by: u32,
+        log: &Arc<ReadLog>,
+        made: Option<Deed>,
+    ) -> Result<ReadyLog, NoMemory>
         requires fits { fits self.old.deeds (log_deed by (arc_value log.now)).what ≡ true }
         requires stands { StandsIn self.old.deeds (arc_value log.now) }
+        requires made { IfSome made (λ deed. deed ≡ log_deed by (arc_value log.now)) }
         ensures deeds { self.new.deeds ≡ self.old.deeds }
         ensures deed { IfOk result (λ ready. ready.deed ≡ log_deed by (arc_value log.now)) }
         ensures ready { IfOk result (IsReadyLog self.new) }
     {
-        let deed = deed_of_log(self.alloc, by, log)?;
+        let deed = log_deed(self.alloc, by, log, made)?;
         let kept = Arc::try_clone(log)?;
         self.deeds.reserve()?;
         let place = self.dies.find_or_make(log.design(), log.die())?;

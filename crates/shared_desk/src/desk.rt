@@ -15,9 +15,10 @@ use crate::seat::DeskSeat;
 use crate::steps::{give_book, take_book};
 use crate::turns::DeskTable;
 use atomic_table::Badge;
-use book::{CheckedView, Design, Put, PutFault, ReadLog};
+use book::{CheckedView, Design, Put, PutFault, ReadLog, made_design_deed, made_log_deed};
 use desk_outside::Keeper;
 use scan_model::{Digest, Name};
+use std::alloc::Global;
 use std::marker::Model;
 use std::mem;
 use std::sync::{Arc, Wait};
@@ -32,6 +33,7 @@ pub struct Marked<T> {
 /// A desk: a book under a turn, which its seats share. Contracts see which desk it is, and what its seats have in common.
 #[derive(Drop)]
 pub struct Desk<K: Keeper> {
+    pub(crate) alloc: Global,
     pub(crate) table: DeskTable<K>,
 }
 
@@ -55,7 +57,7 @@ fn is_one_more(answer: &Result<Put, PutFault>) -> bool
 }
 
 impl<K: Keeper> Desk<K> {
-    /// Puts a design, as the book does, in the seat's turn.
+    /// Puts a design, as the book does, in the seat's turn. Its deed is made before.
     pub fn put_design<R: Wait>(
         &self,
         rt: &R,
@@ -66,9 +68,10 @@ impl<K: Keeper> Desk<K> {
         ensures { Changes (λ deeds. design_answer self.now.limit deeds (arc_value design.now).name (arc_value design.now).text)
             (design_deed seat.old.number (arc_value design.now)) seat.old seat.new result.mark result.answer }
     {
+        let deed = made_design_deed(self.alloc, seat.number, design);
         let mut at = mem::replace(&mut seat.badge, Badge::blank()).into_seat();
         let mut book = take_book(rt, &self.table.shared, &mut at);
-        let answer = book.put_design(seat.number, design);
+        let answer = book.put_design(seat.number, design, deed);
         let mark = book.deeds();
         give_book(&self.table.shared, &mut at, book, is_one_more(&answer));
         seat.badge = at.into_badge();
@@ -76,7 +79,7 @@ impl<K: Keeper> Desk<K> {
         Marked { mark, answer }
     }
 
-    /// Puts a log, as the book does, in the seat's turn.
+    /// Puts a log, as the book does, in the seat's turn. Its deed is made before.
     pub fn put_log<R: Wait>(
         &self,
         rt: &R,
@@ -89,9 +92,10 @@ impl<K: Keeper> Desk<K> {
         ensures { Changes (λ deeds. log_answer self.now.limit deeds (arc_value log.now).design (arc_value log.now).die (arc_value log.now).text)
             (log_deed seat.old.number (arc_value log.now)) seat.old seat.new result.mark result.answer }
     {
+        let deed = made_log_deed(self.alloc, seat.number, log);
         let mut at = mem::replace(&mut seat.badge, Badge::blank()).into_seat();
         let mut book = take_book(rt, &self.table.shared, &mut at);
-        let answer = book.put_log(seat.number, log);
+        let answer = book.put_log(seat.number, log, deed);
         let mark = book.deeds();
         give_book(&self.table.shared, &mut at, book, is_one_more(&answer));
         seat.badge = at.into_badge();

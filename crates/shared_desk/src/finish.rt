@@ -53,7 +53,7 @@ impl<K: Keeper> Desk<K> {
         requires { AreAllSeats self seats }
         ensures { IsFinished self seats result }
     {
-        let Desk { table } = self;
+        let Desk { table, .. } = self;
         let mut others = seats.into_vec();
         let DeskSeat { badge, .. } = others.remove(0);
         let mut first = badge.into_seat();

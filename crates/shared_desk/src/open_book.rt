@@ -1,5 +1,5 @@
 //! The book of a desk, with the faults of its keeper.
-ghost use Rattle.std.specs.Prelude.{◌≡◌, ◌<◌, [], length, true, is_some, IfOk, OnOk, OnErr, vec_len, vec_capacity};
+ghost use Rattle.std.specs.Prelude.{◌≡◌, ◌<◌, [], length, true, is_some, IfOk, IfSome, OnOk, OnErr, vec_len, vec_capacity};
 ghost use Rattle.std.specs.Arc.{arc_value};
 ghost use Rattle.sha2.specs.Sha256.{sha256};
 ghost use Rattle.scan_model.specs.Words.{is_tag};
@@ -10,7 +10,7 @@ ghost use Rattle.book.specs.Kinds.{design_deed, log_deed, sign_deed, text_behind
 ghost use Rattle.shared_desk.specs.OpenBooks.{OpenBookFacts, AreCounted, faults_after};
 
 use book::{Book, CheckedView, Design, DieView, LookFault, Put, PutFault, ReadLog, Sign};
-use desk_outside::Keeper;
+use desk_outside::{Deed, Keeper};
 use scan_model::{Digest, Name};
 use std::alloc::Global;
 use std::marker::Model;
@@ -80,8 +80,14 @@ impl<K: Keeper> OpenBook<K> {
         book
     }
 
-    /// Puts a design, as the book does.
-    pub fn put_design(&mut self, by: u32, design: &Arc<Design>) -> Result<Put, PutFault>
+    /// Puts a design, as the book does, by its deed where one was made.
+    pub fn put_design(
+        &mut self,
+        by: u32,
+        design: &Arc<Design>,
+        deed: Option<Deed>,
+    ) -> Result<Put, PutFault>
+        requires { IfSome deed (λ made. made ≡ design_deed by (arc_value design.now)) }
         ensures changed { Changed (design_answer self.old.book.limit self.old.book.deeds (arc_value design.now).name (arc_value design.now).text)
             (design_deed by (arc_value design.now)) result self.old.book self.new.book }
         ensures faults { self.new.faults ≡ faults_after result self.old.faults by }
@@ -93,14 +99,20 @@ impl<K: Keeper> OpenBook<K> {
         if self.faults.reserve(1).is_err() {
             return Err(PutFault::NoMemory);
         }
-        let answer = self.book.put_design(by, design);
+        let answer = self.book.put_design_with(by, design, deed);
         note_fault(&mut self.faults, by, &answer);
         answer
     }
 
-    /// Puts a log, as the book does.
-    pub fn put_log(&mut self, by: u32, log: &Arc<ReadLog>) -> Result<Put, PutFault>
-        requires { StandsIn self.old.book.deeds (arc_value log.now) }
+    /// Puts a log, as the book does, by its deed where one was made.
+    pub fn put_log(
+        &mut self,
+        by: u32,
+        log: &Arc<ReadLog>,
+        deed: Option<Deed>,
+    ) -> Result<Put, PutFault>
+        requires stands { StandsIn self.old.book.deeds (arc_value log.now) }
+        requires deed { IfSome deed (λ made. made ≡ log_deed by (arc_value log.now)) }
         ensures changed { Changed (log_answer self.old.book.limit self.old.book.deeds (arc_value log.now).design (arc_value log.now).die (arc_value log.now).text)
             (log_deed by (arc_value log.now)) result self.old.book self.new.book }
         ensures faults { self.new.faults ≡ faults_after result self.old.faults by }
@@ -111,7 +123,7 @@ impl<K: Keeper> OpenBook<K> {
         if self.faults.reserve(1).is_err() {
             return Err(PutFault::NoMemory);
         }
-        let answer = self.book.put_log(by, log);
+        let answer = self.book.put_log_with(by, log, deed);
         note_fault(&mut self.faults, by, &answer);
         answer
     }

@@ -58,7 +58,7 @@ fn lay_table<K: Keeper>(
         return Err(refused.value);
     }
     match Table::new(alloc, &[deeds, 0, 0], slots, &about) {
-        Ok((table, seat)) => Ok((Desk { table }, seat)),
+        Ok((table, seat)) => Ok((Desk { alloc, table }, seat)),
         Err(refused) => {
             let mut slots = refused.slots;
             match slots.pop() {

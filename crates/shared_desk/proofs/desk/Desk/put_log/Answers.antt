@@ -5,8 +5,8 @@ use Rattle.book.specs.Kinds.{log_deed}
 use Rattle.shared_desk.proofs.Calling.{changes_seat, sits_changed, stands_at_turn}
 use Rattle.shared_desk.proofs.desk.Desk.put_log.Goals as goal
 
-pub put_log-answer-requires : goal.put_log-answer-requires
-put_log-answer-requires g c =
+pub put_log-answer-requires-clause-stands : goal.put_log-answer-requires-clause-stands
+put_log-answer-requires-clause-stands g c =
     let one = ap (λ b. b.views) (sym c.replace.ensures.value) ∙ c.into_seat-at.ensures.2 in
     stands_at_turn _ c.seat.inside.badge.table_id _ _ _ c.take_book-book.result (arc_value c.args.log.now) (sym c.seat.view_is) one c.take_book-book.ensures.took c.requires.design c.requires.stands
 
