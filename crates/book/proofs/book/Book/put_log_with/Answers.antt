@@ -1,7 +1,7 @@
 use Rattle.std.proofs.Common.{◌≡◌, ◌<◌, ℕ, List, true, not, Some, length, refl, sym, ap, ◌∙◌, subst, rules}
 use Rattle.std.specs.Arc.{arc_value}
 use Rattle.book.specs.Deeds.{design_text}
-use Rattle.book.specs.Legal.{fits}
+use Rattle.book.specs.LegalDeeds.{fits}
 use Rattle.book.specs.Changes.{BookFacts}
 use Rattle.book.specs.Kinds.{log_deed}
 use Rattle.book.proofs.Changing.{book_after}
