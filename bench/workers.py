@@ -1,11 +1,17 @@
 #!/usr/bin/env python3
-"""Loads the served desk over loopback with 1, 2, 4 and 8 workers, and tells requests a second and the greatest wait.
+"""Loads the served desk over loopback, and tells requests a second and the longest wait.
 
-    python3 bench/workers.py [SECONDS]        (from the top; ./scandesk must have been built)
+    python3 bench/workers.py [SECONDS]                  (from the top; ./scandesk must have been built)
+    python3 bench/workers.py --large [SECONDS] [OTHER..]
 
-Twice as many clients as workers, each a process of its own, upload logs of 100 dies of the design of examples/day and ask for pages of their
-reports, three pages to a log, over connections of 50 requests.
+With 1, 2, 4 and 8 workers, twice as many clients as workers, each a process of its own, upload logs of 100 dies of the design
+of examples/day and ask for pages of their reports, three pages to a log, over connections of 50 requests.
+
+With --large there are 8 workers: 15 clients upload logs of 1 MiB, each another one, and one asks for the signs of a die, which takes
+nothing but its turn. OTHER are programs of other states; these and the one of this state take turns, three times each, and for each the
+most logs a second, and the median and the longest of the waits for signs of that turn, are told.
 """
+import argparse
 import multiprocessing
 import os
 import subprocess
@@ -17,6 +23,7 @@ sys.path.insert(0, os.path.dirname(os.path.abspath(__file__)))
 from pages import PROGRAM, TOP, ask, connect, free_port
 
 DAY = os.path.join(TOP, 'examples', 'day')
+LARGE = 1 << 20
 
 
 def packed():
@@ -47,6 +54,73 @@ def client(number, port, until, found):
     found.put((requests, longest))
 
 
+def large_log(number, turn):
+    """A log of 1 MiB of a client's own die; its comment tells it from the others."""
+    head = 'FAILLOG 1\ndie large%d\ndesign block\n# %d\ntested 0 511\n' % (number, turn)
+    fails = ''.join('fail %d cell c0 %d\n' % (k % 512, k % 5) for k in range(LARGE // 16))
+    return (head + fails)[:LARGE - 4].rpartition('\n')[0].encode() + b'\nend\n'
+
+
+def uploader(number, port, until, found):
+    """Uploads large logs until the time, and tells how many were taken."""
+    taken = 0
+    with connect(port) as s:
+        while time.monotonic() < until:
+            status, body = ask(s, 'POST', '/designs/block/dies/large%d/logs' % number, large_log(number, taken))
+            if status not in (200, 201):
+                sys.exit('a large log: %d %r' % (status, body))
+            taken += 1
+    found.put((taken, []))
+
+
+def asker(port, until, found):
+    """Asks for the signs of a die until the time, and tells each wait."""
+    waits = []
+    with connect(port) as s:
+        while time.monotonic() < until:
+            begin = time.monotonic()
+            ask(s, 'GET', '/designs/block/dies/large0/signs')
+            waits.append(time.monotonic() - begin)
+            time.sleep(0.002)
+    found.put((0, waits))
+
+
+def load_large(program, seconds, folder, bundle):
+    """Logs a second, and the waits for signs, of eight workers."""
+    port = free_port()
+    store = os.path.join(folder, 'large.db')
+    desk = subprocess.Popen([program, 'serve', str(port), '8', '1000000', store], stdout=subprocess.DEVNULL)
+    try:
+        with connect(port) as s:
+            if ask(s, 'PUT', '/designs/block', bundle)[0] != 201:
+                sys.exit('the design was refused')
+        found = multiprocessing.Queue()
+        until = time.monotonic() + seconds
+        clients = [multiprocessing.Process(target=uploader, args=(i, port, until, found)) for i in range(15)]
+        clients.append(multiprocessing.Process(target=asker, args=(port, until, found)))
+        for it in clients:
+            it.start()
+        told = [found.get() for _ in clients]
+        for it in clients:
+            it.join()
+    finally:
+        desk.kill()
+        desk.wait()
+        os.unlink(store)
+    waits = sorted(wait for _, some in told for wait in some)
+    return sum(taken for taken, _ in told) / seconds, waits[len(waits) // 2], waits[-1]
+
+
+def tell_large(seconds, programs, bundle):
+    best = {}
+    with tempfile.TemporaryDirectory() as folder:
+        for _ in range(3):
+            for program in programs:
+                best[program] = max(best.get(program, (0, 0, 0)), load_large(program, seconds, folder, bundle))
+    for program, (logs, median, longest) in best.items():
+        print('%s: %6.1f logs of 1 MiB a second, signs in %.1f ms, the longest wait %.0f ms' % (program, logs, 1e3 * median, 1e3 * longest))
+
+
 def load(workers, seconds, folder, bundle):
     port = free_port()
     store = os.path.join(folder, 'desk%d.db' % workers)
@@ -70,8 +144,16 @@ def load(workers, seconds, folder, bundle):
 
 
 def main():
-    seconds = float(sys.argv[1]) if len(sys.argv) > 1 else 5
+    words = argparse.ArgumentParser()
+    words.add_argument('--large', action='store_true')
+    words.add_argument('seconds', nargs='?', type=float, default=5)
+    words.add_argument('others', nargs='*', metavar='OTHER')
+    asked = words.parse_args()
+    seconds = asked.seconds
     bundle = packed()
+    if asked.large:
+        tell_large(seconds, [PROGRAM, *asked.others], bundle)
+        return
     with tempfile.TemporaryDirectory() as folder:
         for workers in [1, 2, 4, 8]:
             load(workers, seconds, folder, bundle)
