@@ -62,31 +62,6 @@ added answer number deed old new book is deeds limit rows faults = record {
   faults = faults;
 }
 
--- an entry would have been created, and the keeper had no answer
-pub not_added : (answer : Result Put PutFault) (number : ℕ) (fault : KeepFault) (deed : Deed) (old new : BookFacts) → IsBook old → answer ≡ Ok (Created number)
-    → new.deeds ≡ old.deeds → new.limit ≡ old.limit → new.rows ≡ option_map (λ rows. rows) old.rows → old.faults ≤ new.faults
-    → (fault ≡ keep_fault.Failed → Rose old.faults new.faults)
-    → Changed answer deed (Err (put_fault_of fault)) old new
-not_added answer number fault deed old new book is deeds limit rows faults rose = record {
-  answered = by_fault fault rose;
-  deeds = deeds ∙ after_fault fault;
-  limit = limit;
-  rows = rw (deeds) (rows ∙ as_they_were old.rows book.rows);
-  faults = faults;
-}
-  where
-    by_fault : (f : KeepFault) → (f ≡ keep_fault.Failed → Rose old.faults new.faults) → Answered answer (Rose old.faults new.faults) (Err (put_fault_of f))
-    by_fault keep_fault.Failed rose = rw (is) (tt, rose refl)
-    by_fault keep_fault.NoMemory rose = tt
-
-    after_fault : (f : KeepFault) → old.deeds ≡ after (Err (put_fault_of f)) old.deeds deed
-    after_fault keep_fault.Failed = refl
-    after_fault keep_fault.NoMemory = refl
-
-    as_they_were : (known : Option (List Deed)) → known ≡ option_map (λ rows. old.deeds) known → option_map (λ rows. rows) known ≡ option_map (λ rows. old.deeds) known
-    as_they_were None same = refl
-    as_they_were (Some kept) same = same
-
 -- a sign-off with another digest
 pub digest_differs : (limit : ℕ) (deeds : List Deed) (design die : List ℕ) (revision : ℕ) (right given signer digest : List ℕ) → given ≡ right → bytes_eq digest given ≡ false
     → sign_answer limit deeds design die revision right signer digest ≡ Err (DigestDiffers given)

@@ -20,9 +20,6 @@ use Rattle.book.specs.Kinds.{design_deed, log_deed}
 use Rattle.book.specs.ChangeParts.{put_where}
 use Rattle.book.proofs.LegalLists.{test_known}
 
-pub design_fits : (deeds : List Deed) (by : ℕ) (d : DesignFacts) → IsDesign d → design_text deeds d.name ≡ None → fits deeds (design_deed by d).what ≡ true
-design_fits deeds by d design none = grind (arith, common_steps, design.name, design.stands, none)
-
 -- the log stands over the test that is known
 stands_over : (known : Option ScanTest) (t : ScanTest) (log : ReadLogFacts) → known ≡ Some t → StandsOver t log → is_log_over known log.design log.die log.text ≡ true
 stands_over (Some u) t log is over = grind (arith, common_steps, is, over)

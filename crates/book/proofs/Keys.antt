@@ -39,8 +39,5 @@ key_parts d e x y td te same = same_parts d e x y (tag_bytes d td) (tag_bytes e 
 pub is_die_names : (d x : List ℕ) (k : DieFacts) → is_die d x k ≡ true → (k.design ≡ d) × (k.die ≡ x)
 is_die_names d x k e = ((bytes_decides k.design d).0 (and_left (bytes_eq k.design d) (bytes_eq k.die x) e), (bytes_decides k.die x).0 (and_right (bytes_eq k.design d) (bytes_eq k.die x) e))
 
-equal_bytes : (d : List ℕ) → bytes_eq d d ≡ true
-equal_bytes d = (bytes_decides d d).1 refl
-
 pub is_die_itself : (d x : List ℕ) (k : DieFacts) → k.design ≡ d → k.die ≡ x → is_die d x k ≡ true
 is_die_itself d x k e f = both (bytes_eq k.design d) (bytes_eq k.die x) ((bytes_decides k.design d).1 e) ((bytes_decides k.die x).1 f)

@@ -26,14 +26,6 @@ use Rattle.book.proofs.Sound.{IsRight, sound}
 
 -- ---- answers in general
 
--- a fault of the first step is that of the whole
-pub fault_passes : {X Y Z W : Type 0} (shown : X → Y) (also : Z → W) (answer : Result Y LookFault) (next : Y → Result W LookFault) (fault : LookFault) → Looked shown answer (Err fault) → Looked also (and_look answer next) (Err fault)
-fault_passes shown also answer next look_fault.UnknownDesign is = ap (λ r. and_look r next) is
-fault_passes shown also answer next look_fault.UnknownDie is = ap (λ r. and_look r next) is
-fault_passes shown also answer next (look_fault.UnknownRevision have) is = ap (λ r. and_look r next) is
-fault_passes shown also answer next (look_fault.UnknownSign have) is = ap (λ r. and_look r next) is
-fault_passes shown also answer next look_fault.NoMemory is = tt
-
 -- a fault that is the answer
 pub fault_is : {X Y : Type 0} (shown : X → Y) (answer : Result Y LookFault) (fault : LookFault) → answer ≡ Err fault → Looked shown answer (Err fault)
 fault_is shown answer look_fault.UnknownDesign is = is

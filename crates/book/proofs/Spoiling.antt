@@ -86,12 +86,6 @@ kept_all rows kept i are is = are ∙ all rows i is
     all (r ∷ rows) zero is = absurd cc
     all (r ∷ rows) (suc i) is = ap (λ (xs : List Deed). r ∷ xs) (all rows i is)
 
-pub none_spoiled_row : (limit : ℕ) (rows : List Deed) → is_legal limit rows ≡ true → spoiled_row limit rows ≡ None
-none_spoiled_row limit rows legal =
-    let parts = both _ (each_fits [] rows) legal in
-    let few = parts.0 in
-    none_spoiled limit [] rows parts.1 (grind (arith, few))
-
 pub opened_legal : (limit : ℕ) (rows kept : List Deed) → each_fits [] kept ≡ true → length kept ≤ limit → kept ≡ rows → spoiled_row limit rows ≡ None
 opened_legal limit rows kept fit few are = subst (λ (rs : List Deed). spoiled_row limit rs ≡ None) are (none_spoiled limit [] kept fit (omega arith))
 

@@ -54,11 +54,6 @@ mine_grows base number old new le (more, is) =
 gained_so : (base number : ℕ) (old new own : List Deed) → base ≤ length old → Begins old new → mine_of base number new ≡ mine_of base number old ++ own → gained number old new ≡ own
 gained_so base number old new own le p is = append_cancel_left (mine_of base number old) (gained number old new) own (sym (mine_grows base number old new le p) ∙ is)
 
--- a seat's own deeds are those that it had and those that it gained by what it saw
-pub mine_of_seat : (old new : DeskSeatFacts) → SawMore old new → old.desk.base ≤ length old.seen → mine new ≡ mine old ++ gained old.number old.seen new.seen
-mine_of_seat old new more le =
-    ap (λ (d : DeskFacts). mine_of d.base new.number new.seen) more.desk ∙ ap (λ (n : ℕ). mine_of old.desk.base n new.seen) more.number ∙ mine_grows old.desk.base old.number old.seen new.seen le more.seen
-
 counts : (number : ℕ) (faults : List ℕ) → failed_of number faults ≡ of_number number faults
 counts number faults = length-filter (λ k. k == number) faults
 

@@ -14,15 +14,6 @@ use Rattle.desk_http.specs.ServedConnections.{DidSome, is_unserved, IsServed, Ar
 
 -- ---- a door
 
--- a connection is out
-pub one_is_out : (old new : Option DoorTold) → ((t : DoorTold) → old ≡ Some t → (left : List ℕ) × (new ≡ Some (handed t left))) → (old ≡ None → new ≡ None) → (t : DoorTold) → new ≡ Some t → 0 < t.out
-one_is_out None new hands silent t told = let none : new ≡ None = silent refl in absurd (cc)
-one_is_out (Some s) new hands silent t told =
-    let h = hands s refl in
-    let same : Some (handed s h.0) ≡ Some t = sym h.1 ∙ told in
-    let out : (handed s h.0).out ≡ t.out = cc in
-    omega (arith, out)
-
 pub rose_above : (old new : ℕ) → old ≡ 0 → Rose old new → not (new == 0) ≡ true
 rose_above old new none rose = let e : (new == 0) ≡ false = ne_eqb _ _ (λ zero. omega (arith, none, rose, zero)) in rw e refl
 

@@ -18,37 +18,6 @@ drew old new ticket idle is =
 pub same_first : (x y : ℕ × Slot) (xs ys : List (ℕ × Slot)) → x ∷ xs ≡ y ∷ ys → x ≡ y
 same_first x y xs ys e = cc
 
-pub took_it : (old turn new : Me Slot SeatView) (ticket : ℕ) (x : Slot) (b : OpenBookFacts) → IsIdle old → TakesTurn (at_turn old.0 true ticket false, []) turn → turn.1 ≡ (0, x) ∷ rest turn.1
-    → new ≡ (turn.0, (0, None) ∷ rest turn.1) → x ≡ Some b → HasTurn new × Took old.0 new.0 b
-took_it old turn new ticket x b idle takes hand is some =
-    let v : new.0 ≡ turn.0 = ap (λ (m : Me Slot SeatView). m.0) is in
-    let one : turn.1 ≡ (0, Some takes.value) ∷ [] = takes.hand in
-    let value : x ≡ Some takes.value = ap (λ (p : ℕ × Slot). p.1) (same_first (0, x) (0, Some takes.value) (rest turn.1) [] (sym hand ∙ one)) in
-    let is_b : takes.value ≡ b = (let e : Some takes.value ≡ Some b = sym value ∙ some in cc) in
-    let of_view : (P : SeatView → Type 0) → P turn.0 → P new.0 = λ P p. subst P (sym v) p in
-    let w = takes.view in (
-      record {
-        own = of_view KnowsOwn (subst KnowsOwn (sym w) record { mine = refl; failed = refl });
-        spent = of_view (λ u. u.spent ≡ false) (ap (λ (u : SeatView). u.spent) w ∙ idle.view.spent);
-        waits = of_view (λ u. u.waits ≡ true) (ap (λ (u : SeatView). u.waits) w);
-        holds = of_view (λ u. u.holds ≡ true) (ap (λ (u : SeatView). u.holds) w);
-        hand = ap (λ (m : Me Slot SeatView). m.1) is ∙ ap (λ xs. (0, None) ∷ xs) (ap rest one);
-      },
-      of_view (λ u. Took old.0 u b) record {
-        about = ap (λ (u : SeatView). u.about) w;
-        number = ap (λ (u : SeatView). u.number) w;
-        given = ap (λ (u : SeatView). u.given) w;
-        joined = ap (λ (u : SeatView). u.joined) w;
-        seen = takes.seen;
-        mine = takes.mine;
-        faults = takes.faults;
-        failed = takes.failed;
-        legal = takes.legal;
-        base = takes.base;
-        lists = subst (λ c. HasLists old.0.about turn.0.seen turn.0.faults c) is_b takes.lists;
-      },
-    )
-
 -- the book lies in the seat's place again
 pub put_back : (old new : Me Slot SeatView) (b : OpenBookFacts) → HasTurn old → new ≡ (old.0, (0, Some b) ∷ rest old.1) → HoldsBook new b
 put_back old new b turn is =

@@ -19,9 +19,6 @@ use Rattle.shared_desk.proofs.Longest.{prefix_on}
 
 -- ---- the faults of all seats
 
-count_from : ℕ → List ℕ → ℕ
-count_from k faults = length (filter (λ x. nat_le k x) faults)
-
 one_number : (k : ℕ) (faults : List ℕ) → failed_of k faults + length (filter (λ x. nat_le (k + 1) x) faults) ≤ length (filter (λ x. nat_le k x) faults)
 one_number k [] = omega arith
 one_number k (x ∷ xs) = let ih = one_number k xs in grind (arith, common_steps, ih)

@@ -32,7 +32,3 @@ stands_after deeds later log text p there stands = subst (λ (ds : List Deed). S
 
 pub view_after : (deeds later : List Deed) (v : ViewFacts) → IsPrefix deeds later → IsViewIn deeds v → IsViewIn later v
 view_after deeds later v p view = subst (λ (ds : List Deed). IsViewIn ds v) p.1 (view_longer deeds p.0 v view)
-
--- the design of a log is still there
-pub design_after : (deeds later : List Deed) (name text : List ℕ) → IsPrefix deeds later → design_text deeds name ≡ Some text → design_text later name ≡ Some text
-design_after deeds later name text p there = subst (λ (ds : List Deed). design_text ds name ≡ Some text) p.1 (text_stays deeds p.0 name text there)
