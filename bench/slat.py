@@ -1,7 +1,7 @@
 #!/usr/bin/env python3
 """Times GET slat and GET slat/P of three logs of `demo 7 200` over loopback, beside the whole command `slat` of another program.
 
-    python3 bench/slat.py OTHER            (from the top; ./scandesk must have been built; OTHER writes files and has a command slat)
+    python3 bench/slat.py OTHER [TRIES]    (from the top; ./scandesk must have been built; OTHER writes files and has a command slat)
 
 Each log is posted to a new die for each try, so that its first answer finds nothing kept; the design is there. What is answered
 is compared with what the other program writes, byte by byte, which has no pruning here (PEER_ALL=1). The two programs take turns.
@@ -16,7 +16,6 @@ import time
 
 from pages import PROGRAM, ask, connect, free_port
 
-TRIES = 9
 HEAP = os.environ.get('GLIBC_TUNABLES', 'glibc.malloc.hugetlb=1')
 TEXTS = ('netlist.bench', 'scan.txt', 'patterns.txt', 'neighbours.csv')
 LOGS = ('demo.log', 'each.log', 'many.log')
@@ -67,27 +66,29 @@ def of_the_desk(s, log, number):
 
 def main():
     other = os.path.realpath(sys.argv[1])
+    tries = int(sys.argv[2]) if len(sys.argv) > 2 else 9
     with tempfile.TemporaryDirectory() as folder:
         subprocess.run([other, 'files', '7', '200', folder], check=True, stdout=subprocess.DEVNULL)
         port = free_port()
         desk = subprocess.Popen([PROGRAM, 'serve', str(port), '1', '1000', os.path.join(folder, 'desk.db')],
                                 env=dict(os.environ, GLIBC_TUNABLES=HEAP), stdout=subprocess.DEVNULL)
         try:
-            s = connect(port)
-            status, text = ask(s, 'PUT', '/designs/demo', bundle(folder))
+            with connect(port) as s:
+                status, text = ask(s, 'PUT', '/designs/demo', bundle(folder))
             if status != 201:
                 sys.exit('%d %r' % (status, text))
-            print('%-10s %10s %10s %10s %10s %10s   (ms, medians of %d)' % ('log', 'other 1', 'other all', 'first', 'second', 'pattern', TRIES))
+            print('%-10s %10s %10s %10s %10s %10s   (ms, medians of %d)' % ('log', 'other 1', 'other all', 'first', 'second', 'pattern', tries))
             number = 0
             for name in LOGS:
                 with open(os.path.join(folder, name), 'rb') as text:
                     log = text.read()
                 rows = []
-                for _ in range(TRIES):
+                for _ in range(tries):
                     number += 1
                     due, one = of_the_other(other, folder, name, 1)
                     _, every = of_the_other(other, folder, name, 0)
-                    told, *seconds = of_the_desk(s, log, number)
+                    with connect(port) as s:
+                        told, *seconds = of_the_desk(s, log, number)
                     if told != due:
                         sys.exit('%s: other bytes' % name)
                     rows.append([one, every, *seconds])
