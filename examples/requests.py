@@ -47,7 +47,7 @@ def examples(folder):
     """What is sent, and the status and the body of the reply that is due."""
     for method, target, body, status, reply in rows_below('### Examples', r'\| (GET|PUT|POST) '):
         yield request(method, target, body_of(folder, body)), status, reply
-    for rule, _, example, line in rows_below('## Bundle (`diagnosis`: `Bundle`)', r'\| \d+ \|'):
+    for rule, _, example, line in rows_below('## Bundle (`design_bundle`: `Bundle`)', r'\| \d+ \|'):
         text = example.encode().decode('unicode_escape').encode('latin-1')
         yield request('PUT', '/designs/refused', text), '422', f'section bundle line {line} rule {rule}'
     yield request('PUT', '/designs/large', None, ['Content-Length: 16777217']), '413', 'too large'

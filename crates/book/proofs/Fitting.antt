@@ -13,11 +13,11 @@ use Rattle.sha2.specs.Sha256.{sha256}
 use Rattle.desk_outside.specs.declared.deed.DeedKind.TheVariants.{Sign}
 use Rattle.scan_model.specs.DieReport.{die_report}
 use Rattle.diagnosis.specs.Designs.{DesignFacts, ReadLogFacts, ViewFacts, IsDesign, StandsOver, texts_of, view_report}
-use Rattle.book.specs.Deeds.{design_text, design_test, test_of_text, test_of_reading, die_logs, die_signs, is_signed_by, report_over, report_at}
+use Rattle.book.specs.Deeds.{design_text, design_test, test_of_text, test_of_reading, die_logs, die_signs, report_over, report_at}
 use Rattle.book.specs.LegalDeeds.{fits, each_fits, is_log_over}
 use Rattle.book.specs.Changes.{StandsIn, IsViewIn}
 use Rattle.book.specs.Kinds.{design_deed, log_deed}
-use Rattle.book.specs.ChangeParts.{put_where}
+use Rattle.die_entries.specs.Entries.{is_signed_by, put_where}
 use Rattle.book.proofs.LegalLists.{test_known}
 
 -- the log stands over the test that is known

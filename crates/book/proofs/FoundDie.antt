@@ -7,13 +7,13 @@ use Rattle.std.specs.declared.sync.Arc.{Arc}
 use Rattle.std.proofs.lemmas.List.Folds.{find_at}
 use Rattle.std.proofs.lemmas.Option.{slice_get_past, slice_get-get_or}
 use Rattle.desk_outside.specs.declared.deed.Deed.{Deed}
-use Rattle.book.specs.declared.sign.Sign.{Sign as SignOff}
+use Rattle.die_entries.specs.declared.sign.Sign.{Sign as SignOff}
 use Rattle.diagnosis.specs.Designs.{ReadLogFacts, texts_of}
 use Rattle.book.specs.Deeds.{die_logs, die_signs}
 use Rattle.book.specs.Lookups.{IsDieIn}
 use Rattle.book.specs.Dies.{DieFacts, bare_die, is_die, kept_logs, kept_signs, logs_in, signs_in}
 use Rattle.book.specs.State.{AreOfDie}
-use Rattle.book.specs.Kinds.{arc_values}
+use Rattle.die_entries.specs.Entries.{arc_values}
 use Rattle.book.proofs.NumberedDesign.{position_at, position_past}
 use Rattle.book.proofs.Written.{found_before}
 

@@ -8,7 +8,7 @@ use Rattle.std.specs.Cmp.Lexicographic.{bytes_decides}
 use Rattle.std.proofs.lemmas.List.{map_push}
 use Rattle.desk_outside.specs.declared.deed.Deed.{Deed}
 use Rattle.scan_model.specs.Words.{is_tag}
-use Rattle.book.specs.declared.sign.Sign.{Sign as SignOff}
+use Rattle.die_entries.specs.declared.sign.Sign.{Sign as SignOff}
 use Rattle.diagnosis.specs.Bundle.{bundle_reading}
 use Rattle.diagnosis.specs.Designs.{DesignFacts, ReadLogFacts}
 use Rattle.book.specs.Deeds.{design_text}

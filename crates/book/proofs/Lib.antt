@@ -14,7 +14,6 @@ pub mod Keeping
 pub mod Readying
 pub mod OneMore
 pub mod Changing
-pub mod FirstThat
 pub mod Longer
 pub mod LegalLists
 pub mod Fitting

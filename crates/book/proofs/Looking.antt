@@ -13,12 +13,12 @@ use Rattle.sha2.specs.Sha256.{sha256}
 use Rattle.desk_outside.specs.declared.deed.Deed.{Deed}
 use Rattle.book.specs.declared.answers.LookFault.{LookFault}
 use Rattle.book.specs.declared.answers.LookFault.TheVariants as look_fault
-use Rattle.book.specs.declared.sign.Sign.{Sign as SignOff}
+use Rattle.die_entries.specs.declared.sign.Sign.{Sign as SignOff}
 use Rattle.diagnosis.specs.Designs.{DesignFacts, ReadLogFacts, texts_of}
 use Rattle.book.specs.Deeds.{design_text, die_logs, die_signs, report_at}
 use Rattle.book.specs.Answers.{known_design, design_look, and_look, up_to, known_die, die_look, sign_numbered, sign_look}
 use Rattle.book.specs.Changes.{Looked, IsViewIn}
-use Rattle.book.specs.Kinds.{arc_values}
+use Rattle.die_entries.specs.Entries.{arc_values}
 use Rattle.book.specs.LegalDeeds.{each_fits}
 use Rattle.book.specs.Lookups.{IsDieIn}
 use Rattle.book.proofs.Longer.{text_stays, logs-append, signs-append, report_stays}

@@ -11,7 +11,7 @@ use Rattle.std.specs.declared.sync.Arc.{Arc}
 use Rattle.std.proofs.lemmas.List.{map_push}
 use Rattle.std.proofs.lemmas.Option.{slice_get-map, slice_get_past}
 use Rattle.diagnosis.specs.Designs.{DesignFacts}
-use Rattle.book.specs.Kinds.{arc_values}
+use Rattle.die_entries.specs.Entries.{arc_values}
 use Rattle.book.specs.Places.{place_of, AreNoted}
 use Rattle.book.proofs.FirstPlace.{believed, believed_is_first, none_there}
 

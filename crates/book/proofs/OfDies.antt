@@ -11,9 +11,10 @@ use Rattle.sha2.specs.Sha256.{sha256}
 use Rattle.desk_outside.specs.declared.deed.Deed.{Deed}
 use Rattle.scan_model.specs.ScanTest.{ScanTest}
 use Rattle.scan_model.specs.Words.{is_tag, has_word}
-use Rattle.book.specs.declared.sign.Sign.{Sign as SignOff}
+use Rattle.die_entries.specs.declared.sign.Sign.{Sign as SignOff}
 use Rattle.diagnosis.specs.Designs.{DesignFacts, ReadLogFacts, texts_of}
-use Rattle.book.specs.Deeds.{design_text, design_test, test_of_text, die_logs, die_signs, report_at, is_signed_by}
+use Rattle.die_entries.specs.Entries.{is_signed_by}
+use Rattle.book.specs.Deeds.{design_text, design_test, test_of_text, die_logs, die_signs, report_at}
 use Rattle.book.specs.LegalDeeds.{fits, is_log_over}
 use Rattle.book.specs.Kinds.{named, design_deed, log_deed, sign_deed}
 use Rattle.book.specs.Lookups.{IsLogIn}

@@ -5,7 +5,7 @@ use Rattle.std.specs.List.{position}
 use Rattle.std.specs.Str.{bytes_eq}
 use Rattle.std.specs.Arc.{arc_value}
 use Rattle.desk_outside.specs.declared.deed.Deed.{Deed}
-use Rattle.book.specs.declared.sign.Sign.{Sign as SignOff}
+use Rattle.die_entries.specs.declared.sign.Sign.{Sign as SignOff}
 use Rattle.book.specs.declared.state.ready.ReadyDesign.{ReadyDesign}
 use Rattle.book.specs.declared.state.ready.ReadyLog.{ReadyLog}
 use Rattle.book.specs.declared.state.ready.ReadySign.{ReadySign}

@@ -1,21 +1,20 @@
 -- A row that signs a report.
-use Rattle.std.proofs.Common.{◌≡◌, ℕ, zero, suc, ◌<◌, ◌≤◌, true, false, ◌&&◌, nat_le, List, [], ◌∷◌, length, take, All, Some, None, refl, sym, ap, ◌∙◌, subst, arith}
-use Rattle.std.specs.Arc.{arc_value}
-use Rattle.std.specs.declared.alloc.Global.{Global}
-use Rattle.std.specs.declared.sync.Arc.{Arc}
-use Rattle.std.proofs.lemmas.List.{length-map, length-take-le}
+use Rattle.std.proofs.Common.{◌≡◌, ℕ, ◌<◌, true, false, ◌&&◌, nat_le, List, [], ◌∷◌, length, take, All, Option, Some, None, refl, sym, ap, ◌∙◌, subst, arith}
+use Rattle.std.specs.List.{IsDistinct, take-map}
+use Rattle.std.specs.Str.{bytes_eq}
+use Rattle.std.proofs.lemmas.List.{length-map}
 use Rattle.std.proofs.lemmas.List.Elements.{All-weaker}
 use Rattle.sha2.specs.Sha256.{sha256}
 use Rattle.desk_outside.specs.declared.deed.Deed.{Deed}
-use Rattle.book.specs.declared.sign.Sign.{Sign as SignOff}
-use Rattle.diagnosis.specs.Designs.{DesignFacts, ReadLogFacts, ViewFacts, view_report}
-use Rattle.book.specs.Deeds.{design_text, die_logs, die_signs, report_at}
+use Rattle.scan_model.specs.ScanTest.{ScanTest}
+use Rattle.scan_model.specs.DieReport.{die_report}
+use Rattle.diagnosis.specs.Designs.{DesignFacts, ReadLogFacts, IsDesign, IsLogOf}
+use Rattle.die_entries.specs.declared.sign.Sign.{Sign as SignOff}
+use Rattle.die_entries.specs.Revisions.{IsShowable, SignsReport, revision_report}
+use Rattle.book.specs.Deeds.{design_text, design_test, test_of_text, test_of_reading, die_logs, die_signs, report_over, report_at}
 use Rattle.book.specs.LegalDeeds.{each_fits}
-use Rattle.book.specs.Lookups.{IsDieIn}
-use Rattle.book.specs.Kinds.{arc_values}
-use Rattle.book.proofs.Fitting.{report_in}
-use Rattle.book.proofs.Looking.{view_in}
-use Rattle.book.proofs.Showing.{IsShown}
+use Rattle.book.specs.Lookups.{IsFound, IsLogIn, IsDieIn}
+use Rattle.book.proofs.Showing.{die_as_named, die_tagged, log_of_design}
 use Rattle.book.proofs.Sound.{IsRight, sound}
 
 -- no die without its design
@@ -35,33 +34,44 @@ none_within deeds d x revision legal none = go (die_logs deeds d x) refl
         let named = (sound d x deeds legal).logs.named (omega (arith, count)) in
         no_name named.0 named.1
 
--- the digest of a sign-off that is there
-pub known_right : (deeds : List Deed) (name asked x : List ℕ) (logs : List ReadLogFacts) (signs slice : List SignOff) (digest : List ℕ) (revision : ℕ) → each_fits [] deeds ≡ true → name ≡ asked → IsDieIn deeds name x logs signs → slice ≡ signs
-    → ((report : ℕ → List ℕ) → All (λ sign. sign.digest ≡ sha256 (report sign.revision)) slice → digest ≡ sha256 (report revision)) → digest ≡ sha256 (report_at deeds asked x revision)
-known_right deeds name asked x logs signs slice digest revision legal is found same holds =
-    let right : All (λ (sign : SignOff). sign.digest ≡ sha256 (report_at deeds name x sign.revision)) (die_signs deeds name x) =
-    All-weaker (IsRight deeds name x) (λ sign. sign.digest ≡ sha256 (report_at deeds name x sign.revision)) (λ sign r. r.right) (die_signs deeds name x) (sound name x deeds legal).signs in
-    holds (report_at deeds name x) (subst (λ (ss : List SignOff). All (λ (sign : SignOff). sign.digest ≡ sha256 (report_at deeds name x sign.revision)) ss) (sym (same ∙ found.sign_offs)) right)
-    ∙ ap (λ (n : List ℕ). sha256 (report_at deeds n x revision)) is
+-- a die of a design that is there, with its logs and sign-offs
+pub record IsKept (deeds : List Deed) (d : DesignFacts) (x : List ℕ) (logs : List ReadLogFacts) (signs : List SignOff) : Type 0 where
+  pub legal : each_fits [] deeds ≡ true
+  pub design : IsDesign d
+  pub named : design_text deeds d.name ≡ Some d.text
+  pub found : IsDieIn deeds d.name x logs signs
 
-pub take_own : {X : Type 0} (n : ℕ) (xs : List X) → take n xs ≡ take (length (take n xs)) xs
-take_own zero xs = refl
-take_own (suc n) [] = refl
-take_own (suc n) (x ∷ xs) = ap (λ ys. x ∷ ys) (take_own n xs)
+-- by the values that were read
+pub is_kept : (deeds : List Deed) (inner d : DesignFacts) (number : ℕ) (name asked x : List ℕ) (logs held : List ReadLogFacts) (signs given : List SignOff) → each_fits [] deeds ≡ true → inner ≡ d → IsDesign inner → name ≡ inner.name
+    → IsFound deeds asked number d → IsDieIn deeds name x held given → logs ≡ held → signs ≡ given → IsKept deeds d x logs signs
+is_kept deeds inner d number name asked x logs held signs given legal same design of_inner found die are_logs are_signs = record {
+  legal = legal;
+  design = subst IsDesign same design;
+  named = subst (λ (n : List ℕ). design_text deeds n ≡ Some d.text) (sym found.named) found.text;
+  found = subst (λ (ss : List SignOff). IsDieIn deeds d.name x logs ss) (sym are_signs)
+      (subst (λ (ls : List ReadLogFacts). IsDieIn deeds d.name x ls given) (sym are_logs)
+      (die_as_named deeds deeds name d.name x held given refl (of_inner ∙ ap (λ (v : DesignFacts). v.name) same) die));
+}
 
-pub part_some : (logs : List (Arc ReadLogFacts Global)) (revision : ℕ) → 0 < revision → revision ≤ length logs → 0 < length (arc_values (take revision logs))
-part_some logs revision low high =
-    let count : length (arc_values (take revision logs)) ≡ revision = length-map (take revision logs) (λ (l : Arc ReadLogFacts Global). arc_value l) ∙ length-take-le revision logs high in
-    omega (arith, count)
+module _ (deeds : List Deed) (d : DesignFacts) (x : List ℕ) (logs : List ReadLogFacts) (signs : List SignOff) (kept : IsKept deeds d x logs signs) where
+  pub kept_report : (revision : ℕ) → revision_report d x logs revision ≡ report_at deeds d.name x revision
+  kept_report revision =
+      let known : design_test deeds d.name ≡ Some d.test = ap test_of_text kept.named ∙ ap test_of_reading kept.design.stands in
+      ap (λ (texts : List (List ℕ)). die_report d.test d.name x texts) (sym (take-map (λ (l : ReadLogFacts). l.text) revision logs) ∙ ap (take revision) kept.found.texts)
+      ∙ sym (ap (λ (o : Option ScanTest). report_over o d.name x (take revision (die_logs deeds d.name x))) known)
 
--- the digest of the report that is made
-pub shown_right : (deeds : List Deed) (d : DesignFacts) (asked x : List ℕ) (logs part : List (Arc ReadLogFacts Global)) (signs : List SignOff) (revision : ℕ) (digest : List ℕ) → IsShown deeds d x logs part signs
-    → d.name ≡ asked → part ≡ take revision logs → revision ≤ length logs → digest ≡ sha256 (view_report (record { design = d; die = x; logs = arc_values part })) → digest ≡ sha256 (report_at deeds asked x revision)
-shown_right deeds d asked x logs part signs revision digest shown named cut high value =
-    let v : ViewFacts = record { design = d; die = x; logs = arc_values part } in
-    let count : length (arc_values part) ≡ revision =
-    length-map part (λ (l : Arc ReadLogFacts Global). arc_value l) ∙ ap length cut ∙ length-take-le revision logs high in
-    value
-    ∙ ap sha256 (report_in deeds v shown.design (view_in deeds d x part logs shown.named shown.found.texts shown.cut))
-    ∙ ap (λ (n : List ℕ). sha256 (report_at deeds n x (length (arc_values part)))) named
-    ∙ ap (λ (r : ℕ). sha256 (report_at deeds asked x r)) count
+  pub kept_showable : IsShowable d x logs
+  kept_showable = record {
+    tag = die_tagged deeds d.name x logs signs kept.legal kept.found;
+    some = kept.found.some;
+    each = All-weaker (IsLogIn deeds d.name x) (IsLogOf d x) (log_of_design deeds d x kept.design kept.named) logs kept.found.each;
+    differ = subst (IsDistinct bytes_eq) (sym kept.found.texts) (sound d.name x deeds kept.legal).logs.differ;
+  }
+
+  pub kept_signed : All (SignsReport d x logs) signs
+  kept_signed =
+      subst (All (SignsReport d x logs)) (sym kept.found.sign_offs)
+      (All-weaker (IsRight deeds d.name x) (SignsReport d x logs) (λ sign is. is.right ∙ ap sha256 (sym (kept_report sign.revision))) (die_signs deeds d.name x) (sound d.name x deeds kept.legal).signs)
+
+  pub kept_count : length logs ≡ length (die_logs deeds d.name x)
+  kept_count = sym (length-map logs (λ (l : ReadLogFacts). l.text)) ∙ ap length kept.found.texts

@@ -15,7 +15,7 @@ use Rattle.desk_outside.specs.declared.deed.DeedKind.{DeedKind}
 use Rattle.desk_outside.specs.declared.deed.DeedKind.TheVariants.{Design, Log, Sign}
 use Rattle.scan_model.specs.ScanTest.{ScanTest}
 use Rattle.scan_model.specs.Words.{is_tag, has_word}
-use Rattle.book.specs.declared.sign.Sign.{Sign as SignOff}
+use Rattle.die_entries.specs.declared.sign.Sign.{Sign as SignOff}
 use Rattle.book.specs.Deeds.{design_text, design_test, test_of_text, die_logs, die_signs, log_in, sign_in, report_at}
 use Rattle.book.specs.LegalDeeds.{fits, each_fits, is_log_over}
 use Rattle.book.proofs.Longer.{or_else, text-append, logs-append, signs-append, report_stays}

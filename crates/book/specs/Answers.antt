@@ -11,8 +11,9 @@ use Rattle.book.specs.declared.answers.PutFault.{PutFault}
 use Rattle.book.specs.declared.answers.PutFault.TheVariants as put_fault
 use Rattle.book.specs.declared.answers.LookFault.{LookFault}
 use Rattle.book.specs.declared.answers.LookFault.TheVariants as look_fault
-use Rattle.book.specs.declared.sign.Sign.{Sign as SignOff}
-use Rattle.book.specs.Deeds.{designs, design_text, die_logs, die_signs, is_signed_by}
+use Rattle.die_entries.specs.declared.sign.Sign.{Sign as SignOff}
+use Rattle.die_entries.specs.Entries.{is_signed_by}
+use Rattle.book.specs.Deeds.{designs, design_text, die_logs, die_signs}
 
 -- ---- changes
 

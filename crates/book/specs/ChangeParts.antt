@@ -1,6 +1,5 @@
 -- Parts of a change.
-use Rattle.std.specs.Prelude.{◌≡◌, ◌≤◌, ℕ, ◌+◌, Bool, if◌then◌else◌, List, length, Option, Some, None, option_map, Result, Ok, Err, IsErrOf}
-use Rattle.std.specs.List.{list_any, position_or_len}
+use Rattle.std.specs.Prelude.{◌≡◌, ◌≤◌, ℕ, if◌then◌else◌, List, Option, option_map, Result, Ok, Err, IsErrOf}
 use Rattle.std.specs.Str.{bytes_eq}
 use Rattle.sha2.specs.Sha256.{sha256}
 use Rattle.desk_outside.specs.declared.deed.Deed.{Deed}
@@ -8,7 +7,7 @@ use Rattle.desk_outside.specs.declared.keeper.KeepFault.{KeepFault}
 use Rattle.desk_outside.specs.declared.keeper.KeepFault.TheVariants as keep_fault
 use Rattle.desk_outside.specs.Faults.{Rose}
 use Rattle.diagnosis.specs.declared.put.Put.{Put}
-use Rattle.diagnosis.specs.declared.put.Put.TheVariants.{Created, Same}
+use Rattle.diagnosis.specs.declared.put.Put.TheVariants.{Same}
 use Rattle.book.specs.declared.answers.PutFault.{PutFault}
 use Rattle.book.specs.declared.answers.PutFault.TheVariants as put_fault
 use Rattle.book.specs.Kinds.{appended}
@@ -17,15 +16,6 @@ use Rattle.book.specs.Kinds.{appended}
 abbrev pub put_fault_of : KeepFault → PutFault
 put_fault_of keep_fault.Failed = put_fault.Failed
 put_fault_of keep_fault.NoMemory = put_fault.NoMemory
-
--- the entry at a place, by its number from 1, or the one that would be created
-abbrev pub put_numbered : Option ℕ → ℕ → Put
-put_numbered (Some place) count = Same (place + 1)
-put_numbered None count = Created (count + 1)
-
--- the first entry of a list that passes the test, by its number from 1, or the one that would be created
-abbrev pub put_where : {X : Type 0} → (X → Bool) → List X → Put
-put_where test xs = if list_any test xs then Same (position_or_len test xs + 1) else Created (length xs + 1)
 
 -- a design's text beside the one that its name has, under this number
 abbrev pub beside : ℕ → List ℕ → List ℕ → Result Put PutFault

@@ -1,12 +1,12 @@
 -- The state after a list of deeds, read off the list.
-use Rattle.std.specs.Prelude.{ℕ, ◌==◌, Bool, ◌&&◌, if◌then◌else◌, List, [], take, filter_map, slice_get, Option, Some, None, Result, Ok, Err}
+use Rattle.std.specs.Prelude.{ℕ, ◌&&◌, if◌then◌else◌, List, [], take, filter_map, slice_get, Option, Some, None, Result, Ok, Err}
 use Rattle.std.specs.Str.{bytes_eq}
 use Rattle.desk_outside.specs.declared.deed.Deed.{Deed}
 use Rattle.desk_outside.specs.declared.deed.DeedKind.{DeedKind}
 use Rattle.desk_outside.specs.declared.deed.DeedKind.TheVariants.{Design, Log, Sign}
 use Rattle.scan_model.specs.ScanTest.{ScanTest}
 use Rattle.scan_model.specs.DieReport.{die_report}
-use Rattle.book.specs.declared.sign.Sign.{Sign as SignOff}
+use Rattle.die_entries.specs.declared.sign.Sign.{Sign as SignOff}
 use Rattle.diagnosis.specs.Bundle.{bundle_reading}
 
 -- a name with a text
@@ -68,7 +68,3 @@ report_over (Some t) design die texts = die_report t design die texts
 -- the report of a die at a revision
 abbrev pub report_at : List Deed → List ℕ → List ℕ → ℕ → List ℕ
 report_at deeds design die revision = report_over (design_test deeds design) design die (take revision (die_logs deeds design die))
-
--- a sign-off of this revision by this signer
-abbrev pub is_signed_by : ℕ → List ℕ → SignOff → Bool
-is_signed_by revision signer sign = (sign.revision == revision) && bytes_eq sign.signer signer

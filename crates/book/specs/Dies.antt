@@ -5,7 +5,7 @@ use Rattle.std.specs.Str.{bytes_eq}
 use Rattle.std.specs.BTreeMap.{BTreeMap}
 use Rattle.std.specs.declared.alloc.Global.{Global}
 use Rattle.scan_model.specs.Words.{is_tag}
-use Rattle.book.specs.declared.sign.Sign.{Sign as SignOff}
+use Rattle.die_entries.specs.declared.sign.Sign.{Sign as SignOff}
 use Rattle.diagnosis.specs.Designs.{ReadLogFacts}
 use Rattle.book.specs.Places.{place_of}
 

@@ -1,12 +1,12 @@
 -- The deeds of designs, logs and sign-offs, and a list after a deed.
-use Rattle.std.specs.Prelude.{ℕ, List, [], ◌∷◌, ◌++◌, map, Result, Ok, Err}
+use Rattle.std.specs.Prelude.{ℕ, List, [], ◌∷◌, ◌++◌, Result, Ok, Err}
 use Rattle.std.specs.Arc.{arc_value}
 use Rattle.std.specs.declared.alloc.Global.{Global}
 use Rattle.std.specs.declared.sync.Arc.{Arc}
 use Rattle.desk_outside.specs.declared.deed.Deed.{Deed}
 use Rattle.desk_outside.specs.declared.deed.DeedKind.TheVariants.{Design, Log, Sign}
 use Rattle.desk_outside.specs.declared.keeper.KeepFault.{KeepFault}
-use Rattle.book.specs.declared.sign.Sign.{Sign as SignOff}
+use Rattle.die_entries.specs.declared.sign.Sign.{Sign as SignOff}
 use Rattle.diagnosis.specs.Designs.{DesignFacts, ReadLogFacts}
 use Rattle.book.specs.Deeds.{NamedText}
 
@@ -18,10 +18,6 @@ log_deed by log = record { by = by; what = Log log.design log.die log.text }
 
 abbrev pub sign_deed : ℕ → List ℕ → List ℕ → SignOff → Deed
 sign_deed by design die sign = record { by = by; what = Sign design die sign.revision sign.signer sign.digest }
-
--- the values of references
-abbrev pub arc_values : {X : Type 0} → List (Arc X Global) → List X
-arc_values xs = map (λ x. arc_value x) xs
 
 -- the text of a design behind a reference
 abbrev pub text_behind : Arc DesignFacts Global → List ℕ

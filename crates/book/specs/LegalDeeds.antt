@@ -11,7 +11,8 @@ use Rattle.scan_model.specs.ScanTest.{ScanTest}
 use Rattle.scan_model.specs.Words.{is_tag, has_word}
 use Rattle.scan_model.specs.LogText.{log_frame, log_reading}
 use Rattle.diagnosis.specs.Bundle.{bundle_reading}
-use Rattle.book.specs.Deeds.{design_text, design_test, die_logs, die_signs, report_at, is_signed_by}
+use Rattle.die_entries.specs.Entries.{is_signed_by}
+use Rattle.book.specs.Deeds.{design_text, design_test, die_logs, die_signs, report_at}
 
 -- the text stands for a log of the design and the die, where the design is there
 abbrev pub is_log_over : Option ScanTest → List ℕ → List ℕ → List ℕ → Bool

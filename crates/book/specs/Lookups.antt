@@ -1,11 +1,8 @@
 -- What is found in a book.
-use Rattle.std.specs.Prelude.{◌≡◌, ◌<◌, ℕ, true, List, length, All, Some}
-use Rattle.std.specs.List.{IsDistinct}
-use Rattle.std.specs.Str.{bytes_eq}
-use Rattle.scan_model.specs.Words.{is_tag}
+use Rattle.std.specs.Prelude.{◌≡◌, ◌<◌, ℕ, List, length, All, Some}
 use Rattle.desk_outside.specs.declared.deed.Deed.{Deed}
-use Rattle.book.specs.declared.sign.Sign.{Sign as SignOff}
-use Rattle.diagnosis.specs.Designs.{DesignFacts, ReadLogFacts, IsLogOf, texts_of}
+use Rattle.die_entries.specs.declared.sign.Sign.{Sign as SignOff}
+use Rattle.diagnosis.specs.Designs.{DesignFacts, ReadLogFacts, texts_of}
 use Rattle.book.specs.Deeds.{design_text, die_logs, die_signs}
 use Rattle.book.specs.Answers.{design_number}
 use Rattle.book.specs.Changes.{StandsIn}
@@ -28,10 +25,3 @@ pub record IsDieIn (deeds : List Deed) (design die : List ℕ) (logs : List Read
   pub sign_offs : signs ≡ die_signs deeds design die
   pub some : 0 < length logs
   pub each : All (IsLogIn deeds design die) logs
-
--- the report of a die may be made of these logs
-pub record IsShowable (d : DesignFacts) (die : List ℕ) (logs : List ReadLogFacts) : Type 0 where
-  pub tag : is_tag die ≡ true
-  pub some : 0 < length logs
-  pub each : All (IsLogOf d die) logs
-  pub differ : IsDistinct bytes_eq (texts_of logs)

@@ -6,7 +6,7 @@ use Rattle.std.specs.BTreeMap.{get_by, BTreeMap}
 use Rattle.std.specs.declared.alloc.Global.{Global}
 use Rattle.std.specs.declared.sync.Arc.{Arc}
 use Rattle.diagnosis.specs.Designs.{DesignFacts}
-use Rattle.book.specs.Kinds.{arc_values}
+use Rattle.die_entries.specs.Entries.{arc_values}
 
 -- the place that is noted for a name
 abbrev pub place_of : BTreeMap (Vec ℕ Global) ℕ → List ℕ → Option ℕ

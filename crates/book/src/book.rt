@@ -1,23 +1,24 @@
 //! The book, and its changes.
-ghost use Rattle.std.specs.Prelude.{◌≡◌, ◌≤◌, ◌<◌, ◌^◌, [], length, take, true, Some, OnOk, IfOk, IfErr, IfSome};
+ghost use Rattle.std.specs.Prelude.{◌≡◌, ◌≤◌, ◌<◌, length, true, OnOk, IfOk, IfErr, IfSome};
 ghost use Rattle.std.specs.Str.{bytes_eq};
 ghost use Rattle.std.specs.Arc.{arc_value};
 ghost use Rattle.sha2.specs.Sha256.{sha256};
 ghost use Rattle.scan_model.specs.Words.{is_tag};
 ghost use Rattle.book.specs.declared.answers.PutFault.{PutFault};
-ghost use Rattle.diagnosis.specs.Designs.{view_report, texts_of};
-ghost use Rattle.book.specs.Deeds.{die_logs, die_signs, is_signed_by};
-ghost use Rattle.book.specs.ChangeParts.{beside, put_numbered, put_where};
+ghost use Rattle.diagnosis.specs.Designs.{view_report};
+ghost use Rattle.die_entries.specs.Entries.{is_signed_by, put_where};
+ghost use Rattle.book.specs.Deeds.{die_logs, die_signs};
+ghost use Rattle.book.specs.ChangeParts.{beside};
 ghost use Rattle.book.specs.Answers.{design_answer, log_answer, sign_answer};
 ghost use Rattle.book.specs.Changes.{IsBook, Changed, StandsIn, IsViewIn};
-ghost use Rattle.book.specs.Kinds.{design_deed, log_deed, sign_deed, arc_values};
+ghost use Rattle.book.specs.Kinds.{design_deed, log_deed, sign_deed};
 
 use crate::answers::PutFault;
 use crate::recording::{record_design, record_log, record_sign};
-use crate::sign::Sign;
 use crate::state::{BookState, NumberedDesign};
 use desk_outside::{Deed, Keeper};
 use diagnosis::{CheckedView, Design, Put, ReadLog};
+use die_entries::{Sign, is_same_digest, put_sign, put_text};
 use scan_model::{Digest, Name, NoMemory};
 use std::alloc::Global;
 use std::marker::Model;
@@ -44,12 +45,6 @@ impl<K: Keeper> Model for Book<K> {
     ghost invariant = { λ b. IsBook (record { deeds = b.kept.deeds; limit = b.limit; rows = K.rows b.keeper; faults = K.faults b.keeper }) };
 }
 
-pub(crate) fn is_same_digest(digest: &Digest, other: &Digest) -> bool
-    ensures { result ≡ bytes_eq digest.now other.now }
-{
-    digest.as_bytes().as_slice() == other.as_bytes().as_slice()
-}
-
 // What a text finds whose name has a design.
 fn put_beside(found: &NumberedDesign<'_>, text: &[u8]) -> Result<Put, PutFault>
     ensures { result ≡ beside found.now.number (arc_value found.now.design.now).text text.now }
@@ -62,39 +57,6 @@ fn put_beside(found: &NumberedDesign<'_>, text: &[u8]) -> Result<Put, PutFault>
     Err(PutFault::NameTaken {
         kept: *found.design.digest(),
     })
-}
-
-// The entry at a place, or the next one.
-fn put_at(place: Option<usize>, count: usize) -> Put
-    requires room { count < 2 ^ 63 }
-    requires within { IfSome place (λ i. i < count) }
-    ensures { result ≡ put_numbered place count }
-{
-    match place {
-        Some(i) => Put::Same {
-            number: i as u64 + 1,
-        },
-        None => Put::Created {
-            number: count as u64 + 1,
-        },
-    }
-}
-
-// The log of that text among those of its die, or the next one.
-pub(crate) fn put_text(logs: &[Arc<ReadLog>], text: &[u8]) -> Put
-    ensures { result ≡ put_where (bytes_eq text.now) (texts_of (arc_values logs.now)) }
-{
-    let place = logs.iter().position(|log| text == log.text());
-    put_at(place, logs.len())
-}
-
-// The sign-off of that revision by that signer among those of its die, or the next one.
-pub(crate) fn put_sign(signs: &[Sign], revision: u64, signer: &[u8]) -> Put
-    ensures { result ≡ put_where (is_signed_by revision signer.now) signs.now }
-{
-    let place = signs.iter().position(|sign| sign.revision == revision
-        && sign.signer.as_slice() == signer);
-    put_at(place, signs.len())
 }
 
 impl<K: Keeper> Book<K> {

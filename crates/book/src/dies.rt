@@ -1,18 +1,14 @@
-//! Dies of the book as they are shown.
-ghost use Rattle.std.specs.Prelude.{◌≡◌, ℕ, length, take, All, Some, Ok, Err, true, IfOk, IfErr};
-ghost use Rattle.std.specs.List.{IsDistinct};
-ghost use Rattle.std.specs.Str.{bytes_eq};
-ghost use Rattle.std.specs.Arc.{arc_value};
-ghost use Rattle.scan_model.specs.Words.{is_tag};
-ghost use Rattle.diagnosis.specs.Designs.{IsLogOf, texts_of};
+//! What a look shows of a die: its first logs, or a sign-off.
+ghost use Rattle.std.specs.Prelude.{◌≡◌, length, take, Ok, Err, IfOk, IfErr};
+ghost use Rattle.diagnosis.specs.Designs.{texts_of};
+ghost use Rattle.die_entries.specs.Entries.{arc_values};
 ghost use Rattle.book.specs.Answers.{sign_numbered, up_to};
 ghost use Rattle.book.specs.Changes.{Looked};
-ghost use Rattle.book.specs.Kinds.{arc_values};
 
 use crate::answers::LookFault;
-use crate::sign::Sign;
-use diagnosis::{Design, DieView, ReadLog};
-use scan_model::{Name, NoMemory};
+use diagnosis::ReadLog;
+use die_entries::Sign;
+use scan_model::Name;
 use std::alloc::Global;
 use std::sync::Arc;
 
@@ -33,26 +29,6 @@ pub fn logs_up_to(
         return Err(LookFault::UnknownRevision { have });
     }
     Ok(&logs[..revision as usize])
-}
-
-/// The die with these logs, which differ.
-pub fn view_of(
-    alloc: Global,
-    design: &Arc<Design>,
-    die: &[u8],
-    logs: &[Arc<ReadLog>],
-) -> Result<DieView, NoMemory>
-    requires die { is_tag die.now ≡ true }
-    requires logs { All (IsLogOf (arc_value design.now) die.now) (arc_values logs.now) }
-    requires differ { IsDistinct bytes_eq (texts_of (arc_values logs.now)) }
-    ensures { IfOk result (λ view. view ≡ record { design = arc_value design.now; die = die.now; logs = arc_values logs.now }) }
-{
-    let design = Arc::try_clone(design)?;
-    let mut view = DieView::make(alloc, design, Name::copy_of(alloc, die)?)?;
-    for log in logs {
-        view.add(Arc::try_clone(log)?)?;
-    }
-    Ok(view)
 }
 
 /// A sign-off by its number from 1.

@@ -8,7 +8,6 @@ mod looks;
 mod opening;
 mod recording;
 mod row;
-mod sign;
 mod state;
 
 pub use answers::{LookFault, PutFault};
@@ -18,6 +17,6 @@ pub use diagnosis::{
     bundle_text, check_report, design_of, design_with, log_of, make_diagnosis, make_report,
     read_bundle,
 };
+pub use die_entries::Sign;
 pub use opening::{StartFault, UnopenedBook};
-pub use sign::Sign;
 pub use state::{made_design_deed, made_log_deed};

@@ -11,10 +11,10 @@ ghost use Rattle.book.specs.Kinds.{text_behind};
 
 use crate::answers::LookFault;
 use crate::book::Book;
-use crate::dies::{logs_up_to, sign_of, view_of};
-use crate::sign::Sign;
+use crate::dies::{logs_up_to, sign_of};
 use desk_outside::Keeper;
 use diagnosis::{Design, DieView};
+use die_entries::{Sign, view_of};
 use std::sync::Arc;
 
 impl<K: Keeper> Book<K> {

@@ -6,10 +6,10 @@ ghost use Rattle.book.specs.Changes.{StandsIn};
 ghost use Rattle.book.specs.Kinds.{design_deed, log_deed, sign_deed};
 ghost use Rattle.book.specs.ChangeParts.{Recorded};
 
-use crate::sign::Sign;
 use crate::state::BookState;
 use desk_outside::{Deed, KeepFault, Keeper};
 use diagnosis::{Design, ReadLog};
+use die_entries::Sign;
 use std::sync::Arc;
 
 /// Adds a design whose deed the keeper takes. The deed may be made already.

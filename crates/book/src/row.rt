@@ -1,25 +1,21 @@
 //! Rows of a keeper, judged as deeds after those before them.
-ghost use Rattle.std.specs.Prelude.{◌≡◌, ◌&&◌, ℕ, List, [], length, All, true, is_some, nat_le, IfOk, IfSome};
+ghost use Rattle.std.specs.Prelude.{◌≡◌, ◌&&◌, [], length, true, is_some, nat_le, IfOk, IfSome};
 ghost use Rattle.std.specs.List.{list_any};
 ghost use Rattle.std.specs.Arc.{arc_value};
 ghost use Rattle.sha2.specs.Sha256.{sha256};
 ghost use Rattle.desk_outside.specs.declared.deed.DeedKind.TheVariants as deed_kind;
-ghost use Rattle.book.specs.declared.sign.Sign.{Sign as SignOff};
 ghost use Rattle.scan_model.specs.Words.{is_tag, has_word};
-ghost use Rattle.book.specs.Deeds.{report_at, die_logs, die_signs, is_signed_by};
+ghost use Rattle.die_entries.specs.Entries.{is_signed_by};
+ghost use Rattle.book.specs.Deeds.{report_at, die_logs, die_signs};
 ghost use Rattle.book.specs.LegalDeeds.{fits, each_fits};
 ghost use Rattle.book.specs.Changes.{StandsIn};
-ghost use Rattle.diagnosis.specs.Designs.{view_report};
-ghost use Rattle.book.specs.Lookups.{IsShowable};
-ghost use Rattle.book.specs.Kinds.{sign_deed, arc_values};
+ghost use Rattle.book.specs.Kinds.{sign_deed};
 ghost use Rattle.book.specs.Rows.{added_if};
 
-use crate::book::{is_same_digest, put_sign, put_text};
-use crate::dies::view_of;
-use crate::sign::Sign;
 use crate::state::BookState;
 use desk_outside::{Deed, DeedKind};
-use diagnosis::{BundleFault, Design, Put, ReadLog, check_report, log_of, read_bundle};
+use diagnosis::{BundleFault, Design, Put, ReadLog, log_of, read_bundle};
+use die_entries::{Sign, digest_at, is_same_digest, put_sign, put_text};
 use scan_model::{Digest, NoMemory};
 use std::alloc::Global;
 use std::sync::Arc;
@@ -86,34 +82,6 @@ fn log_of_row(
     }
 }
 
-// The digest of a sign-off of that revision, where there is one.
-fn known_digest(signs: &[Sign], revision: u64) -> Option<Digest>
-    ensures { (report : ℕ → List ℕ) → All (λ sign. sign.digest ≡ sha256 (report sign.revision)) signs.now → IfSome result (λ digest. digest ≡ sha256 (report revision)) }
-{
-    for sign in signs {
-        if sign.revision == revision {
-            return Some(sign.digest);
-        }
-    }
-    None
-}
-
-// The digest of the report of a die with these logs.
-fn digest_of<R: Threads + Sync>(
-    rt: &R,
-    alloc: Global,
-    design: &Arc<Design>,
-    die: &[u8],
-    logs: &[Arc<ReadLog>],
-) -> Result<Digest, NoMemory>
-    requires { IsShowable (arc_value design.now) die.now (arc_values logs.now) }
-    ensures { IfOk result (λ digest. digest ≡ sha256 (view_report (record { design = arc_value design.now; die = die.now; logs = arc_values logs.now }))) }
-{
-    let view = view_of(alloc, design, die, logs)?;
-    let checked = check_report(rt, alloc, &view)?;
-    Ok(*checked.digest())
-}
-
 // The digest of the report of a die at a revision, where it has that revision.
 fn right_digest<R: Threads + Sync>(
     rt: &R,
@@ -133,15 +101,8 @@ fn right_digest<R: Threads + Sync>(
     let Some(die_found) = kept.die(found.design.name(), die)? else {
         return Ok(None);
     };
-    let logs = die_found.logs();
-    if revision == 0 || revision > logs.len() as u64 {
-        return Ok(None);
-    }
-    if let Some(digest) = known_digest(die_found.signs(), revision) {
-        return Ok(Some(digest));
-    }
-    let right = digest_of(rt, alloc, found.design, die, &logs[..revision as usize])?;
-    Ok(Some(right))
+    let (logs, signs) = (die_found.logs(), die_found.signs());
+    digest_at(rt, alloc, found.design, die, logs, signs, revision)
 }
 
 fn is_signed(

@@ -13,8 +13,9 @@ use Rattle.log_rows.specs.PointRows.{is_on, is_on_at}
 use Rattle.log_rows.specs.PlaceRows.{ArePlaceRows}
 use Rattle.match_counts.specs.Flips.{row_on, point_row_at}
 use Rattle.match_counts.specs.Sides.{classes_by, AreSideRows}
-use Rattle.chain_compactor.specs.Channels.{Compactor}
-use Rattle.chain_compactor.specs.Compaction.{compact_rows, compact_class}
+use Rattle.compact_points.specs.Channels.{Compactor}
+use Rattle.compact_points.specs.Compaction.{compact_rows}
+use Rattle.chain_compactor.specs.CompactMatches.{compact_class}
 use Rattle.chain_compactor.specs.CompactModel.{compact_model}
 
 module _ (t : ScanTest) (c : Compactor) (logs : List LogFacts) (expected : List (List Tri)) (patterns places b : ℕ) (rows : List PointRow)

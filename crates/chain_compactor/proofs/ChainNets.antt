@@ -1,14 +1,12 @@
 -- The nets that the cells of chains observe, as a table has them.
-use Rattle.std.proofs.Common.{◌≡◌, ℕ, ◌≤◌, ◌<◌, List, [], length, get_or, ap, ◌∙◌, arith, Vec, Global}
+use Rattle.std.proofs.Common.{◌≡◌, ℕ, ◌<◌, List, [], length, get_or, ap, ◌∙◌, arith, Vec, Global}
 use Rattle.std.proofs.lemmas.List.{length-map}
 use Rattle.std.proofs.lemmas.List.FromFn.{length-map-range_with_len, get_or-map-range_with_len}
 use Rattle.scan_model.specs.declared.parts.Point.TheVariants.{Cell}
-use Rattle.scan_model.specs.ScanTest.{ScanTest, IsScanTest}
+use Rattle.scan_model.specs.ScanTest.{ScanTest}
 use Rattle.scan_model.specs.Suspect.{observed_net}
-use Rattle.scan_model.proofs.PointCount.{longest_few}
 use Rattle.fail_logs.specs.Frames.{rows_view}
-use Rattle.fail_logs.proofs.TestOrder.{longest-above}
-use Rattle.chain_compactor.specs.Channels.{chain_length}
+use Rattle.compact_points.specs.Channels.{chain_length}
 use Rattle.chain_compactor.specs.ObservationPoints.{nets_of, chain_nets}
 
 module _ (t : ScanTest) (rows : List (Vec ℕ Global)) (are : rows_view rows ≡ chain_nets t) (h : ℕ) (lt : h < length t.chains) where
@@ -24,6 +22,3 @@ module _ (t : ScanTest) (rows : List (Vec ℕ Global)) (are : rows_view rows ≡
 
   pub net_is : (own : List ℕ) (i d : ℕ) → own ≡ get_or (rows_view rows) h [] → i < chain_length t h → get_or own i d ≡ observed_net t (Cell h i)
   net_is own i d is inside = ap (λ (ns : List ℕ). get_or ns i d) (is ∙ row_is) ∙ get_or-map-range_with_len (λ k. observed_net t (Cell h k)) 0 (chain_length t h) i i d inside (omega arith)
-
-  pub few_cells : IsScanTest t → chain_length t h ≤ 65536
-  few_cells sound = omega (arith, longest-above t.chains h lt, longest_few t.netlist t.chains sound.circuit sound.chains)

@@ -37,8 +37,8 @@ use Rattle.packed_sim.specs.Belongs.{captures}
 use Rattle.packed_sim.proofs.Changes.{point_stands}
 use Rattle.fault_effects.specs.FaultModel.{IsFaultModel, IsChainModel, pin_flips}
 use Rattle.fault_effects.proofs.SoleReader.{pin_flips-is}
-use Rattle.chain_compactor.specs.Channels.{Compactor, IsCompactorOf}
-use Rattle.chain_compactor.specs.Compaction.{predicts_compact_fail}
+use Rattle.compact_points.specs.Channels.{Compactor, IsCompactorOf}
+use Rattle.chain_compactor.specs.CompactMatches.{predicts_compact_fail}
 use Rattle.chain_compactor.specs.Flips.{differs, flip_differs, straight_value, members_at, flip_shows_through, straight_through}
 use Rattle.chain_compactor.specs.ObservationPoints.{seeing}
 use Rattle.chain_compactor.specs.CompactModel.{compact_model}

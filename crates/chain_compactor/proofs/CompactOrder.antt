@@ -7,14 +7,14 @@ use Rattle.std.proofs.lemmas.Bool.Decides.{nat_tests}
 use Rattle.std.proofs.lemmas.List.{get_or-map, length-map, map-append, length-append, get_or_append_left}
 use Rattle.std.proofs.lemmas.List.FromFn.{get_or-map-range_with_len, length-map-range_with_len}
 use Rattle.std.proofs.Math.Nat.{add-mul}
-use Rattle.std.proofs.lemmas.List.Elements.{Contains-append_right, All-nil, All-cons, All-append, All-map}
+use Rattle.std.proofs.lemmas.List.Elements.{Contains-append_right}
 use Rattle.scan_model.specs.declared.parts.Point.{Point}
 use Rattle.scan_model.specs.declared.parts.Point.TheVariants.{Output, Cell}
 use Rattle.fail_logs.specs.FrameFacts.{ArePoints, IsPointOf}
 use Rattle.fail_logs.proofs.RisingLists.{Rising, Below, Rising-append, Rising-weaken, Rising-lt}
-use Rattle.fail_logs.proofs.Whole.{range_below, All-flat_map}
 use Rattle.fail_logs.proofs.TestOrder.{contains_here, contains_later, in_cycles, rising_outputs, rising_blocks, map-flat_map}
-use Rattle.chain_compactor.specs.Channels.{greatest, shown_in, points_over}
+use Rattle.compact_points.specs.Channels.{greatest, shown_in, points_over}
+use Rattle.compact_points.proofs.PointsThere.{of_points}
 
 -- ---- each stands there
 
@@ -95,19 +95,8 @@ module _ (outputs : ℕ) (cycles : List ℕ) where
       let here : Contains (shown_in u 0 cycles) (Cell x u) = rw zero_plus at (in_shown u 0 cycles x lt shows) in
       Contains-append_right front behind (Cell x u) (in_cycles (λ u. shown_in u 0 cycles) (Cell x u) 0 (greatest cycles) u (omega arith) (omega (arith, greatest-above cycles x lt)) here)
 
-  in_one_cycle : (u x : ℕ) (ns : List ℕ) → (x + length ns) ≡ length cycles → All (IsPointOf outputs (length cycles)) (shown_in u x ns)
-  in_one_cycle u x [] fits = All-nil (IsPointOf outputs (length cycles))
-  in_one_cycle u x (n ∷ ns) fits =
-      let later : All (IsPointOf outputs (length cycles)) (shown_in u (x + 1) ns) = in_one_cycle u (x + 1) ns (omega (arith, fits)) in
-      elim (cases_Bool (ltb u n)) [
-        | inl shows ↦ rw shows (All-cons (IsPointOf outputs (length cycles)) (Cell x u) (shown_in u (x + 1) ns) (omega (arith, fits)) later)
-        | inr not_there ↦ rw not_there later
-      ]
-
   all_within : All (IsPointOf outputs (length cycles)) points
-  all_within = All-append (IsPointOf outputs (length cycles)) front behind
-      (All-map (IsPointOf outputs (length cycles)) (λ k. Output k) (range_with_len 0 outputs) (range_below outputs))
-      (All-flat_map (IsPointOf outputs (length cycles)) (λ u. shown_in u 0 cycles) (λ u. in_one_cycle u 0 cycles (omega arith)) (range_with_len 0 (greatest cycles)))
+  all_within = of_points (IsPointOf outputs (length cycles)) outputs cycles (λ k inside. inside) (λ x u inside. inside)
 
   cycle_order : (u : ℕ) → Rising (outputs + u * length cycles) (map order (shown_in u 0 cycles)) × Below (outputs + (u + 1) * length cycles) (map order (shown_in u 0 cycles))
   cycle_order u =

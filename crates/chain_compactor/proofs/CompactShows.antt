@@ -31,7 +31,7 @@ use Rattle.packed_sim.specs.Belongs.{BelongsTo, block_at, captures, has_own_row}
 use Rattle.packed_sim.proofs.Belonging.{own_no_row}
 use Rattle.fail_logs.specs.FrameFacts.{point_among}
 use Rattle.fault_effects.specs.FaultModel.{Table, shown_in, straight_in, fails_in}
-use Rattle.chain_compactor.specs.Channels.{Compactor, IsCompactorOf}
+use Rattle.compact_points.specs.Channels.{Compactor, IsCompactorOf}
 use Rattle.chain_compactor.specs.Flips.{straight_value, members_at, flip_shows_through, straight_through}
 use Rattle.chain_compactor.specs.ShownFlips.{ShowsFlip}
 use Rattle.chain_compactor.specs.CompactCounts.{AreExpected, AreDue, expected_at, differs_in, within_set}

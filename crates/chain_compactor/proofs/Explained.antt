@@ -19,8 +19,8 @@ use Rattle.scan_model.specs.Response.{expected, value_of_bit, predicts_fail}
 use Rattle.scan_model.specs.Coverage.{bit_of, bits_of, bits_over, same_bit, lists, is_tested, FitsLog}
 use Rattle.scan_model.specs.Classes.{class, class_by, is_failing}
 use Rattle.scan_model.specs.MatchCounts.{counts_of}
-use Rattle.chain_compactor.specs.Channels.{Compactor, IsCompactorOf}
-use Rattle.chain_compactor.specs.Compaction.{compact_bits, compact_class, compact_counts_of, predicts_compact_fail}
+use Rattle.compact_points.specs.Channels.{Compactor, IsCompactorOf}
+use Rattle.chain_compactor.specs.CompactMatches.{compact_bits, compact_class, compact_counts_of, predicts_compact_fail}
 use Rattle.chain_compactor.specs.TracedBits.{IsBitIn, AreBits, ListsUpstreamBits, complete_log}
 use Rattle.chain_compactor.proofs.Members.{fail_has_one_behind}
 use Rattle.chain_compactor.proofs.SeenPoints.{seen}

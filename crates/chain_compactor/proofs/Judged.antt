@@ -8,7 +8,7 @@ use Rattle.scan_model.proofs.FirstFaults.{IsLowest, lowest_is, has_none, is_firs
 use Rattle.text_parts.specs.declared.fault.ReadFault.{ReadFault}
 use Rattle.text_parts.specs.ReadResults.{Gives, IfFault}
 use Rattle.text_parts.proofs.FirstFaults.{judged_first, judged_none}
-use Rattle.chain_compactor.specs.Channels.{Compactor}
+use Rattle.compact_points.specs.Channels.{Compactor}
 use Rattle.chain_compactor.specs.ChannelText.{channel_table, channel_rule, channel_breaks, channel_fault, channel_reading, compactor_of_lines}
 
 channel_lowest : (t : ScanTest) (ls : List (List ℕ)) (i : ℕ) → IsLowest (channel_breaks t ls i) (channel_rule t ls i)

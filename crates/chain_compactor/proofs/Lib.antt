@@ -7,7 +7,6 @@ pub mod Xors
 pub mod OneFlip
 pub mod UpstreamFlips
 pub mod Members
-pub mod CompactRows
 pub mod XorChanges
 pub mod SeenPoints
 pub mod CompactModel

@@ -1,10 +1,9 @@
 -- The points upstream of a compact point.
-use Rattle.std.proofs.Common.{◌≡◌, ℕ, ◌+◌, ◌-◌, ◌<◌, true, false, ltb, List, [], ◌∷◌, ◌++◌, length, take, map, get_or, Option, Some, None, refl, sym, ap, subst, ◌∙◌, inl, inr, arith, append-nil}
+use Rattle.std.proofs.Common.{◌≡◌, ℕ, ◌-◌, ◌<◌, true, false, ltb, List, [], ◌∷◌, length, map, Option, Some, None, refl, sym, ap, subst, ◌∙◌, inl, inr, arith}
 use Rattle.std.specs.Prelude.{All, Contains}
 use Rattle.std.specs.List.{AllByRecursion}
 use Rattle.std.proofs.lemmas.Bool.{cases_Bool, ltb-true}
-use Rattle.std.proofs.lemmas.List.{length-map, get_or-map, get_or_default, take_more}
-use Rattle.std.proofs.lemmas.List.Concat.{flat_map-append}
+use Rattle.std.proofs.lemmas.List.{get_or-map, get_or_default}
 use Rattle.std.proofs.lemmas.List.Elements.{All-nil, All-cons, All-append, All-get_or, recursion_from_All}
 use Rattle.std.proofs.lemmas.List.Folds.{Any-from_list_any}
 use Rattle.scan_model.specs.declared.values.Tri.{Tri}
@@ -17,13 +16,14 @@ use Rattle.scan_model.specs.ScanTest.{ScanTest, IsScanTest, IsPoint, points_of, 
 use Rattle.scan_model.specs.Coverage.{bit_of}
 use Rattle.scan_model.specs.Response.{observed, predicts_fail}
 use Rattle.scan_model.proofs.counting.Shown.{not_opposite_itself, predicts_fail-is}
-use Rattle.fail_logs.specs.FrameFacts.{IsPointOf, point_among}
+use Rattle.fail_logs.specs.FrameFacts.{point_among}
 use Rattle.fail_logs.proofs.TestOrder.{contains_here, contains_later, output_stands, cell_stands}
-use Rattle.chain_compactor.specs.Channels.{Compactor, IsCompactorOf, no_channel, channel_at, chain_length, cycles_of}
-use Rattle.chain_compactor.specs.Compaction.{cell_shown, cells_shown, members, compact_value, predicts_compact_fail}
+use Rattle.compact_points.specs.Channels.{Compactor, IsCompactorOf, no_channel, channel_at, chain_length}
+use Rattle.compact_points.specs.Compaction.{cell_shown, cells_shown, members, compact_value}
+use Rattle.compact_points.specs.CompactPoints.{IsThere}
+use Rattle.compact_points.proofs.PointsThere.{point_is_there}
+use Rattle.chain_compactor.specs.CompactMatches.{predicts_compact_fail}
 use Rattle.chain_compactor.specs.Flips.{members_at}
-use Rattle.chain_compactor.specs.CompactPoints.{IsThere}
-use Rattle.chain_compactor.proofs.CompactOrder.{points_are}
 use Rattle.chain_compactor.proofs.Xors.{xor_one, some_fails}
 
 cells_are_points : (t : ScanTest) (u : ℕ) (hs : List ℕ) → AllByRecursion (λ h. h < length t.chains) hs → All (IsPoint t) (cells_shown t u hs)
@@ -40,34 +40,16 @@ pub map_contained : (f g : Point → Tri) (ps : List Point) → ((p : Point) →
 map_contained f g [] same = refl
 map_contained f g (p ∷ ps) same = rw (same p (contains_here p ps), map_contained f g ps (λ s there. same s (contains_later p s ps there))) refl
 
--- what one chain more shows
-pub shown_more : (t : ScanTest) (u : ℕ) (hs : List ℕ) (i : ℕ) → i < length hs → cells_shown t u (take (i + 1) hs) ≡ cells_shown t u (take i hs) ++ cell_shown t u (get_or hs i 0)
-shown_more t u hs i lt =
-    ap (cells_shown t u) (take_more hs i 0 lt) ∙ flat_map-append (cell_shown t u) (take i hs) (get_or hs i 0 ∷ []) ∙ ap (λ (ps : List Point). cells_shown t u (take i hs) ++ ps) (append-nil (cell_shown t u (get_or hs i 0)))
-
 module _ (t : ScanTest) (c : Compactor) (made : IsCompactorOf t c) where
-  point_within : (q : ℕ) → q < length c.points → IsPointOf (length t.netlist.outputs) (length (map (cycles_of t) c.channels)) (point_among c.points q)
-  point_within q lt =
-      let all : All (IsPointOf (length t.netlist.outputs) (length (map (cycles_of t) c.channels))) c.points = rw made.points (points_are (length t.netlist.outputs) (map (cycles_of t) c.channels)).within in
-      All-get_or (IsPointOf (length t.netlist.outputs) (length (map (cycles_of t) c.channels))) c.points q (Output 0) lt all
-
-  pub point_is_there : (q : ℕ) → q < length c.points → IsThere t c (point_among c.points q)
-  point_is_there q lt = go (point_among c.points q) (point_within q lt)
-    where
-      go : (s : Point) → IsPointOf (length t.netlist.outputs) (length (map (cycles_of t) c.channels)) s → IsThere t c s
-      go (Output k) is = is
-      go (Cell x u) is = omega (arith, length-map c.channels (cycles_of t), is)
-
-  behind_within : (s : Point) → IsPointOf (length t.netlist.outputs) (length (map (cycles_of t) c.channels)) s → All (IsPoint t) (members t c s)
+  behind_within : (s : Point) → IsThere t c s → All (IsPoint t) (members t c s)
   behind_within (Output k) is = All-cons (IsPoint t) (Output k) [] is (All-nil (IsPoint t))
   behind_within (Cell x u) is =
-      let lt : x < length c.channels = omega (arith, length-map c.channels (cycles_of t), is) in
       cells_are_points t u (channel_at c.channels x).chains (recursion_from_All (λ h. h < length t.chains) (channel_at c.channels x).chains
-      (All-get_or (λ y. All (λ h. h < length t.chains) y.chains) c.channels x no_channel lt made.channels.chains))
+      (All-get_or (λ y. All (λ h. h < length t.chains) y.chains) c.channels x no_channel is made.channels.chains))
 
   -- points of the test are upstream of each compact point
   pub members_are_points : (q : ℕ) → q < length c.points → All (IsPoint t) (members_at t c q)
-  members_are_points q lt = behind_within (point_among c.points q) (point_within q lt)
+  members_are_points q lt = behind_within (point_among c.points q) (point_is_there t c made q lt)
 
   pub value_is : (fault : Option Fault) (w : ℕ) (s : Point) → compact_value t c fault w s ≡ xor_of (map (observed t fault w) (members t c s))
   value_is fault w (Output k) = sym (xor_one (observed t fault w (Output k)))

@@ -8,8 +8,8 @@ use Rattle.std.proofs.lemmas.List.{map_push}
 use Rattle.std.proofs.lemmas.List.Sums.{sum_by-cons, sum_by_push}
 use Rattle.scan_model.specs.declared.parts.Point.TheVariants.{Output}
 use Rattle.scan_model.specs.ScanTest.{ScanTest}
-use Rattle.chain_compactor.specs.declared.compactor.Channel.{Channel}
-use Rattle.chain_compactor.specs.Channels.{greatest, cycles_of, shown_in, points_over, compact_points}
+use Rattle.compact_points.specs.declared.compactor.Channel.{Channel}
+use Rattle.compact_points.specs.Channels.{greatest, cycles_of, shown_in, points_over, compact_points}
 
 abbrev pub total : List ℕ → ℕ
 total ns = sum_by (λ (n : ℕ). n) ns

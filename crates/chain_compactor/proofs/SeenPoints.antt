@@ -13,13 +13,13 @@ use Rattle.fail_logs.specs.BitNumbers.{place_in}
 use Rattle.fail_logs.specs.FrameFacts.{ArePoints, point_among}
 use Rattle.fail_logs.proofs.TestFrame.{cells_at}
 use Rattle.fault_effects.proofs.NetPoints.{filtered}
-use Rattle.chain_compactor.specs.Channels.{Compactor, IsCompactorOf, no_channel, channel_at, chain_length, cycles_of, greatest}
-use Rattle.chain_compactor.specs.Compaction.{cell_shown, cells_shown, members}
+use Rattle.compact_points.specs.Channels.{Compactor, IsCompactorOf, no_channel, channel_at, chain_length, cycles_of, greatest}
+use Rattle.compact_points.specs.Compaction.{cell_shown, cells_shown, members}
+use Rattle.compact_points.specs.CompactPoints.{IsThere}
+use Rattle.compact_points.proofs.PointsThere.{point_is_there}
 use Rattle.chain_compactor.specs.Flips.{members_at}
-use Rattle.chain_compactor.specs.CompactPoints.{IsThere}
 use Rattle.chain_compactor.specs.ObservationPoints.{has_chain, channels_of, cycle_places, seeing}
 use Rattle.chain_compactor.proofs.CompactOrder.{greatest-above, points_are}
-use Rattle.chain_compactor.proofs.Members.{point_is_there}
 
 only_one : {X : Type 0} (a x : X) → Contains (a ∷ []) x → x ≡ a
 only_one a x has = go has.0 has.1 has.2

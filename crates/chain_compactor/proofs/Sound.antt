@@ -15,7 +15,7 @@ use Rattle.scan_model.specs.declared.rules.TheConstants.{OTHER_CHANNEL_FORM, UNK
 use Rattle.text_parts.proofs.Places.{any_position}
 use Rattle.scan_text.proofs.Tables.{none_broken}
 use Rattle.scan_text.proofs.SoundChains.{all_from_any}
-use Rattle.chain_compactor.specs.Channels.{AreChannels, compact_points}
+use Rattle.compact_points.specs.Channels.{AreChannels, compact_points}
 use Rattle.chain_compactor.specs.ChannelText.{ChannelNames, chain_names, is_chain, chain_number, channel_of, titles_in, numbered, has_other_form, lacks_chain, is_taken, is_one_more, has_too_many_points, channel_rules}
 
 pub record AreSound (t : ScanTest) (xs : List ChannelNames) : Type 0 where

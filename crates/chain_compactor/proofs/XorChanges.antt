@@ -11,7 +11,7 @@ use Rattle.scan_model.specs.Values.{is_unknown, are_opposite, tri_xor, xor_of}
 use Rattle.scan_model.specs.ScanTest.{ScanTest}
 use Rattle.scan_model.proofs.Folds.{xor_of-push}
 use Rattle.packed_sim.specs.Changes.{IsChange}
-use Rattle.chain_compactor.specs.Compaction.{cell_shown, cells_shown}
+use Rattle.compact_points.specs.Compaction.{cell_shown, cells_shown}
 use Rattle.chain_compactor.proofs.Xors.{xor_one}
 
 xor_zero : (x : Tri) → tri_xor x Zero ≡ x

@@ -8,7 +8,7 @@ use Rattle.scan_model.specs.ScanText.{stands_again}
 use Rattle.scan_model.specs.ScanTest.{ScanTest, no_chain}
 use Rattle.scan_model.specs.declared.rules.TheConstants.{OTHER_CHANNEL_FORM, UNKNOWN_CHAIN, CHANNEL_TAKEN, TOO_MANY_CHANNELS, TOO_MANY_POINTS}
 use Rattle.text_parts.specs.Views.{nows}
-use Rattle.chain_compactor.specs.Channels.{AreChannels, greatest, cycles_of, compact_points}
+use Rattle.compact_points.specs.Channels.{AreChannels, greatest, cycles_of, compact_points}
 use Rattle.chain_compactor.specs.ChannelText.{ChannelNames, channel_of, has_other_form, titles_in, numbered, channel_limit, compact_point_limit}
 use Rattle.chain_compactor.specs.declared.channels.Channels.{Channels}
 use Rattle.chain_compactor.specs.declared.named.NamedChannel.{NamedChannel}

@@ -8,8 +8,8 @@ use Rattle.scan_model.specs.TextFaults.{breaks, lowest, first_fault, refused_or}
 use Rattle.scan_model.specs.declared.rules.TheConstants.{OTHER_CHANNEL_FORM, UNKNOWN_CHAIN, CHANNEL_TAKEN, TOO_MANY_CHANNELS, TOO_MANY_POINTS}
 use Rattle.scan_model.specs.ScanText.{stands_again}
 use Rattle.scan_model.specs.ScanTest.{ScanTest}
-use Rattle.chain_compactor.specs.declared.compactor.Channel.{Channel}
-use Rattle.chain_compactor.specs.Channels.{Compactor, compactor_of, compact_points}
+use Rattle.compact_points.specs.declared.compactor.Channel.{Channel}
+use Rattle.compact_points.specs.Channels.{Compactor, compactor_of, compact_points}
 
 abbrev pub channel_limit : ℕ
 channel_limit = 256

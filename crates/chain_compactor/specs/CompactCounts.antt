@@ -12,8 +12,8 @@ use Rattle.place_sets.specs.Places.{has_place}
 use Rattle.lane_rows.specs.GoodRows.{pattern_of}
 use Rattle.fail_logs.specs.FrameFacts.{point_among}
 use Rattle.fault_effects.specs.FaultModel.{Table}
-use Rattle.chain_compactor.specs.Channels.{Compactor}
-use Rattle.chain_compactor.specs.Compaction.{compact_value}
+use Rattle.compact_points.specs.Channels.{Compactor}
+use Rattle.compact_points.specs.Compaction.{compact_value}
 use Rattle.chain_compactor.specs.Flips.{members_at}
 
 abbrev pub expected_at : List Planes → ℕ → Planes

@@ -4,7 +4,7 @@ use Rattle.scan_model.specs.declared.logs.LogForm.TheVariants.{CompactLog}
 use Rattle.scan_model.specs.ScanTest.{ScanTest}
 use Rattle.scan_model.specs.LogText.{LogFrame}
 use Rattle.fail_logs.specs.FrameFacts.{frame_with}
-use Rattle.chain_compactor.specs.Channels.{Compactor, cycles_of}
+use Rattle.compact_points.specs.Channels.{Compactor, cycles_of}
 
 -- The channels stand in the place of chains, each as long as it shows something, and the compact points in that of the
 -- points.

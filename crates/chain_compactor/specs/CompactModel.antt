@@ -6,8 +6,8 @@ use Rattle.scan_model.specs.Coverage.{bit_of}
 use Rattle.scan_model.specs.Masks.{mask}
 use Rattle.packed_sim.specs.Belongs.{captures}
 use Rattle.fault_effects.specs.FaultModel.{FaultModel, pin_flips}
-use Rattle.chain_compactor.specs.Channels.{Compactor}
-use Rattle.chain_compactor.specs.Compaction.{predicts_compact_fail}
+use Rattle.compact_points.specs.Channels.{Compactor}
+use Rattle.chain_compactor.specs.CompactMatches.{predicts_compact_fail}
 use Rattle.chain_compactor.specs.Flips.{flip_shows_through, straight_through}
 use Rattle.chain_compactor.specs.ObservationPoints.{seeing}
 

@@ -11,8 +11,8 @@ use Rattle.scan_model.specs.Universe.{universe}
 use Rattle.scan_model.specs.Ranking.{ranked}
 use Rattle.scan_model.specs.ReportText.{ReportForm, point_words, fault_words, no_fault, layout_with, concatenated}
 use Rattle.fail_logs.specs.FrameFacts.{point_among}
-use Rattle.chain_compactor.specs.Channels.{Compactor, channel_at}
-use Rattle.chain_compactor.specs.Compaction.{compact_bits, compact_class, compact_candidates}
+use Rattle.compact_points.specs.Channels.{Compactor, channel_at}
+use Rattle.chain_compactor.specs.CompactMatches.{compact_bits, compact_class, compact_candidates}
 
 -- the words of a compact point: those of an output, or the channel and the cycle
 abbrev pub shown_words : ScanTest → Compactor → Point → List (List ℕ)

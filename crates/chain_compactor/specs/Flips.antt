@@ -12,8 +12,8 @@ use Rattle.scan_model.specs.NetValue.{good_value}
 use Rattle.scan_model.specs.Suspect.{observed_net}
 use Rattle.scan_model.specs.Masks.{flipped, place_is_point}
 use Rattle.fail_logs.specs.FrameFacts.{point_among}
-use Rattle.chain_compactor.specs.Channels.{Compactor}
-use Rattle.chain_compactor.specs.Compaction.{members}
+use Rattle.compact_points.specs.Channels.{Compactor}
+use Rattle.compact_points.specs.Compaction.{members}
 
 -- the XOR of what some points show is the opposite of the fault-free one, where this is what each shows in pattern w
 abbrev pub differs : ScanTest → ℕ → List Point → (Point → Tri) → Bool

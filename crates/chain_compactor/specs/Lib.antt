@@ -1,11 +1,9 @@
 -- The specs of tests with a compactor.
-pub mod Channels
 pub mod ChannelText
 pub mod AfterChannels
 pub mod CompactLog
-pub mod Compaction
+pub mod CompactMatches
 pub mod Flips
-pub mod CompactPoints
 pub mod CompactReport
 pub mod ObservationPoints
 pub mod CompactModel

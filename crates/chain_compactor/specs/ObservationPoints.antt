@@ -8,7 +8,7 @@ use Rattle.scan_model.specs.Suspect.{observed_net}
 use Rattle.fail_logs.specs.BitNumbers.{place_in}
 use Rattle.fail_logs.specs.Frames.{rows_view}
 use Rattle.fail_logs.specs.Places.{places_in}
-use Rattle.chain_compactor.specs.Channels.{Compactor, channel_at, chain_length, cycles_of}
+use Rattle.compact_points.specs.Channels.{Compactor, channel_at, chain_length, cycles_of}
 use Rattle.chain_compactor.specs.declared.tables.Tables.{Tables}
 
 -- a channel of these chains shows chain h

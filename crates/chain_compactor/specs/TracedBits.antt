@@ -9,8 +9,8 @@ use Rattle.lane_rows.specs.Lanes.{lane}
 use Rattle.lane_rows.specs.GoodRows.{pattern_of}
 use Rattle.log_rows.specs.declared.point_row.PointRow.{PointRow}
 use Rattle.log_rows.specs.PointRows.{no_point_row}
-use Rattle.chain_compactor.specs.Channels.{Compactor}
-use Rattle.chain_compactor.specs.Compaction.{compact_class}
+use Rattle.compact_points.specs.Channels.{Compactor}
+use Rattle.chain_compactor.specs.CompactMatches.{compact_class}
 use Rattle.chain_compactor.specs.ObservationPoints.{seeing}
 
 -- a bit of so many patterns and points

@@ -10,12 +10,12 @@ ghost use Rattle.lane_rows.specs.Lanes.{lane};
 ghost use Rattle.lane_rows.specs.Planes.{held};
 ghost use Rattle.packed_sim.specs.Changes.{IsChange};
 ghost use Rattle.fail_logs.specs.Frames.{rows_view};
-ghost use Rattle.chain_compactor.specs.Channels.{IsCompactorOf};
-ghost use Rattle.chain_compactor.specs.Compaction.{cell_shown, cells_shown, members};
+ghost use Rattle.compact_points.specs.Channels.{IsCompactorOf};
+ghost use Rattle.compact_points.specs.Compaction.{cell_shown, cells_shown, members};
+ghost use Rattle.compact_points.specs.CompactPoints.{IsThere};
 ghost use Rattle.chain_compactor.specs.ObservationPoints.{chain_nets};
-ghost use Rattle.chain_compactor.specs.CompactPoints.{IsThere};
 
-use crate::compactor::Compact;
+use compact_points::Compact;
 use lane_rows::{Packed, Row};
 use scan_model::{Parts, Point};
 

@@ -7,12 +7,12 @@ ghost use Rattle.scan_model.specs.TextFaults.{lowest};
 ghost use Rattle.scan_model.specs.ScanText.{stands_again};
 ghost use Rattle.scan_model.specs.ScanTest.{ScanTest};
 ghost use Rattle.text_parts.specs.Views.{nows};
-ghost use Rattle.chain_compactor.specs.Channels.{greatest};
+ghost use Rattle.compact_points.specs.Channels.{greatest};
 ghost use Rattle.chain_compactor.specs.ChannelText.{channel_of};
 ghost use Rattle.chain_compactor.specs.AfterChannels.{length_in, numbers_in};
 
-use crate::compactor::Channel;
 use crate::named::NamedChannel;
+use compact_points::Channel;
 use scan_model::{Chain, NoMemory, Rows, rules};
 use std::alloc::Global;
 use text_parts::{Names, has_refused_byte, words_of};

@@ -11,16 +11,16 @@ ghost use Rattle.fault_effects.specs.Owners.{IsSuspectOf, AreOwners, owner, susp
 ghost use Rattle.fault_effects.specs.Readers.{AreReads};
 ghost use Rattle.match_counts.specs.Totals.{AreCounted, AreTotals, candidates_in};
 ghost use Rattle.match_counts.specs.Sides.{classes_by};
-ghost use Rattle.chain_compactor.specs.Channels.{IsCompactorOf};
-ghost use Rattle.chain_compactor.specs.Compaction.{compact_rows, compact_bits, compact_class, predicts_compact_fail, compact_candidates};
+ghost use Rattle.compact_points.specs.Channels.{IsCompactorOf};
+ghost use Rattle.compact_points.specs.Compaction.{compact_rows};
+ghost use Rattle.chain_compactor.specs.CompactMatches.{compact_bits, compact_class, predicts_compact_fail, compact_candidates};
 ghost use Rattle.chain_compactor.specs.CompactCounts.{AreExpected};
 
 use crate::block_parts::block_parts;
-use crate::compactor::Compact;
 use crate::counts::CompactCounts;
-use crate::expected::shown_in_block;
 use crate::tables::Tables;
 use crate::tracing::traced_places;
+use compact_points::{Compact, shown_in_block};
 use fault_effects::{BlockWork, Suspect, owned_nets, owners_of, reads_of, suspects_at};
 use fault_universe::universe_len;
 use lane_rows::{Block, Groups, Packed};

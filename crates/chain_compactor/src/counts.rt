@@ -3,12 +3,12 @@
 ghost use Rattle.std.specs.Prelude.{◌≡◌, ℕ, ◌<◌, All, length};
 ghost use Rattle.std.proofs.Props.{props};
 ghost use Rattle.scan_model.specs.ScanTest.{points_of, point_at};
-ghost use Rattle.chain_compactor.specs.Channels.{IsCompactorOf};
+ghost use Rattle.compact_points.specs.Channels.{IsCompactorOf};
 ghost use Rattle.chain_compactor.specs.ObservationPoints.{seeing, AreTables};
 ghost use Rattle.chain_compactor.specs.CompactCounts.{AreExpected};
 
-use crate::compactor::Compact;
 use crate::tables::Tables;
+use compact_points::Compact;
 use lane_rows::Packed;
 use log_rows::PointRow;
 use packed_sim::PackedGood;

@@ -2,7 +2,7 @@
 
 ghost use Rattle.std.specs.Prelude.{◌≡◌, ◌≤◌, ◌<◌, ◌^◌, ◌++◌, length, map, IfOk, OnOk};
 ghost use Rattle.std.specs.List.{range_with_len};
-ghost use Rattle.chain_compactor.specs.Channels.{greatest as model_greatest, points_over, shown_in};
+ghost use Rattle.compact_points.specs.Channels.{greatest as model_greatest, points_over, shown_in};
 
 use scan_model::{NoMemory, Point, Rows};
 use std::alloc::Global;

@@ -15,11 +15,11 @@ ghost use Rattle.scan_model.specs.Universe.{universe};
 ghost use Rattle.scan_model.specs.Coverage.{bit_of};
 ghost use Rattle.scan_model.specs.Response.{observed, predicts_fail};
 ghost use Rattle.scan_model.specs.Masks.{IsLogic, mask, touched_nets, operand_values};
-ghost use Rattle.chain_compactor.specs.Channels.{IsCompactorOf};
-ghost use Rattle.chain_compactor.specs.Compaction.{predicts_compact_fail};
+ghost use Rattle.compact_points.specs.Channels.{IsCompactorOf};
+ghost use Rattle.chain_compactor.specs.CompactMatches.{predicts_compact_fail};
 ghost use Rattle.chain_compactor.specs.Flips.{flip_shows_through, straight_through, members_at};
 
-use crate::compactor::Compact;
+use compact_points::Compact;
 use scan_model::Parts;
 
 /// Where the pattern captures, a logic fault predicts a fail at a compact point exactly where a net that it flips, flipped

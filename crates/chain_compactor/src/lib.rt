@@ -4,11 +4,9 @@
 mod block_parts;
 mod changes;
 mod channels;
-mod compactor;
 mod counting;
 mod counts;
 mod due;
-mod expected;
 mod in_order;
 mod laws;
 mod logs;
@@ -22,9 +20,8 @@ mod tables;
 mod text;
 mod tracing;
 
-pub use compactor::{Channel, Compact};
+pub use compact_points::{Channel, Compact, compact_expected, compact_expected_over};
 pub use counting::compact_counts;
-pub use expected::{compact_expected, compact_expected_over};
 pub use laws::{compact_flips, upstream_fails};
 pub use logs::read_compact_log;
 pub use reading::read_channels;

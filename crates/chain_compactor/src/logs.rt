@@ -8,12 +8,12 @@ ghost use Rattle.scan_model.specs.Coverage.{FitsLog};
 ghost use Rattle.text_parts.specs.ReadResults.{Gives, IfFault};
 ghost use Rattle.fail_logs.specs.Frames.{frame_view};
 ghost use Rattle.fail_logs.specs.FrameFacts.{IsFrameOf};
-ghost use Rattle.chain_compactor.specs.Channels.{IsCompactorOf, greatest};
+ghost use Rattle.compact_points.specs.Channels.{IsCompactorOf, greatest};
 ghost use Rattle.chain_compactor.specs.AfterChannels.{length_in};
 ghost use Rattle.chain_compactor.specs.CompactLog.{compact_frame};
 
 use crate::channels::greatest_length;
-use crate::compactor::{Channel, Compact};
+use compact_points::{Channel, Compact};
 use fail_logs::{Frame, read_framed};
 use scan_model::{Chain, LogFacts, LogForm, Parts};
 use std::alloc::{AllocError, Global};

@@ -4,11 +4,11 @@ ghost use Rattle.std.specs.Prelude.{◌≡◌, ◌++◌, ◌<◌, length, OnOk};
 ghost use Rattle.std.proofs.Props.{props};
 ghost use Rattle.scan_model.specs.Universe.{universe};
 ghost use Rattle.fault_universe.specs.LineWords.{after_spaces};
-ghost use Rattle.chain_compactor.specs.Channels.{IsCompactorOf};
-ghost use Rattle.chain_compactor.specs.CompactPoints.{IsThere};
+ghost use Rattle.compact_points.specs.Channels.{IsCompactorOf};
+ghost use Rattle.compact_points.specs.CompactPoints.{IsThere};
 ghost use Rattle.chain_compactor.specs.CompactReport.{shown_words, compact_form};
 
-use crate::compactor::Compact;
+use compact_points::Compact;
 use diag_report::{ReportNames, push_place, push_point_words};
 use fault_universe::{push_number, push_word};
 use scan_model::{Name, NoMemory, Parts, Point};

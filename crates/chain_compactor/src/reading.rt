@@ -5,13 +5,13 @@ ghost use Rattle.scan_model.specs.Lines.{text_lines};
 ghost use Rattle.scan_model.specs.TextFaults.{HasNoFault, IsFirstFault, first_fault, refused_or};
 ghost use Rattle.text_parts.specs.ReadResults.{Gives, IfFault};
 ghost use Rattle.text_parts.specs.Views.{nows};
-ghost use Rattle.chain_compactor.specs.Channels.{IsCompactorOf, compactor_of};
+ghost use Rattle.compact_points.specs.Channels.{IsCompactorOf, compactor_of};
 ghost use Rattle.chain_compactor.specs.ChannelText.{chain_names, channel_rule, channel_breaks, channel_reading, compactor_of_lines};
 ghost use Rattle.chain_compactor.specs.AfterChannels.{IsAfter, IsKept};
 
 use crate::channels::Channels;
-use crate::compactor::Compact;
 use crate::in_order::points_over;
+use compact_points::Compact;
 use fail_logs::chain_names;
 use scan_model::{Parts, Rows};
 use std::alloc::Global;

@@ -5,12 +5,11 @@ ghost use Rattle.std.specs.List.{range_with_len};
 ghost use Rattle.scan_model.specs.ScanTest.{points_of, point_at};
 ghost use Rattle.fail_logs.specs.BitNumbers.{place_in};
 ghost use Rattle.fail_logs.specs.Frames.{rows_view};
-ghost use Rattle.chain_compactor.specs.Channels.{IsCompactorOf, channel_at};
+ghost use Rattle.compact_points.specs.Channels.{IsCompactorOf, channel_at};
 ghost use Rattle.chain_compactor.specs.ObservationPoints.{has_chain, channels_of, nets_of, chain_nets, seeing, AreTables};
 
-use crate::compactor::{Channel, Compact};
-use crate::expected::chain_length;
 use crate::logs::channel_cycles;
+use compact_points::{Channel, Compact, chain_length};
 use fail_logs::cell_places;
 use scan_model::{NoMemory, Parts, Point};
 use std::alloc::Global;

@@ -7,12 +7,13 @@ ghost use Rattle.scan_model.specs.Classes.{class_with};
 ghost use Rattle.scan_model.specs.Ranking as ranking;
 ghost use Rattle.scan_model.specs.ReportText as text_of;
 ghost use Rattle.log_join.specs.Joining.{StandsFor, IsJoinedOf, FitsExpected};
-ghost use Rattle.chain_compactor.specs.Channels.{IsCompactorOf};
-ghost use Rattle.chain_compactor.specs.Compaction.{compact_rows, compact_candidates};
+ghost use Rattle.compact_points.specs.Channels.{IsCompactorOf};
+ghost use Rattle.compact_points.specs.Compaction.{compact_rows};
+ghost use Rattle.chain_compactor.specs.CompactMatches.{compact_candidates};
 ghost use Rattle.chain_compactor.specs.CompactReport.{compact_layout, compact_report};
 
-use crate::compactor::Compact;
 use crate::names::CompactNames;
+use compact_points::Compact;
 use diag_report::{Head, make_text_of};
 use log_join::Joined;
 use scan_model::{Expected, Name, NoMemory, Parts, Rows, Scored};

@@ -10,14 +10,15 @@ ghost use Rattle.log_join.specs.Joining.{StandsFor, IsJoinedOf};
 ghost use Rattle.lane_rows.specs.Lanes.{lane};
 ghost use Rattle.packed_sim.specs.Belongs.{BelongsTo};
 ghost use Rattle.log_rows.specs.PointRows.{no_point_row};
-ghost use Rattle.chain_compactor.specs.Channels.{IsCompactorOf};
-ghost use Rattle.chain_compactor.specs.Compaction.{compact_rows, compact_counts_of};
+ghost use Rattle.compact_points.specs.Channels.{IsCompactorOf};
+ghost use Rattle.compact_points.specs.Compaction.{compact_rows};
+ghost use Rattle.chain_compactor.specs.CompactMatches.{compact_counts_of};
 ghost use Rattle.chain_compactor.specs.ObservationPoints.{seeing, AreTables};
 ghost use Rattle.chain_compactor.specs.TracedBits.{AddsLanes, AddsUpstreamBits, ListsUpstreamBits, AreBits, complete_log};
 
-use crate::compactor::Compact;
 use crate::tables::Tables;
 use back_trace::suspects_over;
+use compact_points::Compact;
 use expected_values::expected_at_points;
 use fault_universe::universe_len;
 use lane_rows::Row;

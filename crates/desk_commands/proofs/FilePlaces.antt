@@ -3,11 +3,11 @@ use Rattle.std.proofs.Common.{◌≡◌, ◌∙◌, ◌<◌, ◌≤◌, ℕ, tru
 use Rattle.std.proofs.lemmas.Bool.Decides.{nat_tests}
 use Rattle.desk_outside.specs.declared.shelf.File.{File}
 use Rattle.desk_outside.specs.Files.{text_of}
+use Rattle.design_bundle.specs.FourTexts.{four}
 use Rattle.diagnosis.specs.declared.section.DesignText.{DesignText}
 use Rattle.diagnosis.specs.declared.section.DesignText.TheVariants.{Netlist, Scan, Patterns, Neighbours}
 use Rattle.diagnosis.specs.Texts.{Place, Source}
 use Rattle.diagnosis.specs.TextHalts.{IsHad, HaltsAt, place_of}
-use Rattle.diagnosis.specs.ReaderAnswers.{four}
 use Rattle.desk_commands.specs.declared.design.FileSource.{FileSource}
 use Rattle.desk_commands.specs.declared.files.Refusal.{Refusal}
 use Rattle.desk_commands.specs.declared.files.Refusal.TheVariants.{Absent, TooLong, Rule}

@@ -5,7 +5,7 @@ use Rattle.scan_model.specs.ScanTest.{ScanTest}
 use Rattle.scan_model.specs.LogText.{log_frame}
 use Rattle.scan_model.specs.DieReport.{different}
 use Rattle.two_frame.specs.TwoFrame.{frame_report}
-use Rattle.chain_compactor.specs.Channels.{Compactor}
+use Rattle.compact_points.specs.Channels.{Compactor}
 use Rattle.chain_compactor.specs.CompactLog.{compact_frame}
 use Rattle.chain_compactor.specs.CompactReport.{compact_report}
 use Rattle.command_words.specs.Invocations.{Request}

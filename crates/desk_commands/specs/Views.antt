@@ -11,7 +11,7 @@ use Rattle.scan_model.specs.PatternText.{pattern_reading}
 use Rattle.scan_model.specs.LogText.{log_frame}
 use Rattle.scan_model.specs.DieReport.{different}
 use Rattle.two_frame.specs.TwoFrame.{launch_frame, frame_report}
-use Rattle.chain_compactor.specs.Channels.{Compactor}
+use Rattle.compact_points.specs.Channels.{Compactor}
 use Rattle.chain_compactor.specs.ChannelText.{channel_reading}
 use Rattle.chain_compactor.specs.CompactLog.{compact_frame}
 use Rattle.chain_compactor.specs.CompactReport.{compact_report}

@@ -5,8 +5,8 @@ use Rattle.desk_outside.specs.declared.shelf.File.{File}
 use Rattle.scan_model.specs.LogText.{LogFrame, log_frame, log_reading}
 use Rattle.scan_model.specs.DieReport.{die_report}
 use Rattle.diag_report.specs.Summary.{summary_text}
+use Rattle.design_bundle.specs.Bundle.{bundle_text}
 use Rattle.diagnosis.specs.Texts.{ReadTexts, value, one_text, and_then, by_rules, source_reading}
-use Rattle.diagnosis.specs.Bundle.{bundle_text}
 use Rattle.desk_commands.specs.declared.files.Refusal.{Refusal}
 use Rattle.desk_commands.specs.declared.files.Refusal.TheVariants.{Absent, TooLong, Rule}
 use Rattle.command_words.specs.Invocations.{DesignNames, Request}

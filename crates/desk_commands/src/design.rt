@@ -2,8 +2,8 @@
 ghost use Rattle.std.specs.Prelude.{◌≡◌, ◌≤◌, List, Some, Ok, IfOk, true};
 ghost use Rattle.desk_outside.specs.declared.shelf.File.{File};
 ghost use Rattle.desk_outside.specs.Faults.{Rose};
+ghost use Rattle.design_bundle.specs.FourTexts.{four};
 ghost use Rattle.diagnosis.specs.Bundle.{texts_reading};
-ghost use Rattle.diagnosis.specs.ReaderAnswers.{four};
 ghost use Rattle.diagnosis.specs.TextHalts.{ComesTo};
 ghost use Rattle.desk_commands.specs.Designs.{shown_design};
 ghost use Rattle.desk_commands.specs.FileReadings.{name_of};

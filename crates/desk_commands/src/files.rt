@@ -15,7 +15,7 @@ use text_parts::{ReadFault, TextFault};
 pub const FILE_LIMIT: u64 = 16_777_216;
 
 /// Why a file doesn't serve.
-#[derive(Clone, Copy, PartialEq, Eq)]
+#[derive(Clone, Copy)]
 pub enum Refusal {
     /// No file has the name.
     Absent,

@@ -1,15 +1,15 @@
 -- One more connection that was served.
-use Rattle.std.proofs.Common.{◌≡◌, ℕ, ◌+◌, ◌-◌, ◌<◌, ◌≤◌, ◌==◌, not, Bool, true, false, List, [], ◌∷◌, ◌++◌, Option, Some, None, refl, sym, ap, subst, ◌∙◌, arith, append-nil, append_assoc, length-append}
+use Rattle.std.proofs.Common.{◌≡◌, ℕ, ◌+◌, ◌-◌, ◌≤◌, ◌==◌, not, Bool, true, false, List, [], ◌∷◌, ◌++◌, Option, Some, refl, sym, ap, subst, ◌∙◌, arith, append-nil, append_assoc, length-append}
 use Rattle.std.specs.Prelude.{if◌then◌else◌, flat_map}
 use Rattle.std.specs.Io.KnownBytes.{append_known}
 use Rattle.std.proofs.lemmas.Bool.{ne_eqb}
 use Rattle.desk_outside.specs.Faults.{Rose}
 use Rattle.desk_outside.specs.Doors.{DoorTold, handed, came_home}
 use Rattle.desk_outside.specs.declared.door.LinkHome.{LinkHome}
-use Rattle.desk_http.specs.declared.sessions.requests.SessionEnd.{SessionEnd}
-use Rattle.desk_http.specs.Seats.{SeatFacts}
+use Rattle.final_replies.specs.declared.ends.SessionEnd.{SessionEnd}
+use Rattle.desk_answers.specs.Seats.{SeatFacts}
 use Rattle.desk_http.specs.Sessions.{text, IsSession}
-use Rattle.desk_http.proofs.SeatSteps.{did_on}
+use Rattle.desk_answers.proofs.SeatSteps.{did_on}
 use Rattle.desk_http.specs.ServedConnections.{DidSome, is_unserved, IsServed, AreServed, with_served, Serves}
 
 -- ---- a door

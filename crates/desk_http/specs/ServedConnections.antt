@@ -2,10 +2,10 @@
 use Rattle.std.specs.Prelude.{◌≡◌, ◌+◌, ℕ, Bool, true, false, if◌then◌else◌, List, [], ◌∷◌, ◌++◌, length, Option, Some}
 use Rattle.desk_outside.specs.declared.door.LinkHome.{LinkHome}
 use Rattle.desk_outside.specs.Doors.{DoorTold}
-use Rattle.desk_http.specs.declared.sessions.requests.SessionEnd.{SessionEnd}
-use Rattle.desk_http.specs.declared.sessions.requests.SessionEnd.TheVariants.{Closed, Ended, Cut, LinkFault, NoMemory}
+use Rattle.final_replies.specs.declared.ends.SessionEnd.{SessionEnd}
+use Rattle.final_replies.specs.declared.ends.SessionEnd.TheVariants.{Closed, Ended, Cut, LinkFault, NoMemory}
 use Rattle.desk_outside.specs.declared.deed.Deed.{Deed}
-use Rattle.desk_http.specs.Seats.{SeatFacts, Did}
+use Rattle.desk_answers.specs.Seats.{SeatFacts, Did}
 use Rattle.desk_http.specs.Sessions.{IsSession}
 
 -- what a seat did, whatever it was

@@ -1,12 +1,9 @@
-//! The desk over HTTP: the routes and answers of requests, and sessions.
+//! The desk over HTTP: the sessions of connections over a seat, and the names of what they are made of.
 #![tactic(auto)]
 
-mod answers;
-mod routes;
 mod sessions;
 
-pub use answers::signoff::{BodyFault, sign_body};
-pub use answers::{Request, answer};
+pub use desk_answers::{BodyFault, Request, Resource, Routes, SeatAt, answer, sign_body};
 pub use desk_heads::{
     BodyRead, Head, HeadFault, HeadRead, HeadSeen, Inbox, Method, read_head, read_to,
 };
@@ -16,10 +13,8 @@ pub use desk_replies::{
     no_memory, sign_off_body, sign_off_line, text_fault_body, unknown_fault_body,
     unknown_line_body, unknown_pattern_body, unknown_revision_body, unknown_sign_body,
 };
+pub use final_replies::SessionEnd;
 pub use report_cache::{ReportCache, WholeReport};
-pub use routes::Routes;
-pub use routes::resource::Resource;
 pub use sessions::desk_session::{serve_door, session};
-pub use sessions::requests::{SessionEnd, SessionNote, session_at};
-pub use sessions::seat::SeatAt;
+pub use sessions::requests::{SessionNote, session_at};
 pub use sessions::serve::{Served, serve_door_at};

@@ -9,10 +9,10 @@ use Rattle.desk_outside.specs.Doors.{DoorTold, fresh_door}
 use Rattle.shared_desk.specs.Entries.{mine_of}
 use Rattle.shared_desk.specs.Seats.{DeskFacts, SeatFacts as DeskSeatFacts, failed}
 use Rattle.shared_desk.specs.Starting.{fresh_seat, HasOwn}
-use Rattle.desk_http.specs.Seats.{SeatFacts, Did}
-use Rattle.desk_http.specs.DeskSeats.{of_desk}
+use Rattle.desk_answers.specs.Seats.{SeatFacts, Did}
+use Rattle.desk_answers.specs.DeskSeats.{of_desk}
 use Rattle.desk_http.specs.ServedConnections.{AreServed, Serves}
-use Rattle.desk_http.proofs.SeatSteps.{did_nothing, did_on}
+use Rattle.desk_answers.proofs.SeatSteps.{did_nothing, did_on}
 use Rattle.desk_serve.specs.HomeDoors.{replied_deeds, replied_faults, IsServedBy, AreServedBy}
 use Rattle.desk_serve.specs.Doors.{IsFreshDoor, Tells, has_failed, told_or_fresh, home_of}
 use Rattle.desk_serve.specs.Work.{Work, HasWorked, AllWorked}

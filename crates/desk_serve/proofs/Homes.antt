@@ -11,7 +11,7 @@ use Rattle.desk_outside.specs.Doors.{fresh_door}
 use Rattle.desk_outside.specs.Streets.{StreetTold}
 use Rattle.shared_desk.specs.Seats.{DeskFacts, SeatFacts as DeskSeatFacts, failed}
 use Rattle.shared_desk.specs.Starting.{fresh_seat, HasOwn}
-use Rattle.desk_http.proofs.SeatSteps.{prefix_same}
+use Rattle.desk_answers.proofs.SeatSteps.{prefix_same}
 use Rattle.desk_serve.specs.HomeDoors.{IsServedBy, AreServedBy}
 use Rattle.desk_serve.specs.Doors.{DoorFacts, IsFreshDoor, Tells, has_failed, told_or_fresh, home_of, with_doors_out, with_doors_home}
 use Rattle.desk_serve.specs.Work.{Work, HasWorked, AllWorked, any_failed, any_unserved}

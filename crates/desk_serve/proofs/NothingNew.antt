@@ -6,7 +6,7 @@ use Rattle.std.proofs.Math.Seq.{drop-append_seam, drop-length}
 use Rattle.desk_outside.specs.declared.deed.Deed.{Deed}
 use Rattle.shared_desk.specs.Seats.{DeskFacts}
 use Rattle.shared_desk.specs.Starting.{fresh_seat, HasOwn}
-use Rattle.desk_http.specs.Seats.{IsPrefix}
+use Rattle.desk_answers.specs.Seats.{IsPrefix}
 
 -- a deed of a number is among those of the number
 first_of : (deed : Deed) (deeds : List Deed) → filter (λ (d : Deed). d.by == deed.by) (deed ∷ deeds) ≡ deed ∷ filter (λ (d : Deed). d.by == deed.by) deeds

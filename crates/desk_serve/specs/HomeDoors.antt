@@ -3,7 +3,7 @@ use Rattle.std.specs.Prelude.{◌≡◌, ◌+◌, ◌==◌, ℕ, List, [], ◌�
 use Rattle.desk_outside.specs.declared.deed.Deed.{Deed}
 use Rattle.desk_outside.specs.declared.door.LinkHome.{LinkHome}
 use Rattle.desk_outside.specs.declared.street.DoorHome.{DoorHome}
-use Rattle.desk_http.specs.Seats.{IsPrefix, SeatFacts}
+use Rattle.desk_answers.specs.Seats.{IsPrefix, SeatFacts}
 use Rattle.desk_http.specs.Sessions.{own_deeds, turn_deeds, turn_failures}
 use Rattle.desk_http.specs.ServedConnections.{AreServed}
 

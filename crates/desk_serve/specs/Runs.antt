@@ -8,7 +8,7 @@ use Rattle.desk_outside.specs.Faults.{Rose}
 use Rattle.desk_outside.specs.Streets.{StreetTold}
 use Rattle.desk_outside.specs.Cabinets.{CabinetTold, keeper_handed, keeper_home}
 use Rattle.book.specs.LegalDeeds.{is_legal, spoiled_row}
-use Rattle.desk_http.specs.Seats.{IsPrefix}
+use Rattle.desk_answers.specs.Seats.{IsPrefix}
 use Rattle.desk_serve.specs.declared.ending.Ending.{Ending}
 use Rattle.desk_serve.specs.declared.ending.Ending.TheVariants.{Done, SinkFault, StoreFault, NoMemory, Spoiled, StreetFault}
 use Rattle.desk_serve.specs.declared.serving.ServiceOrder.{ServiceOrder}

@@ -5,7 +5,7 @@ use Rattle.desk_outside.specs.Doors.{DoorTold}
 use Rattle.desk_outside.specs.Faults.{Rose}
 use Rattle.shared_desk.specs.Seats.{DeskFacts, SeatFacts}
 use Rattle.desk_http.specs.declared.sessions.serve.Served.{Served}
-use Rattle.desk_http.specs.DeskSeats.{of_desk, IsSeatOf}
+use Rattle.desk_answers.specs.DeskSeats.{of_desk, IsSeatOf}
 use Rattle.desk_http.specs.ServedConnections.{Serves, DidSome}
 use Rattle.report_cache.specs.Truth.{CacheFacts, IsTrueFor}
 use Rattle.desk_serve.specs.declared.ending.Ending.{Ending}

@@ -9,9 +9,10 @@ use Rattle.scan_model.specs.NetlistText.{netlist_reading}
 use Rattle.scan_model.specs.ScanText.{scan_reading}
 use Rattle.scan_model.specs.PatternText.{pattern_frame, pattern_reading}
 use Rattle.bridge_pairs.specs.PairText.{pairs_reading}
+use Rattle.design_bundle.specs.FourTexts.{FourTexts}
 use Rattle.diagnosis.specs.declared.section.Section.{Section}
 use Rattle.diagnosis.specs.declared.section.Section.TheVariants.{Netlist as NetlistText, Scan, Patterns, Neighbours}
-use Rattle.diagnosis.specs.Texts.{FourTexts, ReadTexts, Reading, value, at_name, beside, by_rules, go_on, with_circuit, with_chains, with_patterns, source_reading}
+use Rattle.diagnosis.specs.Texts.{ReadTexts, Reading, value, at_name, beside, by_rules, go_on, with_circuit, with_chains, with_patterns, source_reading}
 use Rattle.diagnosis.specs.Bundle.{texts_source, texts_reading}
 
 pub record AreRead (texts : FourTexts) (t : ScanTest) : Type 0 where

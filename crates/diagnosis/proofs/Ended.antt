@@ -4,10 +4,10 @@ use Rattle.std.specs.List.{All, AllByRecursion}
 use Rattle.std.specs.Str.Lines.{strip_carriage_return}
 use Rattle.std.proofs.Math.Seq.{get_or-append_seam}
 use Rattle.std.proofs.lemmas.List.Elements.{All-nil, All-cons, All-head, All-tail}
-use Rattle.scan_model.specs.Lines.{text_lines}
+use Rattle.scan_model.specs.Lines.{text_lines, pieces}
 use Rattle.scan_model.specs.ReportText.{concatenated}
 use Rattle.text_parts.specs.TextEnd.{is_ended, ended}
-use Rattle.diagnosis.specs.Bundle.{is_mark, pieces}
+use Rattle.design_bundle.specs.Bundle.{is_mark}
 use Rattle.diagnosis.proofs.LineEnds.{HasNoEnd, with_ends, with_end, with_ends-append, in_lines, lines-with_ends, pieces-with_ends}
 
 with_end-is_ended : (bs : List ℕ) → is_ended (with_end bs) ≡ true

@@ -11,7 +11,7 @@ use Rattle.scan_model.specs.NetlistText.{circuit_in, third_rule, netlist_reading
 use Rattle.scan_model.specs.ScanText.{scan_rule, chains_of, scan_reading}
 use Rattle.scan_model.specs.PatternText.{PatternFrame, pattern_frame, pattern_rule, patterns_of, pattern_reading}
 use Rattle.text_parts.specs.TextEnd.{ended}
-use Rattle.diagnosis.specs.Texts.{FourTexts}
+use Rattle.design_bundle.specs.FourTexts.{FourTexts}
 use Rattle.diagnosis.specs.Bundle.{texts_reading}
 use Rattle.diagnosis.proofs.Ended.{ended_twice}
 use Rattle.diagnosis.proofs.LastLine.{ended_lines}

@@ -8,10 +8,11 @@ use Rattle.text_parts.specs.ReadResults.{Fails, Gives}
 use Rattle.scan_model.specs.declared.parts.Chain.{Chain}
 use Rattle.scan_model.specs.declared.parts.Pattern.{Pattern}
 use Rattle.scan_model.specs.Netlist.{Netlist}
+use Rattle.design_bundle.specs.FourTexts.{FourTexts}
 use Rattle.diagnosis.specs.declared.section.BundleFault.{BundleFault}
 use Rattle.diagnosis.specs.declared.section.BundleFault.TheVariants as fault
 use Rattle.diagnosis.specs.declared.texts.TextReading.{TextReading}
-use Rattle.diagnosis.specs.Texts.{FourTexts, ReadTexts, Reading, Place, Source, go_on, and_then, one_text, beside, by_rules, read_text, with_patterns, with_chains, with_circuit, source_reading, scan_text, pattern_text, neighbour_text}
+use Rattle.diagnosis.specs.Texts.{ReadTexts, Reading, Place, Source, go_on, and_then, one_text, beside, by_rules, read_text, with_patterns, with_chains, with_circuit, source_reading, scan_text, pattern_text, neighbour_text}
 use Rattle.diagnosis.specs.TextHalts.{Halt, refused, failed, no_memory, halt_at, HaltsAt, HaltsAs, ComesTo}
 use Rattle.diagnosis.specs.ReadDesigns.{IsReading, shown_text}
 use Rattle.diagnosis.specs.Bundle.{texts_source, texts_reading}

@@ -1,6 +1,4 @@
 pub mod Percents
-pub mod Pieces
-pub mod BundleRests
 pub mod LineMarks
 pub mod MarkedLines
 pub mod FieldPercents
@@ -20,7 +18,6 @@ pub mod EndedReadings
 pub mod Markers
 pub mod Packed
 pub mod PackedReads
-pub mod BundleFaults
 pub mod DifferentTexts
 pub mod Cases
 pub mod Views

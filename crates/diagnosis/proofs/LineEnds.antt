@@ -5,9 +5,8 @@ use Rattle.std.specs.Str.Lines.{strip_carriage_return, lines_of_parts}
 use Rattle.std.proofs.lemmas.Bool.Decides.{nat_tests}
 use Rattle.std.proofs.lemmas.List.Elements.{All-nil, All-cons, All-head, All-tail}
 use Rattle.std.proofs.lemmas.List.Splits.{slice_split_at, length-slice_split}
-use Rattle.scan_model.specs.Lines.{text_lines}
+use Rattle.scan_model.specs.Lines.{text_lines, pieces}
 use Rattle.text_parts.specs.TextEnd.{is_ended}
-use Rattle.diagnosis.specs.Bundle.{pieces}
 
 abbrev pub HasNoEnd : List ℕ → Type 0
 HasNoEnd line = All (λ b. eqb b 10 ≡ false) line

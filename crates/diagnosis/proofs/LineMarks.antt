@@ -7,9 +7,9 @@ use Rattle.std.proofs.lemmas.Bool.{eqb-true, ne_eqb, cond_both, or_parts}
 use Rattle.std.proofs.lemmas.List.{length-map, get_or-map}
 use Rattle.std.proofs.lemmas.List.Elements.{All-nil, All-cons, All-tail}
 use Rattle.std.proofs.lemmas.List.Splits.{length-slice_split}
-use Rattle.scan_model.specs.Lines.{text_lines}
+use Rattle.scan_model.specs.Lines.{text_lines, pieces}
 use Rattle.text_parts.specs.TextEnd.{is_ended, ended}
-use Rattle.diagnosis.specs.Bundle.{is_mark, pieces}
+use Rattle.design_bundle.specs.Bundle.{is_mark}
 use Rattle.diagnosis.proofs.Percents.{has_percent}
 
 abbrev later : List Bool → List Bool

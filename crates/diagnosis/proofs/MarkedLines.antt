@@ -16,7 +16,7 @@ use Rattle.scan_model.specs.NetlistRules.{is_no_form, forms_of, defined_names, o
 use Rattle.scan_model.specs.ScanText.{chain_of, chains_before, cells_in, titles_in, scan_rules, scan_rule}
 use Rattle.scan_model.specs.PatternText.{pattern_frame, kind_of, pattern_lines, pattern_rules, pattern_rule}
 use Rattle.scan_model.proofs.FaultSteps.{fault_from-clean}
-use Rattle.diagnosis.specs.Bundle.{is_mark}
+use Rattle.design_bundle.specs.Bundle.{is_mark}
 
 -- such a line begins with `%` outside its comment too
 outside_comment : (line : List ℕ) → is_mark line ≡ true → (bs : List ℕ) × (without_comment line ≡ 37 ∷ bs)

@@ -8,7 +8,7 @@ use Rattle.std.proofs.lemmas.Bool.Decides.{nat_tests}
 use Rattle.std.proofs.lemmas.List.Elements.{All-head, All-tail, filter-append}
 use Rattle.scan_model.specs.TextFaults.{fault_from}
 use Rattle.scan_model.specs.declared.rules.TheConstants.{WRONG_MARK}
-use Rattle.diagnosis.specs.Bundle.{is_mark, markers, marker_after, bundle_rule}
+use Rattle.design_bundle.specs.Bundle.{is_mark, markers, marker_after, bundle_rule}
 
 abbrev pub IsUnmarked : List (List ℕ) → Type 0
 IsUnmarked ls = All (λ line. is_mark line ≡ false) ls

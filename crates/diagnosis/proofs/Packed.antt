@@ -7,12 +7,13 @@ use Rattle.std.proofs.lemmas.List.Splits.{slice_split-cons_yes, slice_split_at, 
 use Rattle.scan_model.specs.declared.fault.Profile.{Profile}
 use Rattle.scan_model.specs.declared.fault.Profile.TheVariants.{One, Two}
 use Rattle.scan_model.specs.ScanTest.{ScanTest}
-use Rattle.scan_model.specs.Lines.{text_lines, line_at}
+use Rattle.scan_model.specs.Lines.{text_lines, line_at, pieces}
 use Rattle.scan_model.specs.TextFaults.{first_fault}
 use Rattle.scan_model.specs.ReportText.{concatenated}
 use Rattle.text_parts.specs.TextEnd.{is_ended, ended}
-use Rattle.diagnosis.specs.Texts.{FourTexts}
-use Rattle.diagnosis.specs.Bundle.{is_mark, pieces, sections, texts_in, bundle_rule, marks_fault, profile_line, profile_of, behind_line, marked_part, lines_on, lines_before, bundle_fault, bundle_texts, marked_text, named_text, bundle_text, texts_reading, refused_or_read, bundle_reading}
+use Rattle.design_bundle.specs.FourTexts.{FourTexts}
+use Rattle.design_bundle.specs.Bundle.{is_mark, sections, texts_in, bundle_rule, marks_fault, profile_line, profile_of, behind_line, marked_part, lines_on, lines_before, bundle_fault, bundle_texts, marked_text, named_text, bundle_text}
+use Rattle.diagnosis.specs.Bundle.{texts_reading, refused_or_read, bundle_reading}
 use Rattle.diagnosis.proofs.Ended.{ended-is_ended, lines_behind, pieces_behind, concatenated_pieces, unmarked_lines}
 use Rattle.diagnosis.proofs.EndedReadings.{ended_texts, ended_read}
 use Rattle.diagnosis.proofs.AreUnmarked.{AreUnmarked}

@@ -1,8 +1,9 @@
 -- The bundle of four texts that stand for a scan test stands for the same.
 use Rattle.std.proofs.Common.{◌≡◌, Ok}
 use Rattle.scan_model.specs.ScanTest.{ScanTest}
-use Rattle.diagnosis.specs.Texts.{FourTexts}
-use Rattle.diagnosis.specs.Bundle.{bundle_text, texts_reading, bundle_reading}
+use Rattle.design_bundle.specs.FourTexts.{FourTexts}
+use Rattle.design_bundle.specs.Bundle.{bundle_text}
+use Rattle.diagnosis.specs.Bundle.{texts_reading, bundle_reading}
 use Rattle.diagnosis.proofs.Unmarked.{unmarked}
 use Rattle.diagnosis.proofs.Packed.{unmarked_reads}
 

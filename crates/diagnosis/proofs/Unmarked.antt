@@ -7,7 +7,7 @@ use Rattle.scan_model.specs.declared.parts.Pattern.{Pattern}
 use Rattle.scan_model.specs.declared.parts.Pairs.{Pairs}
 use Rattle.scan_model.specs.Netlist.{Netlist}
 use Rattle.scan_model.specs.ScanTest.{ScanTest}
-use Rattle.scan_model.specs.Lines.{text_lines}
+use Rattle.scan_model.specs.Lines.{text_lines, pieces}
 use Rattle.scan_model.specs.TextFaults.{first_fault}
 use Rattle.scan_model.specs.NetlistRules.{first_rule, second_rule, early_fault}
 use Rattle.scan_model.specs.NetlistText.{third_rule, netlist_fault, netlist_reading, circuit_of}
@@ -15,8 +15,9 @@ use Rattle.scan_model.specs.ScanText.{net_names, scan_fault, scan_reading, chain
 use Rattle.scan_model.specs.PatternText.{pattern_frame, pattern_fault, pattern_reading, patterns_of}
 use Rattle.text_parts.specs.TextEnd.{ended}
 use Rattle.bridge_pairs.specs.PairText.{records_in, pairs_in, pairs_fault, pairs_reading, parted}
-use Rattle.diagnosis.specs.Texts.{FourTexts}
-use Rattle.diagnosis.specs.Bundle.{is_mark, pieces, texts_reading}
+use Rattle.design_bundle.specs.FourTexts.{FourTexts}
+use Rattle.design_bundle.specs.Bundle.{is_mark}
+use Rattle.diagnosis.specs.Bundle.{texts_reading}
 use Rattle.diagnosis.proofs.LineMarks.{unmarked_pieces, plain_pieces}
 use Rattle.diagnosis.proofs.MarkedLines.{unmarked_netlist, unmarked_scan, unmarked_patterns}
 use Rattle.diagnosis.proofs.NetNames.{plain_net_names}

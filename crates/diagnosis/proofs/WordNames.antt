@@ -28,8 +28,9 @@ use Rattle.bench_reader.proofs.CircuitOfLines.{names_after, length-nets_after}
 use Rattle.bench_reader.proofs.NamesDiffer.{number_in_range, outputs_all, outputs_none}
 use Rattle.bench_reader.proofs.SecondRound.{two_rounds, none_passes}
 use Rattle.diag_report.specs.PredictedLog.{is_word_name, HasWordNames}
-use Rattle.diagnosis.specs.Texts.{FourTexts}
-use Rattle.diagnosis.specs.Bundle.{bundle_texts, bundle_fault, texts_reading, refused_or_read, bundle_reading}
+use Rattle.design_bundle.specs.FourTexts.{FourTexts}
+use Rattle.design_bundle.specs.Bundle.{bundle_texts, bundle_fault}
+use Rattle.diagnosis.specs.Bundle.{texts_reading, refused_or_read, bundle_reading}
 use Rattle.diagnosis.proofs.AreRead.{are_read}
 use Rattle.diagnosis.proofs.NoFaults.{no_fault, neither}
 use Rattle.diagnosis.proofs.NetNames.{are_words, words_defined}

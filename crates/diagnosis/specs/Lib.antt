@@ -1,9 +1,8 @@
--- The spec modules: bundles and their readings, designs, dies and cases.
+-- The spec modules: the texts of designs and what bundles stand for, designs, dies and cases.
 pub mod Texts
 pub mod TextHalts
 pub mod ReadDesigns
 pub mod Bundle
-pub mod BundleRest
 pub mod Sections
 pub mod ReaderAnswers
 pub mod Designs

@@ -4,12 +4,12 @@ use Rattle.text_parts.specs.declared.fault.ReadFault.{ReadFault}
 use Rattle.scan_model.specs.declared.fault.Profile.{Profile}
 use Rattle.scan_model.specs.Netlist.{Netlist}
 use Rattle.scan_model.specs.ScanTest.{scan_test}
+use Rattle.design_bundle.specs.FourTexts.{four}
 use Rattle.diagnosis.specs.declared.texts.TextReading.{TextReading}
 use Rattle.diagnosis.specs.declared.texts.TestReadings.{TestReadings}
 use Rattle.diagnosis.specs.declared.texts.ReadDesign.{ReadDesign}
 use Rattle.diagnosis.specs.Texts.{ReadTexts}
 use Rattle.diagnosis.specs.TextHalts.{Halt}
-use Rattle.diagnosis.specs.ReaderAnswers.{four}
 
 abbrev pub shown_text : {T X : Type 0} → (T → List ℕ) → TextReading T X → List ℕ × X
 shown_text shows j = (shows j.text, j.value)

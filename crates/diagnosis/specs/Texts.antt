@@ -10,16 +10,9 @@ use Rattle.scan_model.specs.NetlistText.{netlist_reading}
 use Rattle.scan_model.specs.ScanText.{scan_reading}
 use Rattle.scan_model.specs.PatternText.{pattern_frame, pattern_reading}
 use Rattle.bridge_pairs.specs.PairText.{pairs_reading}
+use Rattle.design_bundle.specs.FourTexts.{FourTexts}
 
--- the four texts of a design, and its profile
-pub record FourTexts : Type 0 where
-  pub profile : Profile
-  pub netlist : List ℕ
-  pub scan : List ℕ
-  pub patterns : List ℕ
-  pub neighbours : List ℕ
-
--- with the scan test that they stand for
+-- the four texts of a design, and the scan test that they stand for
 pub record ReadTexts : Type 0 where
   pub texts : FourTexts
   pub test : ScanTest

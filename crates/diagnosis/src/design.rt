@@ -3,16 +3,18 @@ ghost use Rattle.std.specs.Prelude.{◌≡◌, ◌^◌, ◌<◌, length, true, O
 ghost use Rattle.sha2.specs.Sha256.{sha256};
 ghost use Rattle.scan_model.specs.Words.{is_tag};
 ghost use Rattle.scan_model.specs.Response.{expected_rows};
+ghost use Rattle.design_bundle.specs.FourTexts.{four};
+ghost use Rattle.design_bundle.specs.Bundle.{bundle_text};
+ghost use Rattle.design_bundle.specs.Sections.{four_texts};
 ghost use Rattle.diagnosis.specs.declared.section.BundleFault.{BundleFault};
-ghost use Rattle.diagnosis.specs.Bundle.{bundle_text, bundle_reading, texts_reading};
+ghost use Rattle.diagnosis.specs.Bundle.{bundle_reading, texts_reading};
 ghost use Rattle.diagnosis.specs.Designs.{IsDesign};
-ghost use Rattle.diagnosis.specs.Sections.{four_texts};
-ghost use Rattle.diagnosis.specs.ReaderAnswers.{four, RefusedBy};
+ghost use Rattle.diagnosis.specs.ReaderAnswers.{RefusedBy};
 ghost use Rattle.diag_report.specs.PredictedLog.{HasWordNames};
 
-use crate::bundle::{Sections, bundle_text, split};
 use crate::section::{BundleFault, Section};
 use crate::texts::read_texts;
+use design_bundle::{Sections, bundle_text, split};
 use expected_values::expected_at_points;
 use lane_rows::GoodRows;
 use scan_model::{Digest, Expected, Name, NoMemory, Parts, Profile};

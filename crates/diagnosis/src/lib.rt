@@ -2,7 +2,6 @@
 //! made of them.
 #![tactic(auto)]
 
-mod bundle;
 mod case;
 mod checked;
 mod design;
@@ -15,10 +14,10 @@ mod source;
 mod texts;
 mod view;
 
-pub use bundle::{Sections, bundle_text};
 pub use case::{Case, case_diagnosis, case_report};
 pub use checked::{CheckedView, check_report, make_diagnosis, make_report};
 pub use design::{Design, design_of, design_with, read_bundle};
+pub use design_bundle::{Sections, bundle_text};
 pub use diagnosed::{Diagnosis, joined_of};
 pub use log::{ReadLog, log_of, log_over};
 pub use put::Put;

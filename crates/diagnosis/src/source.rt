@@ -1,13 +1,14 @@
 //! Where the profile and the four texts of a design come from.
 ghost use Rattle.std.specs.Prelude.{◌≡◌, ◌≤◌, ℕ, List, true, false};
 ghost use Rattle.desk_outside.specs.Faults.{Rose};
+ghost use Rattle.design_bundle.specs.Sections.{four_texts};
 ghost use Rattle.diagnosis.specs.Texts.{Source};
 ghost use Rattle.diagnosis.specs.TextHalts.{Halt, IsHad, place_of, refused, no_memory, is_failure, ends_by_failure};
 ghost use Rattle.diagnosis.specs.Bundle.{texts_source};
-ghost use Rattle.diagnosis.specs.Sections.{four_texts, section_of, halt_of};
+ghost use Rattle.diagnosis.specs.Sections.{section_of, halt_of};
 
-use crate::bundle::Sections;
 use crate::section::{BundleFault, DesignText, Section};
+use design_bundle::Sections;
 use scan_model::Profile;
 use std::alloc::Global;
 use text_parts::TextFault;
@@ -97,8 +98,9 @@ impl<'a> TextSource<()> for Sections<'a> {
     type Knowledge = ();
 
     ghost use Rattle.std.specs.Prelude.{◌≡◌};
+    ghost use Rattle.design_bundle.specs.Sections.{four_texts};
     ghost use Rattle.diagnosis.specs.Bundle.{texts_source};
-    ghost use Rattle.diagnosis.specs.Sections.{four_texts, halt_of};
+    ghost use Rattle.diagnosis.specs.Sections.{halt_of};
 
     ghost shows = { λ text. text.now };
 

@@ -24,7 +24,7 @@ struct PairFlips<F> {
 }
 
 /// A bridge's nets and its kind.
-#[derive(Clone, Copy, Debug)]
+#[derive(Clone, Copy)]
 struct BridgeFault {
     a: u32,
     b: u32,

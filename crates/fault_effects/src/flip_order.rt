@@ -10,7 +10,7 @@ use scan_model::{NoMemory, Parts};
 use std::alloc::Global;
 
 /// The nets that were listed, those that were seen, and those that come next, the last of them first.
-#[derive(Debug, Drop)]
+#[derive(Drop)]
 struct Listing {
     nets: Vec<u32>,
     seen: Vec<bool>,

@@ -7,7 +7,7 @@ use scan_model::{Driver, NoMemory, Parts, PinPlace};
 use std::alloc::Global;
 
 /// By how many pins a net is read: the pin where there is one.
-#[derive(Clone, Copy, Debug)]
+#[derive(Clone, Copy)]
 pub enum Reads {
     Never,
     Once(u32),
@@ -15,7 +15,7 @@ pub enum Reads {
 }
 
 /// A gate, and the pin through which it reads a net that nothing else reads.
-#[derive(Clone, Copy, Debug)]
+#[derive(Clone, Copy)]
 pub(crate) struct SoleReader {
     pub gate: u32,
     pub pin: u32,

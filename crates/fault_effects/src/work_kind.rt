@@ -1,6 +1,6 @@
 //! The lists of work in a block.
 /// The lists of work in a block: nets that own a suspect, and suspects that none owns.
-#[derive(Clone, Copy, Debug)]
+#[derive(Clone, Copy)]
 pub enum WorkKind {
     Nets,
     Pins,

@@ -1,11 +1,11 @@
 //! A cabinet of database files.
-ghost use Rattle.std.specs.Prelude.{◌≡◌, None};
+ghost use Rattle.std.specs.Prelude.{◌≡◌, None, IfOk};
 
 use crate::form::{StoreForm, form_of, make_ready};
 use crate::keeper::{SqliteKeeper, fault_of};
 use crate::tables::next_number;
 use desk_outside::{Cabinet, KeepFault};
-use sqlite::{Connection, Error, File, FileStore};
+use sqlite::{Alter, Connection, Error, File, FileStore};
 use std::alloc::Global;
 use std::rt::HostRuntime;
 
@@ -29,7 +29,7 @@ impl SqliteCabinet {
 
 // Makes an open store ready, and answers the number of its next deed, or nothing where it is a
 // later program's.
-fn prepared(conn: &mut Connection<FileStore<File>>) -> Result<Option<i64>, Error> {
+fn prepared<S: Alter>(conn: &mut Connection<S>) -> Result<Option<i64>, Error> {
     let form = form_of(conn)?;
     if form == StoreForm::Later {
         return Ok(None);
@@ -38,19 +38,41 @@ fn prepared(conn: &mut Connection<FileStore<File>>) -> Result<Option<i64>, Error
     Ok(Some(next_number(conn)?))
 }
 
-// An open database with its tables, and the number of its next deed.
-fn opened(rt: &HostRuntime, name: &str) -> Result<(Connection<FileStore<File>>, i64), KeepFault> {
-    let mut conn = match Connection::open(rt, name) {
-        Ok(conn) => conn,
-        Err(error) => return Err(fault_of(&error)),
-    };
-    // Where it isn't made ready it is let go and not closed, since that would write into its file
-    // what is beside it.
-    match prepared(&mut conn) {
-        Ok(Some(next)) => Ok((conn, next)),
+// The number of the next deed of an open store.
+fn number_in<S: Alter>(conn: &mut Connection<S>) -> Result<i64, KeepFault> {
+    match prepared(conn) {
+        Ok(Some(next)) => Ok(next),
         Ok(None) => Err(KeepFault::Failed),
         Err(error) => Err(fault_of(&error)),
     }
+}
+
+// The database in a file.
+fn database(rt: &HostRuntime, name: &str) -> Result<Connection<FileStore<File>>, KeepFault> {
+    match Connection::open(rt, name) {
+        Ok(conn) => Ok(conn),
+        Err(error) => Err(fault_of(&error)),
+    }
+}
+
+// A keeper over a database with its tables.
+fn opened(rt: &HostRuntime, name: &str) -> Result<SqliteKeeper, KeepFault>
+    ensures { IfOk result (λ keeper. keeper.faults ≡ 0) }
+{
+    let mut conn = database(rt, name)?;
+    // Where it isn't made ready it is let go and not closed, since that would write into its file
+    // what is beside it.
+    let next = number_in(&mut conn)?;
+    Ok(SqliteKeeper {
+        conn,
+        next,
+        faults: 0,
+    })
+}
+
+// What the database wrote beside its file goes into it here; where that fails, the next opening does it.
+fn close(conn: Connection<FileStore<File>>) {
+    let _ = conn.close();
 }
 
 impl Cabinet for SqliteCabinet {
@@ -62,11 +84,7 @@ impl Cabinet for SqliteCabinet {
 
     fn keeper(&mut self, name: &str) -> Result<SqliteKeeper, KeepFault> {
         match opened(&self.rt, name) {
-            Ok((conn, next)) => Ok(SqliteKeeper {
-                conn,
-                next,
-                faults: 0,
-            }),
+            Ok(keeper) => Ok(keeper),
             Err(fault) => {
                 self.faults = self.faults.saturating_add(1);
                 Err(fault)
@@ -83,7 +101,6 @@ impl Cabinet for SqliteCabinet {
         if faults != 0 {
             self.faults = self.faults.saturating_add(1);
         }
-        // What the database wrote beside its file goes into it here; where that fails, the next opening does it.
-        let _ = conn.close();
+        close(conn);
     }
 }

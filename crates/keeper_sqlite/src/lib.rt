@@ -5,6 +5,7 @@ mod cabinet;
 mod form;
 mod keeper;
 mod reading;
+mod statements;
 mod tables;
 mod writing;
 

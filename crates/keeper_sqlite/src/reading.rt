@@ -1,10 +1,11 @@
 //! Reading of deeds by their numbers.
+use crate::statements::rows_of;
 use desk_outside::{Deed, DeedKind};
-use scan_model::{Digest, Rows};
+use scan_model::{Digest, Name, Rows};
 use sqlite::{Alter, Connection, Error, Row, params};
 
 /// Why a number gave no deed.
-#[derive(Debug, Drop)]
+#[derive(Drop)]
 pub enum ReadStop {
     /// The database refused a statement.
     Refused(Error),
@@ -27,6 +28,17 @@ fn seat_of(row: &Row, at: usize) -> Result<u32, ReadStop> {
     }
 }
 
+fn revision_of(row: &Row, at: usize) -> Result<u64, ReadStop> {
+    match u64::try_from(row.get::<i64>(at)?) {
+        Ok(revision) => Ok(revision),
+        Err(_) => Err(ReadStop::NoDeed),
+    }
+}
+
+fn bytes_of(row: &Row, at: usize) -> Result<Name, ReadStop> {
+    Ok(Rows::from_vec(row.get::<Vec<u8>>(at)?))
+}
+
 fn digest_of(bytes: &[u8]) -> Result<Digest, ReadStop> {
     match <[u8; 32]>::try_from(bytes) {
         Ok(bytes) => Ok(Digest::from_bytes(bytes)),
@@ -34,82 +46,91 @@ fn digest_of(bytes: &[u8]) -> Result<Digest, ReadStop> {
     }
 }
 
-fn design_of(row: &Row) -> Result<Deed, ReadStop> {
-    let by = seat_of(row, 0)?;
-    let name = Rows::from_vec(row.get::<Vec<u8>>(1)?);
-    let text = Rows::from_vec(row.get::<Vec<u8>>(2)?);
-    Ok(Deed {
-        by,
-        what: DeedKind::Design { name, text },
-    })
+// The two columns of bytes after the seat: the name of a design, and its text or the name of a die.
+fn both_of(row: &Row) -> Result<(Name, Name), ReadStop> {
+    let first = bytes_of(row, 1)?;
+    let second = bytes_of(row, 2)?;
+    Ok((first, second))
 }
 
-fn log_of(row: &Row) -> Result<Deed, ReadStop> {
-    let by = seat_of(row, 0)?;
-    let design = Rows::from_vec(row.get::<Vec<u8>>(1)?);
-    let die = Rows::from_vec(row.get::<Vec<u8>>(2)?);
-    let text = Rows::from_vec(row.get::<Vec<u8>>(3)?);
-    Ok(Deed {
-        by,
-        what: DeedKind::Log { design, die, text },
-    })
-}
-
-fn sign_of(row: &Row) -> Result<Deed, ReadStop> {
-    let by = seat_of(row, 0)?;
-    let design = Rows::from_vec(row.get::<Vec<u8>>(1)?);
-    let die = Rows::from_vec(row.get::<Vec<u8>>(2)?);
-    let Ok(revision) = u64::try_from(row.get::<i64>(3)?) else {
-        return Err(ReadStop::NoDeed);
+// The deed of a row of `designs`, where there is one.
+fn design_of(row: Option<&Row>) -> Result<Option<Deed>, ReadStop> {
+    let Some(row) = row else {
+        return Ok(None);
     };
-    let signer = Rows::from_vec(row.get::<Vec<u8>>(4)?);
-    let digest = digest_of(&row.get::<Vec<u8>>(5)?)?;
-    Ok(Deed {
-        by,
-        what: DeedKind::Sign {
-            design,
-            die,
-            revision,
-            signer,
-            digest,
-        },
+    let by = seat_of(row, 0)?;
+    let (name, text) = both_of(row)?;
+    let what = DeedKind::Design { name, text };
+    Ok(Some(Deed { by, what }))
+}
+
+// The deed of a row of `logs2`, where there is one.
+fn log_of(row: Option<&Row>) -> Result<Option<Deed>, ReadStop> {
+    let Some(row) = row else {
+        return Ok(None);
+    };
+    let by = seat_of(row, 0)?;
+    let (design, die) = both_of(row)?;
+    let text = bytes_of(row, 3)?;
+    let what = DeedKind::Log { design, die, text };
+    Ok(Some(Deed { by, what }))
+}
+
+// What a row of `signoffs` says after the seat.
+fn signed_of(row: &Row) -> Result<DeedKind, ReadStop> {
+    let (design, die) = both_of(row)?;
+    let revision = revision_of(row, 3)?;
+    let signer = bytes_of(row, 4)?;
+    let digest = digest_of(bytes_of(row, 5)?.as_slice())?;
+    Ok(DeedKind::Sign {
+        design,
+        die,
+        revision,
+        signer,
+        digest,
     })
+}
+
+// The deed of a row of `signoffs`, where there is one.
+fn sign_of(row: Option<&Row>) -> Result<Option<Deed>, ReadStop> {
+    let Some(row) = row else {
+        return Ok(None);
+    };
+    let by = seat_of(row, 0)?;
+    let what = signed_of(row)?;
+    Ok(Some(Deed { by, what }))
 }
 
 // The design deed of a number.
 fn design_at<S: Alter>(conn: &mut Connection<S>, n: i64) -> Result<Option<Deed>, ReadStop> {
-    let rows = conn.query_all(
-        "SELECT seat, name, body FROM designs WHERE n = ?1",
-        params![n],
-    )?;
-    match rows.first() {
-        Some(row) => Ok(Some(design_of(row)?)),
-        None => Ok(None),
-    }
+    let query = "SELECT seat, name, body FROM designs WHERE n = ?1";
+    let rows = rows_of(conn, query, params![n])?;
+    design_of(rows.first())
 }
 
 // The log deed of a number.
 fn log_at<S: Alter>(conn: &mut Connection<S>, n: i64) -> Result<Option<Deed>, ReadStop> {
-    let rows = conn.query_all(
-        "SELECT seat, design, die, body FROM logs2 WHERE n = ?1",
-        params![n],
-    )?;
-    match rows.first() {
-        Some(row) => Ok(Some(log_of(row)?)),
-        None => Ok(None),
-    }
+    let query = "SELECT seat, design, die, body FROM logs2 WHERE n = ?1";
+    let rows = rows_of(conn, query, params![n])?;
+    log_of(rows.first())
 }
 
 // The sign-off deed of a number.
 fn sign_at<S: Alter>(conn: &mut Connection<S>, n: i64) -> Result<Option<Deed>, ReadStop> {
-    let rows = conn.query_all(
-        "SELECT seat, design, die, revision, signer, digest FROM signoffs WHERE n = ?1",
-        params![n],
-    )?;
-    match rows.first() {
-        Some(row) => Ok(Some(sign_of(row)?)),
-        None => Ok(None),
+    let query = "SELECT seat, design, die, revision, signer, digest FROM signoffs WHERE n = ?1";
+    let rows = rows_of(conn, query, params![n])?;
+    sign_of(rows.first())
+}
+
+// The one that is there of two at most.
+fn one_of(first: Option<Deed>, second: Option<Deed>) -> Result<Option<Deed>, ReadStop> {
+    if second.is_none() {
+        return Ok(first);
     }
+    if first.is_none() {
+        return Ok(second);
+    }
+    Err(ReadStop::NoDeed)
 }
 
 /// The deed of a number, sought in the three tables.
@@ -117,10 +138,5 @@ pub fn deed_at<S: Alter>(conn: &mut Connection<S>, n: i64) -> Result<Option<Deed
     let design = design_at(conn, n)?;
     let log = log_at(conn, n)?;
     let sign = sign_at(conn, n)?;
-    match (design, log, sign) {
-        (found, None, None) => Ok(found),
-        (None, found, None) => Ok(found),
-        (None, None, found) => Ok(found),
-        _ => Err(ReadStop::NoDeed),
-    }
+    one_of(one_of(design, log)?, sign)
 }

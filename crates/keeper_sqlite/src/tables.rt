@@ -1,5 +1,6 @@
 //! The tables of a store. The number of a deed, from 0, runs over three of them together:
 //! `designs`, `logs2` and `signoffs`.
+use crate::statements::rows_of;
 use sqlite::{Alter, Connection, Error, Transaction, params};
 
 const TABLES: &str =
@@ -16,7 +17,7 @@ pub fn make_tables<S: Alter>(change: &mut Transaction<'_, S>) -> Result<(), Erro
 
 // The greatest number of a table, by its query.
 fn greatest<S: Alter>(conn: &mut Connection<S>, query: &str) -> Result<Option<i64>, Error> {
-    let rows = conn.query_all(query, params![])?;
+    let rows = rows_of(conn, query, params![])?;
     match rows.first() {
         Some(row) => row.get::<Option<i64>>(0),
         None => Ok(None),

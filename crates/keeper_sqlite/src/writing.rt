@@ -1,4 +1,5 @@
 //! Writing of deeds, each in a transaction of its own.
+use crate::statements::run;
 use desk_outside::{Deed, DeedKind};
 use scan_model::{Digest, Name};
 use sqlite::{Alter, Connection, Error, ErrorCode, params};
@@ -10,11 +11,11 @@ fn insert_design<S: Alter>(
     name: &Name,
     text: &Name,
 ) -> Result<(), Error> {
-    conn.execute(
+    run(
+        conn,
         "INSERT INTO designs (n, seat, name, body) VALUES (?1, ?2, ?3, ?4)",
         params![n, seat, name.as_slice(), text.as_slice()],
-    )?;
-    Ok(())
+    )
 }
 
 // The log is one of this program, in `version`.
@@ -26,11 +27,11 @@ fn insert_log<S: Alter>(
     die: &Name,
     text: &Name,
 ) -> Result<(), Error> {
-    conn.execute(
+    run(
+        conn,
         "INSERT INTO logs2 (n, seat, design, die, body, version) VALUES (?1, ?2, ?3, ?4, ?5, 2)",
         params![n, seat, design.as_slice(), die.as_slice(), text.as_slice()],
-    )?;
-    Ok(())
+    )
 }
 
 // A sign-off's fields.
@@ -49,7 +50,8 @@ fn insert_sign<S: Alter>(
     seat: u32,
     sign: &SignFields<'_>,
 ) -> Result<(), Error> {
-    conn.execute(
+    run(
+        conn,
         "INSERT INTO signoffs (n, seat, design, die, revision, signer, digest) VALUES (?1, ?2, ?3, ?4, ?5, ?6, ?7)",
         params![
             n,
@@ -60,8 +62,7 @@ fn insert_sign<S: Alter>(
             sign.signer.as_slice(),
             sign.digest.as_bytes().as_slice()
         ],
-    )?;
-    Ok(())
+    )
 }
 
 /// Writes a deed under a number. A revision that is no number of the database is refused as one out of its range.

@@ -1,8 +1,8 @@
 -- What the whole text comes to, from what the texts that are made stand for.
 use Rattle.std.proofs.Common.{◌≡◌, ℕ, List, Result, Ok, Err, sym, ap, subst, ◌∙◌}
 use Rattle.scan_model.specs.ScanTest.{ScanTest}
+use Rattle.design_bundle.specs.FourTexts.{FourTexts}
 use Rattle.diagnosis.specs.declared.section.Section.{Section}
-use Rattle.diagnosis.specs.Texts.{FourTexts}
 use Rattle.diagnosis.specs.Bundle.{texts_reading}
 use Rattle.made_designs.specs.MadeTexts.{BreakNoRule, made_texts}
 use Rattle.made_designs.specs.Demo.{demo_written, text_over}

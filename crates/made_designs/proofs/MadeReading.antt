@@ -10,8 +10,8 @@ use Rattle.scan_model.specs.NetlistText.{netlist_reading, net_number}
 use Rattle.scan_model.specs.ScanText.{numbered, scan_reading, net_names}
 use Rattle.scan_model.specs.PatternText.{PatternFrame, pattern_frame, pattern_reading}
 use Rattle.bridge_pairs.specs.PairText.{pairs_reading}
+use Rattle.design_bundle.specs.FourTexts.{FourTexts}
 use Rattle.diagnosis.specs.declared.section.Section.{Section}
-use Rattle.diagnosis.specs.Texts.{FourTexts}
 use Rattle.diagnosis.specs.Bundle.{texts_reading}
 use Rattle.diagnosis.proofs.AreRead.{read_whole}
 use Rattle.scan_model.specs.declared.fault.Profile.TheVariants.{One}

@@ -6,9 +6,8 @@ use Rattle.scan_model.specs.Universe.{universe}
 use Rattle.scan_model.specs.ReportText.{line, concatenated}
 use Rattle.diag_report.specs.PredictedLog.{fault_of, predicted_log, predicted_facts}
 use Rattle.diag_report.specs.Summary.{count_line}
-use Rattle.diagnosis.specs.Texts.{FourTexts}
+use Rattle.design_bundle.specs.FourTexts.{FourTexts, four}
 use Rattle.scan_model.specs.declared.fault.Profile.TheVariants.{One}
-use Rattle.diagnosis.specs.ReaderAnswers.{four}
 use Rattle.diagnosis.specs.Designs.{ReadLogFacts, StandsOver}
 use Rattle.diagnosis.specs.Cases.{CaseFacts}
 use Rattle.made_designs.specs.declared.design.MadeDesign.{MadeDesign}

@@ -1,6 +1,6 @@
 -- The texts of the design that the generator makes, and the draw that comes after them.
 use Rattle.std.specs.Prelude.{◌≡◌, ℕ, Ok}
-use Rattle.diagnosis.specs.Texts.{FourTexts}
+use Rattle.design_bundle.specs.FourTexts.{FourTexts}
 use Rattle.diagnosis.specs.Bundle.{texts_reading}
 use Rattle.scan_model.specs.ScanTest.{ScanTest}
 use Rattle.scan_model.specs.declared.fault.Profile.TheVariants.{One}

@@ -2,7 +2,7 @@
 ghost use Rattle.std.specs.Prelude.{◌≡◌, ◌≤◌, IfOk};
 ghost use Rattle.made_laws.specs.Draws.{state_after};
 ghost use Rattle.made_designs.specs.MadeTexts.{BreakNoRule, made_texts, text_draws};
-ghost use Rattle.diagnosis.specs.ReaderAnswers.{four};
+ghost use Rattle.design_bundle.specs.FourTexts.{four};
 ghost use Rattle.scan_model.specs.declared.fault.Profile.TheVariants as profile;
 
 use crate::draws::Draws;

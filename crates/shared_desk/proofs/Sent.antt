@@ -12,7 +12,7 @@ use Rattle.book.specs.contracts.book.Book as book
 use Rattle.shared_desk.specs.contracts.open_book.OpenBook as open_book
 use Rattle.book.specs.contracts.state.BookState as kept
 use Rattle.diagnosis.specs.contracts.log.ReadLog as log
-use Rattle.book.specs.contracts.sign.Sign as sign
+use Rattle.die_entries.specs.contracts.sign.Sign as sign
 use Rattle.diagnosis.specs.contracts.design.Design as design
 
 log_send : IsSend log.the_row

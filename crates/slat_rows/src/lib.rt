@@ -1,4 +1,4 @@
-//! Worked rows of the patterns that single faults explain, and small designs beside the definition written out.
+//! Tests of the patterns that single faults explain: small designs beside the definition written out.
 #![tactic(auto)]
 
 #[cfg(test)]

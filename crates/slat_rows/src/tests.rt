@@ -1,5 +1,5 @@
-//! The tests: rows known from outside, and the definition written out.
+//! The tests: explained patterns beside their definition written out.
 mod designs;
 mod dies;
-mod rows;
-mod written_out;
+mod patterns;
+mod trials;

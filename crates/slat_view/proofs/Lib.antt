@@ -6,7 +6,6 @@ pub mod Tables
 mod PinTables
 mod Listed
 mod Ranges
-mod Carries
 mod Trying
 mod BlockFits
 pub mod FittingCandidates

@@ -1,14 +1,14 @@
 -- Sums over places that don't agree with a fault, and over lanes.
-use Rattle.std.proofs.Common.{◌≡◌, ◌≢◌, ℕ, zero, suc, ◌+◌, ◌*◌, ◌<◌, ◌≤◌, Bool, true, false, not, cond, eqb, ◌&&◌, ◌||◌, List, [], ◌∷◌, length, take, get_or, refl, sym, ap, ◌∙◌, inl, inr, arith}
+use Rattle.std.proofs.Common.{◌≡◌, ◌≢◌, ℕ, zero, suc, ◌+◌, ◌*◌, ◌<◌, ◌≤◌, Bool, true, false, not, cond, eqb, ◌&&◌, ◌||◌, List, [], ◌∷◌, refl, sym, ap, ◌∙◌, inl, inr, arith}
 use Rattle.std.specs.Prelude.{sum_by, count_by}
 use Rattle.std.specs.List.{list_any, range_with_len}
 use Rattle.std.proofs.lemmas.Bool.{cases_Bool, cases_eq, eq-eqb, ne_eqb}
 use Rattle.std.proofs.lemmas.List.FromFn.{length-range_with_len}
-use Rattle.std.proofs.lemmas.List.Sums.{sum_by-cons, sum_by-le, sum_by-append, sum_by_more}
+use Rattle.std.proofs.lemmas.List.Sums.{sum_by-cons, sum_by-le, sum_by-append}
 use Rattle.fault_universe.proofs.BitSteps.{range_more}
 use Rattle.lane_rows.specs.Lanes.{lane, count_lanes}
 use Rattle.lane_rows.proofs.LaneCounts.{count_lanes_is}
-use Rattle.slat_view.specs.Sliced.{one, rows_with}
+use Rattle.pattern_fits.specs.Sliced.{one}
 use Rattle.slat_view.specs.Places.{bad}
 
 -- none passes where their number is 0
@@ -130,10 +130,6 @@ one_less f k a (suc n) low high =
       | inl here ↦ let at : f a ≡ f k = ap f here in omega (arith, first, at)
       | inr other ↦ omega (arith, first, one_less f k (a + 1) n (omega arith) (omega arith))
     ]
-
--- one row more
-pub rows_more : (rows : List (List ℕ)) (i j : ℕ) (d : List ℕ) → i < length rows → rows_with (take (i + 1) rows) j ≡ rows_with (take i rows) j + one (lane (get_or rows i d) j)
-rows_more rows i j d lt = sum_by_more (λ (r : List ℕ). one (lane r j)) rows i d lt
 
 -- one number more
 pub one_more : (f : ℕ → ℕ) (n : ℕ) → sum_by f (range_with_len 0 (n + 1)) ≡ sum_by f (range_with_len 0 n) + f n

@@ -1,5 +1,5 @@
 -- What tables of points and lanes come to, as numbers in lanes.
-use Rattle.std.proofs.Common.{◌≡◌, ◌≢◌, ℕ, ◌+◌, ◌^◌, ◌<◌, ◌≤◌, Bool, true, false, not, cond, eqb, ◌&&◌, ◌||◌, List, length, refl, sym, ap, ◌∙◌, arith}
+use Rattle.std.proofs.Common.{◌≡◌, ◌≢◌, ℕ, ◌+◌, ◌-◌, ◌^◌, ◌<◌, ◌≤◌, Bool, true, false, not, cond, eqb, ◌&&◌, ◌||◌, List, length, refl, sym, ap, ◌∙◌, arith}
 use Rattle.std.specs.Prelude.{sum_by}
 use Rattle.std.specs.List.{list_any, range_with_len}
 use Rattle.std.proofs.Math.Bool.{and_comm}
@@ -15,8 +15,9 @@ use Rattle.match_counts.specs.Flips.{row_on, point_row_at, list_on}
 use Rattle.match_counts.specs.Tables.{HasTable}
 use Rattle.match_counts.proofs.Sums.{sum_agree}
 use Rattle.slat_view.specs.Places.{bad}
-use Rattle.slat_view.specs.Sliced.{one, rows_with}
+use Rattle.pattern_fits.specs.Sliced.{one, rows_with}
 use Rattle.slat_view.specs.Trials.{any_failing, is_against_at, any_against, bad_in, agrees_in}
+use Rattle.pattern_fits.proofs.Shown.{none_against}
 use Rattle.slat_view.proofs.PlaceSums.{none_passes, same_sum, one_lane, one_lane_both, told, told_less, few_places, one_changed, one_less}
 use Rattle.slat_view.proofs.Disagreeing.{against_masked, against_both, against_none}
 
@@ -46,16 +47,21 @@ module _ (rows : List PointRow) (shown : FlipRows) (c : Table) (has : HasTable r
   pub passing_few : rows_with shown.passing.items j ≤ length rows
   passing_few = omega (arith, shown_with rows shown c has Passing j lt, few_places (λ q. c q j && lane (point_row_at rows q).passing j) (length rows))
 
-  pub bad_shown : (less more : ℕ) → less + rows_with shown.failing.items j ≡ bad_in rows no_places j → more ≡ less + rows_with shown.passing.items j → more ≡ bad_in rows c j
-  bad_shown less more down up =
+  bad_shown : (less : ℕ) → less + rows_with shown.failing.items j ≡ bad_in rows no_places j → bad_in rows c j ≡ less + rows_with shown.passing.items j
+  bad_shown less down =
       omega (
         arith,
         down,
-        up,
         shown_with rows shown c has Failing j lt,
         shown_with rows shown c has Passing j lt,
         told (λ q. lane (point_row_at rows q).failing j) (λ q. lane (point_row_at rows q).passing j) (λ q. c q j) 0 (length rows),
       )
+
+  -- no point is against where each Failing bit is shown and no Passing bit is
+  pub clear_shown : (total : ℕ) → total ≡ bad_in rows no_places j → (eqb (rows_with shown.failing.items j) total && eqb (rows_with shown.passing.items j) 0) ≡ eqb (bad_in rows c j) 0
+  clear_shown total is =
+      let down : total - rows_with shown.failing.items j + rows_with shown.failing.items j ≡ total = omega (arith, is, failing_less) in
+      sym (none_against (total - rows_with shown.failing.items j) total (rows_with shown.failing.items j) (rows_with shown.passing.items j) (bad_in rows c j) down (bad_shown (total - rows_with shown.failing.items j) (down ∙ is)))
 
 -- ---- a place shows another row
 

@@ -21,10 +21,11 @@ use Rattle.fault_effects.specs.FaultModel.{point_model, fails_in}
 use Rattle.match_counts.specs.Flips.{point_row_at}
 use Rattle.log_rows.specs.PointRows.{ArePointRows}
 use Rattle.diag_report.specs.PredictedLog.{fault_of}
-use Rattle.slat_view.specs.declared.fit.Fit.{Fit}
+use Rattle.pattern_fits.specs.declared.fit.Fit.{Fit}
 use Rattle.slat_view.specs.Slat.{pattern_bits, is_failing_pattern, is_against, fits}
 use Rattle.slat_view.specs.Tests.{fitting_among}
-use Rattle.slat_view.specs.Trials.{any_failing, is_against_at, any_against, fits_in, places_in, AreFits}
+use Rattle.pattern_fits.specs.FitPlaces.{places_in}
+use Rattle.slat_view.specs.Trials.{any_failing, is_against_at, any_against, fits_in, AreFits}
 use Rattle.slat_view.proofs.Tables.{none_bad}
 use Rattle.slat_view.proofs.Ranges.{any_same, any_and, any_map}
 

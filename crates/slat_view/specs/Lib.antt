@@ -1,9 +1,9 @@
 -- The specs of patterns that one fault explains.
 pub mod Slat
 pub mod Places
-pub mod Sliced
 pub mod Trials
 pub mod Straight
+pub mod FitWork
 pub mod SameTables
 pub mod Tests
 pub mod SlatText

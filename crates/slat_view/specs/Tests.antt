@@ -16,7 +16,7 @@ use Rattle.slat_view.specs.declared.slat.Slat.{Slat}
 use Rattle.slat_view.specs.declared.tested.Tested.{Tested}
 use Rattle.slat_view.specs.declared.tested.BlockFits.{BlockFits}
 use Rattle.slat_view.specs.Slat.{is_failing_pattern, is_explained, fits, fitting_places, slat_count}
-use Rattle.slat_view.specs.Trials.{places_in}
+use Rattle.pattern_fits.specs.FitPlaces.{places_in}
 
 -- rows and joined logs are of the test, the suspects are faults of it, each in the group of its owner, and each net that owns one is listed
 pub record IsPrepared (t : ScanTest) (x : Prepared) : Type 0 where

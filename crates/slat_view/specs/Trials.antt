@@ -1,5 +1,5 @@
 -- Faults that are tried in a block of 512 patterns.
-use Rattle.std.specs.Prelude.{◌≡◌, ℕ, ◌<◌, List, [], map, filter, length, sum_by, All, Bool, not, ◌&&◌, ◌||◌, ◌==◌, slice_index_or}
+use Rattle.std.specs.Prelude.{◌≡◌, ℕ, ◌<◌, List, [], filter, length, sum_by, All, Bool, not, ◌&&◌, ◌||◌, ◌==◌, slice_index_or}
 use Rattle.std.specs.List.{list_any, range_with_len}
 use Rattle.scan_model.specs.declared.fault.Fault.{Fault}
 use Rattle.scan_model.specs.ScanTest.{ScanTest}
@@ -10,9 +10,10 @@ use Rattle.fault_effects.specs.declared.share.Share.{Share}
 use Rattle.fault_effects.specs.FaultModel.{Table, point_model, fails_in}
 use Rattle.match_counts.specs.Flips.{point_row_at}
 use Rattle.diag_report.specs.PredictedLog.{fault_of}
-use Rattle.slat_view.specs.declared.fit.Fit.{Fit}
+use Rattle.pattern_fits.specs.declared.fit.Fit.{Fit}
+use Rattle.pattern_fits.specs.Sliced.{value}
+use Rattle.pattern_fits.specs.FitPlaces.{places_in}
 use Rattle.slat_view.specs.Places.{bad}
-use Rattle.slat_view.specs.Sliced.{value}
 
 -- some point has a Failing bit in lane j
 abbrev pub any_failing : List PointRow → ℕ → Bool
@@ -55,10 +56,6 @@ no_share = record { suspect = 0; part = [] }
 
 abbrev pub lanes_at : List (List ℕ) → ℕ → List ℕ
 lanes_at table i = slice_index_or table i []
-
--- the places of the fits that have lane j
-abbrev pub places_in : List Fit → ℕ → List ℕ
-places_in fits j = map (λ f. f.place) (filter (λ f. lane f.lanes j) fits)
 
 -- in each lane, the fits are of those of the places whose faults fit
 abbrev pub AreFits : ScanTest → List PointRow → ℕ → List ℕ → List Fit → Type 0

@@ -3,10 +3,10 @@ use Rattle.std.specs.Prelude.{◌≡◌, ◌/◌, ◌%◌, ◌<◌, ℕ, List, [
 use Rattle.std.specs.Option.{option_map_or}
 use Rattle.scan_model.specs.declared.logs.LogFacts.{LogFacts}
 use Rattle.scan_model.specs.ScanTest.{ScanTest}
-use Rattle.slat_view.specs.declared.fit.Fit.{Fit}
+use Rattle.pattern_fits.specs.declared.fit.Fit.{Fit}
 use Rattle.slat_view.specs.declared.whole.WholeSlat.{WholeSlat}
 use Rattle.slat_view.specs.Slat.{failing_patterns, slat_rows, fitting_places}
-use Rattle.slat_view.specs.Trials.{places_in}
+use Rattle.pattern_fits.specs.FitPlaces.{places_in}
 
 -- the places of the faults that fit a pattern, by the fits of each block
 abbrev pub places_at : List (List Fit) → ℕ → List ℕ

@@ -3,11 +3,11 @@ ghost use Rattle.std.specs.Prelude.{◌≡◌, ℕ, ◌<◌, ◌&&◌, ◌||◌,
 ghost use Rattle.lane_rows.specs.Lanes.{lane};
 
 use crate::fits::Fits;
-use crate::lane_counter::LaneCounter;
 use fault_effects::ChainObserver;
 use lane_rows::Row;
 use log_rows::PointRow;
 use packed_sim::Scratch;
+use pattern_fits::LaneCounter;
 use scan_model::{CellKind, NoMemory};
 use std::alloc::Global;
 

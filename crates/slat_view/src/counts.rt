@@ -7,13 +7,14 @@ ghost use Rattle.slat_view.specs.Tests.{IsTested, IsBlockOf, IsSlatUpTo, HaveAll
 ghost use Rattle.slat_view.specs.Whole.{IsWholeOf, kept_fits};
 
 use crate::kept_fits::{MOST_FITS, with_block};
-use crate::places::count_with;
 use crate::slat::{Slat, SlatCount};
 use crate::tested::{BlockFits, Tested};
 use crate::whole::WholeSlat;
 use fault_universe::universe_len;
+use pattern_fits::count_with;
 use scan_model::{NoMemory, Parts, Rows};
 use std::alloc::Global;
+use std::thread::Threads;
 
 /// Counts one more pattern: whether it is failing, and how many faults fit it.
 fn add_pattern(slat: &mut Slat, pattern: u32, fails: bool, faults: u32) -> Result<(), NoMemory>
@@ -59,7 +60,11 @@ fn add_block(
 }
 
 /// The counts of all patterns, with the fits of each block.
-pub(crate) fn whole_of(alloc: Global, tested: &Tested<'_>) -> Result<WholeSlat, NoMemory>
+pub(crate) fn whole_of<R: Threads>(
+    rt: &R,
+    alloc: Global,
+    tested: &Tested<'_>,
+) -> Result<WholeSlat, NoMemory>
     requires { IsTested tested.now }
     ensures whole { (logs : List LogFacts) → StandsFor logs tested.now.die.now.joined → HaveAllFits tested.now.parts.now logs (places_of tested.now.die.now.suspects) → IfOk result (IsWholeOf tested.now.parts.now logs) }
     ensures few { IfOk result (λ whole. kept_fits whole ≤ MOST_FITS) }
@@ -72,7 +77,7 @@ pub(crate) fn whole_of(alloc: Global, tested: &Tested<'_>) -> Result<WholeSlat, 
     let mut blocks = Some(Rows::new(alloc));
     let mut count: usize = 0;
     for block in 0..patterns.div_ceil(512) {
-        let tried = tested.block(alloc, block)?;
+        let tried = tested.block(rt, alloc, block)?;
         let end = (512 * block + 512).min(patterns);
         add_block(&mut slat, tested.parts, block, end, &tried)?;
         let BlockFits { fits, .. } = tried;

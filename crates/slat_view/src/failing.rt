@@ -4,9 +4,9 @@ ghost use Rattle.lane_rows.specs.Lanes.{lane};
 ghost use Rattle.fault_effects.specs.FaultModel.{no_places};
 ghost use Rattle.slat_view.specs.Trials.{any_failing, AreBad};
 
-use crate::lane_counter::LaneCounter;
 use lane_rows::Row;
 use log_rows::PointRow;
+use pattern_fits::LaneCounter;
 use scan_model::NoMemory;
 use std::alloc::Global;
 

@@ -5,9 +5,9 @@ ghost use Rattle.fault_effects.specs.FaultModel.{Table, no_places};
 ghost use Rattle.match_counts.specs.Tables.{HasTable};
 ghost use Rattle.slat_view.specs.Trials.{any_failing, AreBad, AreClear};
 
-use crate::lane_counter::LaneCounter;
 use lane_rows::Row;
 use match_counts::{FlipRows, PointCounts};
+use pattern_fits::{LaneCounter, clear_lanes};
 use scan_model::NoMemory;
 use std::alloc::Global;
 
@@ -37,10 +37,6 @@ impl Fits<'_> {
         ensures { IfOk result (λ lanes. (c : Table) → HasTable self.now.points.rows.now shown.now c → AreClear self.now.points.rows.now lanes c) }
     {
         let _ = self.points.parts.points();
-        let mut against = LaneCounter::make(self.alloc)?;
-        against.set(&self.totals);
-        against.sub_rows(&shown.failing);
-        against.add_rows(&shown.passing);
-        Ok(against.zeros())
+        clear_lanes(self.alloc, &self.totals, &shown.failing, &shown.passing)
     }
 }

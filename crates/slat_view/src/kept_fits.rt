@@ -2,7 +2,7 @@
 ghost use Rattle.std.specs.Prelude.{◌≡◌, ◌≤◌, ◌++◌, ◌∷◌, [], OnSome};
 ghost use Rattle.std.specs.Option.{option_map};
 
-use crate::fit::Fit;
+use pattern_fits::Fit;
 use scan_model::Rows;
 
 /// How many fits of a die are kept at most, 2^18 of 72 bytes each.

@@ -3,11 +3,12 @@ ghost use Rattle.std.specs.Prelude.{◌≡◌, ℕ, ◌++◌, ◌∷◌, ◌<◌
 ghost use Rattle.lane_rows.specs.Lanes.{lane};
 ghost use Rattle.fault_effects.specs.Owners.{places_of, suspect_at};
 ghost use Rattle.fault_effects.specs.Shares.{HasShare};
-ghost use Rattle.slat_view.specs.Trials.{places_in, lanes_at};
+ghost use Rattle.pattern_fits.specs.FitPlaces.{places_in};
+ghost use Rattle.slat_view.specs.Trials.{lanes_at};
 
-use crate::fit::Fit;
 use fault_effects::{Share, Suspect};
 use lane_rows::Row;
+use pattern_fits::Fit;
 use scan_model::{NoMemory, Rows};
 use std::alloc::Global;
 

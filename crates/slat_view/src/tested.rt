@@ -9,7 +9,6 @@ ghost use Rattle.slat_view.specs.Tests.{IsPrepared, IsTested, IsBlockOf};
 ghost use Rattle.slat_view.specs.Trials.{any_failing, AreFits};
 
 use crate::failing::{failing_counts, failing_lanes};
-use crate::fit::Fit;
 use crate::fits::Fits;
 use crate::prepared::Prepared;
 use crate::shares::list_fits;
@@ -18,8 +17,10 @@ use fault_effects::BlockWork;
 use lane_rows::Row;
 use log_rows::{PointRow, rows_of_points};
 use match_counts::PointCounts;
+use pattern_fits::Fit;
 use scan_model::{Expected, NoMemory, Parts, Rows};
 use std::alloc::Global;
+use std::thread::Threads;
 
 /// A die with logs: the parts of its design with their fault-free responses, and what is made for its suspects.
 #[derive(Clone, Copy)]
@@ -37,7 +38,8 @@ pub(crate) struct BlockFits {
 }
 
 /// What the suspects fit in a block, by the rows of its points.
-fn fits_by<'a>(
+fn fits_by<'a, R: Threads>(
+    rt: &R,
     alloc: Global,
     parts: &'a Parts,
     die: &'a Prepared,
@@ -77,13 +79,18 @@ fn fits_by<'a>(
         suspects,
         owners: &die.owners,
     };
-    let shares = block_parts(alloc, &work, &die.nets)?;
+    let shares = block_parts(rt, alloc, &work, &die.nets)?;
     list_fits(alloc, suspects, shares.as_slice())
 }
 
 impl Tested<'_> {
     /// Tries the suspects in a block of 512 patterns. Where no pattern is failing that costs the reading of the logs alone.
-    pub(crate) fn block(&self, alloc: Global, block: u32) -> Result<BlockFits, NoMemory>
+    pub(crate) fn block<R: Threads>(
+        &self,
+        rt: &R,
+        alloc: Global,
+        block: u32,
+    ) -> Result<BlockFits, NoMemory>
         requires tested { IsTested self.now }
         requires block { block < length self.now.die.now.good.rows }
         requires small { block < 2 ^ 16 }
@@ -96,7 +103,15 @@ impl Tested<'_> {
             return Ok(BlockFits { failing, fits });
         }
         let rows = rows.as_slice();
-        let fits = fits_by(alloc, self.parts, self.die, block as usize, rows, failing)?;
+        let fits = fits_by(
+            rt,
+            alloc,
+            self.parts,
+            self.die,
+            block as usize,
+            rows,
+            failing,
+        )?;
         Ok(BlockFits { failing, fits })
     }
 }

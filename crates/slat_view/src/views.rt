@@ -6,21 +6,21 @@ ghost use Rattle.slat_view.specs.Slat.{failing_patterns, slat_rows, fitting_plac
 ghost use Rattle.slat_view.specs.Whole.{IsWholeOf, kept_fits};
 
 use crate::counts::whole_of;
-use crate::places::places_with;
 use crate::prepared::Prepared;
 use crate::slat::Slat;
 use crate::tested::Tested;
 use crate::whole::WholeSlat;
 use diagnosis::{DieView, joined_of};
+use pattern_fits::places_with;
 use scan_model::{NoMemory, Rows};
 use std::alloc::Global;
 use std::thread::Threads;
 
 /// The counts of a die, with the faults that fit each pattern, where these are no more than 2^18 in all blocks of 512 patterns.
-/// Only faults that can explain the first and the last Failing bit of some pattern are tried, a block at a time: one flip
-/// serves all faults of a net.
+/// Only faults that can explain the first and the last Failing bit of some pattern are tried, a block at a time, those of the
+/// logic beside those of the chains: one flip serves all faults of a net.
 pub fn whole_slat<R: Threads + Sync>(
-    _rt: &R,
+    rt: &R,
     alloc: Global,
     view: &DieView,
 ) -> Result<WholeSlat, NoMemory>
@@ -37,7 +37,7 @@ pub fn whole_slat<R: Threads + Sync>(
         expected,
         die: &die,
     };
-    whole_of(alloc, &tested)
+    whole_of(rt, alloc, &tested)
 }
 
 /// How many patterns of a die are failing, and which of them single faults explain, each with the number of faults that fit.
@@ -56,7 +56,7 @@ pub fn slat_counts<R: Threads + Sync>(
 /// The places of the faults that fit a pattern, rising: none where it isn't failing. Each is a candidate of the report over the
 /// same logs. That costs the block of 512 patterns that has it.
 pub fn slat_places<R: Threads + Sync>(
-    _rt: &R,
+    rt: &R,
     alloc: Global,
     view: &DieView,
     pattern: u32,
@@ -76,6 +76,6 @@ pub fn slat_places<R: Threads + Sync>(
         expected,
         die: &die,
     };
-    let tried = tested.block(alloc, pattern / 512)?;
+    let tried = tested.block(rt, alloc, pattern / 512)?;
     places_with(alloc, tried.fits.as_slice(), pattern % 512)
 }

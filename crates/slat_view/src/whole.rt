@@ -5,11 +5,10 @@ ghost use Rattle.diagnosis.specs.Designs.{facts_of};
 ghost use Rattle.slat_view.specs.Slat.{fitting_places};
 ghost use Rattle.slat_view.specs.Whole.{places_at, IsWholeOf};
 
-use crate::fit::Fit;
-use crate::places::places_with;
 use crate::slat::Slat;
 use crate::views::slat_places;
 use diagnosis::DieView;
+use pattern_fits::{Fit, places_with};
 use scan_model::{NoMemory, Rows};
 use std::alloc::Global;
 use std::thread::Threads;

@@ -1,5 +1,6 @@
-//! The tests: frames, slow nets and counts, beside the definition written out.
-mod cases;
-mod counted;
+//! The tests: fails and counts of all transition faults, beside the definition written out.
+mod counts;
+mod design;
+mod fails;
 mod frames;
 mod slow;

@@ -8,24 +8,23 @@ use Rattle.scan_model.specs.Suspect.{observed_net}
 use Rattle.scan_model.proofs.counting.Shown.{observed_net-in_range, point_at-IsPoint}
 use Rattle.scan_model.specs.NetValue.{values_of, nothing_forced}
 use Rattle.lane_rows.specs.declared.block.Block.{Block}
-use Rattle.lane_rows.specs.Planes.{Planes, held}
-use Rattle.lane_rows.specs.Sources.{lane_values, no_planes}
+use Rattle.lane_rows.specs.Planes.{Planes}
+use Rattle.lane_rows.specs.Sources.{lane_values}
 use Rattle.lane_rows.specs.GoodRows.{pattern_of, no_block}
 use Rattle.lane_rows.specs.Stimuli.{AreRowsOf, captures}
 use Rattle.packed_sim.specs.Belongs.{observed_at}
-use Rattle.two_frame.specs.TwoFrame.{second_source}
-use Rattle.two_frame.specs.FrameRows.{second_stimuli, AllCapture}
-use Rattle.two_frame.proofs.NextFrame.{captured}
+use Rattle.frame_rows.specs.Frames.{second_source}
+use Rattle.frame_rows.specs.SecondRows.{second_stimuli}
+use Rattle.two_frame.specs.FrameRows.{AllCapture}
+use Rattle.two_frame.proofs.Captures.{captured}
 
--- the rows of a block that was read
+-- a block that was read
+pub block_read : (rows blocks : List Block) (d : Block) (b : ℕ) → blocks ≡ rows → b < length rows → get_or blocks b d ≡ get_or rows b no_block
+block_read rows blocks d b blocks_are lt = ap (λ (bs : List Block). get_or bs b d) blocks_are ∙ get_or_default rows b d no_block lt
+
+-- its rows
 pub values_read : (rows blocks : List Block) (d : Block) (values : List Planes) (b : ℕ) → blocks ≡ rows → values ≡ (get_or blocks b d).values → b < length rows → values ≡ (get_or rows b no_block).values
-values_read rows blocks d values b blocks_are values_are lt =
-    values_are ∙ ap (λ (bs : List Block). (get_or bs b d).values) blocks_are ∙ ap (λ (x : Block). x.values) (get_or_default rows b d no_block lt)
-
--- a lane of a row of it
-pub lane_read : (rows : List Block) (values : List Planes) (p : Planes) (b n j : ℕ) → values ≡ (get_or rows b no_block).values → p ≡ get_or values n p → n < length values → held p j ≡ lane_values (get_or rows b no_block).values j n
-lane_read rows values p b n j values_are is lt =
-    ap (λ (q : Planes). held q j) (is ∙ get_or_default values n p no_planes lt) ∙ ap (λ (vs : List Planes). lane_values vs j n) values_are
+values_read rows blocks d values b blocks_are values_are lt = values_are ∙ ap (λ (x : Block). x.values) (block_read rows blocks d b blocks_are lt)
 
 -- the rows of a pattern have the values of its second frame
 pub second_values : (t : ScanTest) (rows : List Block) (values : List Planes) (w : ℕ) → AreRowsOf t.netlist (second_stimuli t) rows → AllCapture t → w < length t.patterns → values ≡ (get_or rows (w / 512) no_block).values

@@ -39,7 +39,8 @@ use Rattle.packed_sim.specs.Belongs.{observed_at}
 use Rattle.match_counts.specs.Totals.{fault_in, candidates_in}
 use Rattle.match_counts.proofs.CandidateRows.{all_candidates}
 use Rattle.match_counts.proofs.Sums.{sum_agree_in, sum_zero, sum_of_map, sum_of_flat_map}
-use Rattle.two_frame.specs.TwoFrame.{second_source, frame_response, frame_rows, frame_class, frame_fails, transitions, frame_candidates}
+use Rattle.frame_rows.specs.Frames.{second_source}
+use Rattle.two_frame.specs.TwoFrame.{frame_response, frame_rows, frame_class, frame_fails, transitions, frame_candidates}
 use Rattle.two_frame.specs.FrameRows.{transition_at}
 use Rattle.two_frame.specs.FanInMarks.{IsSeen, AreReaching, reaches}
 use Rattle.two_frame.proofs.ShownFails.{stem_fails-is, gate_fails-is, pin_fails-is}

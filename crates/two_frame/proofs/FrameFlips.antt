@@ -30,11 +30,13 @@ use Rattle.packed_sim.specs.Belongs.{observed_at}
 use Rattle.fault_effects.specs.FaultModel.{FaultModel, IsFaultModel}
 use Rattle.fault_effects.proofs.SoleReader.{sole_from}
 use Rattle.fault_effects.proofs.Owned.{touched_pin, gate_kind}
-use Rattle.two_frame.specs.TwoFrame.{changes, second_source, frame_fails, net_changes, makes_transition, transitions}
+use Rattle.frame_rows.specs.Frames.{changes, second_source, net_changes}
+use Rattle.frame_rows.proofs.SecondValues.{changes_is}
+use Rattle.two_frame.specs.TwoFrame.{frame_fails, makes_transition, transitions}
 use Rattle.two_frame.specs.FrameRows.{AllCapture}
 use Rattle.two_frame.specs.FrameModel.{frame_model, goes_straight}
-use Rattle.two_frame.proofs.NextFrame.{captured}
-use Rattle.two_frame.proofs.ShownFails.{changes_is, stem_fails-is, gate_fails-is, pin_fails-is}
+use Rattle.two_frame.proofs.Captures.{captured}
+use Rattle.two_frame.proofs.ShownFails.{stem_fails-is, gate_fails-is, pin_fails-is}
 use Rattle.two_frame.proofs.TransitionPlaces.{no_bridge_in, no_cell_in}
 
 -- a site that makes the transition has the opposite of the value at which it would be stuck

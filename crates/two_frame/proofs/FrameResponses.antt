@@ -11,8 +11,9 @@ use Rattle.scan_model.specs.NetValue.{values_of, nothing_forced}
 use Rattle.scan_model.specs.Suspect.{observed_net}
 use Rattle.scan_model.proofs.counting.Shown.{point_pin-net, observed_net-in_range}
 use Rattle.log_join.specs.Joining.{JoinedBits, IsJoinedOf, FitsExpected}
-use Rattle.two_frame.specs.TwoFrame.{second_source, second_value, frame_observed, frame_response, frame_rows}
-use Rattle.two_frame.proofs.SlowStems.{none_is}
+use Rattle.frame_rows.specs.Frames.{second_source, second_value}
+use Rattle.frame_rows.proofs.SecondValues.{none_is}
+use Rattle.two_frame.specs.TwoFrame.{frame_observed, frame_response, frame_rows}
 
 -- the net that a point observes has in the second frame what the point shows
 pub net_shows : (t : ScanTest) → IsScanTest t → (order : List ℕ) → IsEvaluationOrder t.netlist order → (w : ℕ) (p : Point) → IsPoint t p

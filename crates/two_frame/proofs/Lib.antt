@@ -2,7 +2,7 @@ pub mod SlowStems
 pub mod SlowOperands
 pub mod SlowPins
 pub mod Transitions
-pub mod NextFrame
+pub mod Captures
 pub mod ShownFails
 pub mod FrameResponses
 pub mod FanInMarks

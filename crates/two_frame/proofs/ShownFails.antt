@@ -15,14 +15,16 @@ use Rattle.scan_model.specs.Netlist.{IsNetlist, is_gate, is_gate_driver, driver_
 use Rattle.scan_model.specs.Walks.{IsEvaluationOrder}
 use Rattle.scan_model.specs.ScanTest.{ScanTest, IsScanTest, HasSite, points_of, point_at}
 use Rattle.scan_model.specs.Faults.{stuck_value}
-use Rattle.scan_model.specs.NetValue.{driven, values_of, nothing_forced, good_value}
+use Rattle.scan_model.specs.NetValue.{driven, values_of, nothing_forced}
 use Rattle.scan_model.specs.Coverage.{bit_of}
 use Rattle.scan_model.specs.Masks.{flip_shows_from, mask_from, is_operand_of, place_is_point}
 use Rattle.scan_model.proofs.counting.Branches.{force_pin}
 use Rattle.scan_model.proofs.counting.Shown.{point_at-IsPoint}
 use Rattle.packed_sim.specs.Belongs.{observed_at}
-use Rattle.two_frame.specs.TwoFrame.{changes, second_source, frame_fails, net_changes, makes_transition}
-use Rattle.two_frame.proofs.SlowStems.{none_is, slow_stem_law}
+use Rattle.frame_rows.specs.Frames.{second_source, net_changes}
+use Rattle.frame_rows.proofs.SecondValues.{changes_is}
+use Rattle.two_frame.specs.TwoFrame.{frame_fails, makes_transition}
+use Rattle.two_frame.proofs.SlowStems.{slow_stem_law}
 use Rattle.two_frame.proofs.SlowOperands.{slow_operand_law}
 use Rattle.two_frame.proofs.SlowPins.{straight_law}
 use Rattle.two_frame.proofs.Transitions.{frame_fails-is, only_transitions_in}
@@ -37,16 +39,12 @@ module _ (t : ScanTest) (sound : IsScanTest t) (order : List ℕ) (ordered : IsE
   abbrev good2 : ℕ → Tri
   good2 = values_of t.netlist (second_source t w) nothing_forced
 
-  -- what the rows of both frames tell is whether the net changes
-  pub changes_is : (v : Stuck) (n : ℕ) → n < length t.netlist.nets → changes v (good_value t w n) (good2 n) ≡ net_changes t v w n
-  changes_is v n lt = ap (changes v (good_value t w n)) (sym (none_is t sound order ordered w n lt))
-
   pub stem_fails-is : (m : ℕ) (v : Stuck) (k : ℕ) → m < length t.netlist.nets → k < length (points_of t)
       → frame_fails t (fault.Stem m v) (bit_of w k) ≡ (net_changes t v w m && flip_shows_from t.netlist (second_source t w) m (observed_at t k))
   stem_fails-is m v k m_lt lt =
       frame_fails-is t (fault.Stem m v) w k lt
       ∙ slow_stem_law t sound order ordered w m v m_lt (point_at t k) (point_at-IsPoint t sound k lt)
-      ∙ ap (λ (b : Bool). b && flip_shows_from t.netlist (second_source t w) m (observed_at t k)) (changes_is v m m_lt)
+      ∙ ap (λ (b : Bool). b && flip_shows_from t.netlist (second_source t w) m (observed_at t k)) (changes_is t sound order ordered w v m m_lt)
 
   pub gate_fails-is : (q g i : ℕ) (kind : GateKind) (v : Stuck) (k : ℕ) → q < length t.netlist.pins → (pin_at t.netlist q).place ≡ place.Operand g i → driver_of t.netlist g ≡ Gate kind → k < length (points_of t)
       → frame_fails t (fault.Branch q v) (bit_of w k) ≡ ((net_changes t v w (pin_at t.netlist q).net && mask_from t.netlist (second_source t w) (fault.Branch q v) g) && flip_shows_from t.netlist (second_source t w) g (observed_at t k))
@@ -60,7 +58,7 @@ module _ (t : ScanTest) (sound : IsScanTest t) (order : List ℕ) (ordered : IsE
       ∙ sym (ap (λ (b : Bool). b && are_opposite (good2 g) (driven t.netlist (second_source t w) (force_pin q (stuck_value v)) (driver_of t.netlist g) good2 g)) own) in
       frame_fails-is t (fault.Branch q v) w k lt
       ∙ slow_operand_law t sound order ordered w q g i kind v q_lt at drives (point_at t k) (point_at-IsPoint t sound k lt)
-      ∙ ap (λ (b : Bool). b && (are_opposite (good2 g) output && shows)) (changes_is v m (net_sound.pin_nets q q_lt))
+      ∙ ap (λ (b : Bool). b && (are_opposite (good2 g) output && shows)) (changes_is t sound order ordered w v m (net_sound.pin_nets q q_lt))
       ∙ ap (λ (b : Bool). net_changes t v w m && (b && shows)) masked
       ∙ sym (and_assoc (net_changes t v w m) (mask_from t.netlist (second_source t w) (fault.Branch q v) g) shows)
 
@@ -69,7 +67,7 @@ module _ (t : ScanTest) (sound : IsScanTest t) (order : List ℕ) (ordered : IsE
   pin_fails-is q v k q_lt straight lt =
       frame_fails-is t (fault.Branch q v) w k lt
       ∙ straight_law t sound order ordered w q v q_lt (λ n i kind drives at. both_ways (is_gate t.netlist n) (straight n i at) (ap is_gate_driver drives)) (point_at t k) (point_at-IsPoint t sound k lt)
-      ∙ ap (λ (b : Bool). b && place_is_point t (pin_at t.netlist q).place (point_at t k)) (changes_is v (pin_at t.netlist q).net (net_sound.pin_nets q q_lt))
+      ∙ ap (λ (b : Bool). b && place_is_point t (pin_at t.netlist q).place (point_at t k)) (changes_is t sound order ordered w v (pin_at t.netlist q).net (net_sound.pin_nets q q_lt))
 
   -- without a transition there is no fail
   pub unlaunched : (f : Fault) → HasSite t f → makes_transition t f w ≡ false → (k : ℕ) → k < length (points_of t) → frame_fails t f (bit_of w k) ≡ false

@@ -32,8 +32,10 @@ use Rattle.scan_model.proofs.counting.OneSite.{unflipped, force_outside}
 use Rattle.scan_model.proofs.counting.BranchPins.{forced_gate_flips}
 use Rattle.scan_model.proofs.counting.Flips.{force_shows_from}
 use Rattle.scan_model.proofs.counting.Shown.{point_pin-net, observed_net-in_range, place_is_point-is}
-use Rattle.two_frame.specs.TwoFrame.{slowed, changes, second_source, frame_seen, second_driven, second_value, frame_fails_at}
-use Rattle.two_frame.proofs.SlowStems.{unmade_stays, meets, none_is}
+use Rattle.frame_rows.specs.Frames.{slowed, changes, second_source, frame_seen, second_driven, second_value}
+use Rattle.frame_rows.proofs.SecondValues.{meets, none_is}
+use Rattle.two_frame.specs.TwoFrame.{frame_fails_at}
+use Rattle.two_frame.proofs.SlowStems.{unmade_stays}
 
 -- a transition that is made has the first value
 made_stuck : (v : Stuck) (a b : Tri) → changes v a b ≡ true → slowed v a b ≡ stuck_value v

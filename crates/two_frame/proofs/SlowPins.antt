@@ -20,8 +20,10 @@ use Rattle.scan_model.specs.NetValue.{seen, driven, values_of, nothing_forced, g
 use Rattle.scan_model.specs.Masks.{point_pin, place_is_point}
 use Rattle.scan_model.proofs.counting.Valuations.{valuation_is}
 use Rattle.scan_model.proofs.counting.Shown.{not_opposite_itself, point_pin-in_range, place_is_point-is}
-use Rattle.two_frame.specs.TwoFrame.{changes, second_source, frame_seen, second_driven, second_value, frame_fails_at}
-use Rattle.two_frame.proofs.SlowStems.{slowed_flips, meets, none_is}
+use Rattle.frame_rows.specs.Frames.{changes, second_source, frame_seen, second_driven, second_value}
+use Rattle.frame_rows.proofs.SecondValues.{meets, none_is}
+use Rattle.two_frame.specs.TwoFrame.{frame_fails_at}
+use Rattle.two_frame.proofs.SlowStems.{slowed_flips}
 
 module _ (t : ScanTest) (sound : IsScanTest t) (order : List ℕ) (ordered : IsEvaluationOrder t.netlist order) (w q : ℕ) (v : Stuck) (q_lt : q < length t.netlist.pins)
     (no_gate : (n i : ℕ) (kind : GateKind) → driver_of t.netlist n ≡ Gate kind → (pin_at t.netlist q).place ≡ place.Operand n i → ⊥) where

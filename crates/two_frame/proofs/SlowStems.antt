@@ -1,6 +1,5 @@
 -- A slow stem is a flip of its net in the second frame, where it changes the transition.
-use Rattle.std.proofs.Common.{◌≡◌, ℕ, ◌<◌, Bool, true, false, cond, ◌&&◌, List, [], ◌∷◌, length, map, Option, Some, None, refl, sym, ap, ◌∙◌, inl, inr, arith}
-use Rattle.std.specs.Prelude.{Contains}
+use Rattle.std.proofs.Common.{◌≡◌, ℕ, ◌<◌, Bool, true, false, cond, ◌&&◌, List, length, Option, Some, None, refl, sym, ap, ◌∙◌, inl, inr}
 use Rattle.std.proofs.lemmas.Bool.{cases_eq, eq-eqb, ne_eqb}
 use Rattle.scan_model.specs.declared.values.Tri.{Tri}
 use Rattle.scan_model.specs.declared.values.Tri.TheVariants.{Zero, One, Unknown}
@@ -11,23 +10,23 @@ use Rattle.scan_model.specs.declared.fault.Stuck.TheVariants as stuck
 use Rattle.scan_model.specs.declared.fault.Fault.{Fault}
 use Rattle.scan_model.specs.declared.fault.Fault.TheVariants as fault
 use Rattle.scan_model.specs.declared.parts.Point.{Point}
-use Rattle.scan_model.specs.Values.{are_opposite, tri_not, gate_value}
-use Rattle.scan_model.specs.Netlist.{Netlist, IsNetlist, reads, is_gate_driver, driver_of, pin_at, operands}
+use Rattle.scan_model.specs.Values.{are_opposite, tri_not}
+use Rattle.scan_model.specs.Netlist.{IsNetlist, driver_of}
 use Rattle.scan_model.specs.Walks.{IsEvaluationOrder}
 use Rattle.scan_model.specs.ScanTest.{ScanTest, IsScanTest, IsPoint}
 use Rattle.scan_model.specs.NetValue.{driven, values_of, nothing_forced, good_value}
 use Rattle.scan_model.specs.Suspect.{observed_net}
 use Rattle.scan_model.specs.Force.{force}
 use Rattle.scan_model.specs.Masks.{flip_shows_from}
-use Rattle.scan_model.proofs.Along.{IsLocal, settled}
 use Rattle.scan_model.proofs.NetValues.{values_of-is}
 use Rattle.scan_model.proofs.FanSweeps.{reads_in_range}
-use Rattle.scan_model.proofs.Orders.{Contains-cons}
 use Rattle.scan_model.proofs.counting.Valuations.{valuation_is}
 use Rattle.scan_model.proofs.counting.Branches.{no_loop}
 use Rattle.scan_model.proofs.counting.OneSite.{unflipped, force_outside}
 use Rattle.scan_model.proofs.counting.Shown.{point_pin-net, observed_net-in_range}
-use Rattle.two_frame.specs.TwoFrame.{slowed, changes, second_source, slow_pin, slow_stem, second_driven, second_node, second_value, frame_fails_at}
+use Rattle.frame_rows.specs.Frames.{slowed, changes, second_source, second_driven, second_value}
+use Rattle.frame_rows.proofs.SecondValues.{driven_local, meets, none_is}
+use Rattle.two_frame.specs.TwoFrame.{frame_fails_at}
 
 -- ---- one site
 
@@ -69,33 +68,6 @@ slowed_flips stuck.One Unknown Unknown = refl
 pub unmade_stays : (v : Stuck) (a b : Tri) → changes v a b ≡ false → are_opposite b (slowed v a b) ≡ false
 unmade_stays v a b e = slowed_flips v a b ∙ e
 
--- ---- locality
-
-pins_agree : (h : ℕ → Tri → Tri) (net : ℕ → ℕ) (f g : ℕ → Tri) (ps : List ℕ) → ((m : ℕ) → Contains (map net ps) m → f m ≡ g m) → map (λ p. h p (f (net p))) ps ≡ map (λ p. h p (g (net p))) ps
-pins_agree h net f g [] agree = refl
-pins_agree h net f g (p ∷ ps) agree =
-    let first : f (net p) ≡ g (net p) = agree (net p) (0, omega arith, refl) in
-    let rest = pins_agree h net f g ps (λ m in'. agree m (Contains-cons (net p) (map net ps) m in')) in
-    rw (first, rest) refl
-
-module _ (t : ScanTest) (w : ℕ) where
-  abbrev c : Netlist
-  c = t.netlist
-
-  abbrev s : ℕ → Tri
-  s = second_source t w
-
-  first : ℕ → Tri
-  first = good_value t w
-
-  driven_local : (F : Option Fault) (n : ℕ) (f g : ℕ → Tri) (d : Driver) → ((m : ℕ) → is_gate_driver d ≡ true → Contains (reads t.netlist n) m → f m ≡ g m) → second_driven t F w d f n ≡ second_driven t F w d g n
-  driven_local F n f g Input agree = refl
-  driven_local F n f g Flop agree = refl
-  driven_local F n f g (Gate kind) agree = ap (gate_value kind) (pins_agree (λ p now. slow_pin F p (good_value t w (pin_at t.netlist p).net) now) (λ p. (pin_at t.netlist p).net) f g (operands t.netlist n) (λ m in'. agree m refl in'))
-
-  node_local : (F : Option Fault) → IsLocal t.netlist (second_node t F w)
-  node_local F n f g agree = ap (slow_stem F n (good_value t w n)) (driven_local F n f g (driver_of t.netlist n) agree)
-
 module _ (t : ScanTest) (sound : IsScanTest t) (order : List ℕ) (ordered : IsEvaluationOrder t.netlist order) (w : ℕ) where
   net_sound : IsNetlist t.netlist
   net_sound = sound.circuit.netlist
@@ -103,24 +75,10 @@ module _ (t : ScanTest) (sound : IsScanTest t) (order : List ℕ) (ordered : IsE
   abbrev good2 : ℕ → Tri
   good2 = values_of t.netlist (second_source t w) nothing_forced
 
-  pub meets : (F : Option Fault) (n : ℕ) → n < length t.netlist.nets → second_value t F w n ≡ second_node t F w n (second_value t F w)
-  unfolding second_value
-  meets F n lt = settled t.netlist order Unknown (second_node t F w) ordered (node_local t w F) n lt
-
-  -- without a slow pin, what drives a net is as ever
-  none_driven : (n : ℕ) (f : ℕ → Tri) (d : Driver) → driver_of t.netlist n ≡ d → second_driven t None w d f n ≡ driven t.netlist (second_source t w) nothing_forced d f n
-  none_driven n f Input is = refl
-  none_driven n f Flop is = refl
-  none_driven n f (Gate kind) is = refl
-
   stem_driven : (m : ℕ) (v : Stuck) (x : Tri) (n : ℕ) (f : ℕ → Tri) (d : Driver) → second_driven t (Some (fault.Stem m v)) w d f n ≡ driven t.netlist (second_source t w) (force m x) d f n
   stem_driven m v x n f Input = refl
   stem_driven m v x n f Flop = refl
   stem_driven m v x n f (Gate kind) = refl
-
-  pub none_is : (n : ℕ) → n < length t.netlist.nets → second_value t None w n ≡ good2 n
-  none_is n lt = valuation_is t.netlist order net_sound ordered (second_source t w) nothing_forced (second_value t None w)
-      (λ k in'. meets None k in' ∙ none_driven k (second_value t None w) (driver_of t.netlist k) refl) n lt
 
   module _ (m : ℕ) (v : Stuck) (m_lt : m < length t.netlist.nets) where
     abbrev F : Option Fault
@@ -134,7 +92,7 @@ module _ (t : ScanTest) (sound : IsScanTest t) (order : List ℕ) (ordered : IsE
     forced_own n lt = valuation_is t.netlist order net_sound ordered (second_source t w) (force m (V m)) V (λ k in'. elim (cases_eq k m) [
       | inl is ↦ rw (eq-eqb k m is) (ap V is)
       | inr other ↦
-          let at : V k ≡ second_driven t F w (driver_of t.netlist k) V k = meets F k in' ∙ ap (λ (b : Bool). cond b (slowed v (good_value t w k) (second_driven t F w (driver_of t.netlist k) V k)) (second_driven t F w (driver_of t.netlist k) V k)) (ne_eqb k m other) in
+          let at : V k ≡ second_driven t F w (driver_of t.netlist k) V k = meets t sound order ordered w F k in' ∙ ap (λ (b : Bool). cond b (slowed v (good_value t w k) (second_driven t F w (driver_of t.netlist k) V k)) (second_driven t F w (driver_of t.netlist k) V k)) (ne_eqb k m other) in
           rw (ne_eqb k m other) (at ∙ stem_driven m v (V m) k V (driver_of t.netlist k))
     ]) n lt
 
@@ -153,7 +111,7 @@ module _ (t : ScanTest) (sound : IsScanTest t) (order : List ℕ) (ordered : IsE
         free (Gate kind) = refl
 
     V_at : V m ≡ slowed v (good_value t w m) (good2 m)
-    V_at = meets F m m_lt ∙ ap (λ (b : Bool). cond b (slowed v (good_value t w m) (second_driven t F w (driver_of t.netlist m) V m)) (second_driven t F w (driver_of t.netlist m) V m)) (eq-eqb m m refl)
+    V_at = meets t sound order ordered w F m m_lt ∙ ap (λ (b : Bool). cond b (slowed v (good_value t w m) (second_driven t F w (driver_of t.netlist m) V m)) (second_driven t F w (driver_of t.netlist m) V m)) (eq-eqb m m refl)
         ∙ ap (slowed v (good_value t w m)) drives
 
     V_is : (n : ℕ) → n < length t.netlist.nets → V n ≡ values_of t.netlist (second_source t w) (force m (slowed v (good_value t w m) (good2 m))) n
@@ -169,5 +127,5 @@ module _ (t : ScanTest) (sound : IsScanTest t) (order : List ℕ) (ordered : IsE
         let lt = observed_net-in_range t sound p is_point in
         let net = point_pin-net t sound p is_point in
         ap (λ (q : ℕ). are_opposite (second_value t None w q) (V q)) net
-        ∙ ap (λ (x : Tri). are_opposite x (V o)) (none_is o lt)
+        ∙ ap (λ (x : Tri). are_opposite x (V o)) (none_is t sound order ordered w o lt)
         ∙ at_net o lt (changes v (good_value t w m) (good2 m)) refl

@@ -24,8 +24,10 @@ use Rattle.scan_model.specs.Coverage.{bit_of}
 use Rattle.scan_model.specs.Masks.{point_pin}
 use Rattle.scan_model.proofs.counting.Valuations.{valuation_is}
 use Rattle.scan_model.proofs.counting.Shown.{not_opposite_itself, point_at-IsPoint, point_pin-in_range}
-use Rattle.two_frame.specs.TwoFrame.{changes, second_source, second_driven, second_value, frame_observed, frame_fails_at, frame_value, frame_fails, net_changes, makes_transition}
-use Rattle.two_frame.proofs.SlowStems.{meets, none_is, slow_stem_law}
+use Rattle.frame_rows.specs.Frames.{changes, second_source, second_driven, second_value, net_changes}
+use Rattle.frame_rows.proofs.SecondValues.{meets, none_is}
+use Rattle.two_frame.specs.TwoFrame.{frame_observed, frame_fails_at, frame_value, frame_fails, makes_transition}
+use Rattle.two_frame.proofs.SlowStems.{slow_stem_law}
 use Rattle.two_frame.proofs.SlowOperands.{slow_operand_law}
 use Rattle.two_frame.proofs.SlowPins.{straight_law}
 

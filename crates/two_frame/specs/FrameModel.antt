@@ -10,7 +10,8 @@ use Rattle.scan_model.specs.Masks.{flip_shows_from, mask_from, place_is_point}
 use Rattle.packed_sim.specs.Belongs.{captures, observed_at}
 use Rattle.fault_effects.specs.FaultModel.{FaultModel}
 use Rattle.fault_effects.specs.PinFlips.{pin_flips_from}
-use Rattle.two_frame.specs.TwoFrame.{second_source, frame_fails, makes_transition}
+use Rattle.frame_rows.specs.Frames.{second_source}
+use Rattle.two_frame.specs.TwoFrame.{frame_fails, makes_transition}
 
 -- the pin is the one that point k sees
 abbrev pub goes_straight : ScanTest → Fault → ℕ → Bool

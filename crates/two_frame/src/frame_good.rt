@@ -1,14 +1,13 @@
 //! The fault-free rows of both frames, and room for a change of them.
 ghost use Rattle.std.specs.Prelude.{◌≡◌, ℕ, ◌<◌, true, length, IfOk};
 ghost use Rattle.lane_rows.specs.Lanes.{lane};
-ghost use Rattle.lane_rows.specs.Planes.{held};
 ghost use Rattle.lane_rows.specs.GoodRows.{pattern_of};
 ghost use Rattle.lane_rows.specs.Stimuli.{captures};
-ghost use Rattle.two_frame.specs.TwoFrame.{changes, net_changes};
+ghost use Rattle.frame_rows.specs.Frames.{net_changes};
 ghost use Rattle.two_frame.specs.FrameRows.{IsFrameGood, IsFrameScratch};
 
-use crate::second::second_rows;
-use lane_rows::{GoodRows, Packed, Row};
+use frame_rows::{launched_lanes, second_rows};
+use lane_rows::{GoodRows, Row};
 use packed_sim::{PackedGood, Scratch};
 use scan_model::{NoMemory, Parts, Stuck};
 use std::alloc::Global;
@@ -24,16 +23,6 @@ pub struct FrameGood {
 #[derive(Debug, Drop)]
 pub struct FrameScratch {
     pub(crate) scratch: Scratch,
-}
-
-/// The lanes in which a net goes from the value at which it would be stuck to the other one.
-fn changing(first: Packed, second: Packed, value: Stuck) -> Row
-    ensures { (j : ℕ) → j < 512 → lane result j ≡ changes value (held first j) (held second j) }
-{
-    match value {
-        Stuck::Zero => first.zeros().and(second.ones()),
-        Stuck::One => first.ones().and(second.zeros()),
-    }
 }
 
 impl FrameGood {
@@ -54,10 +43,9 @@ impl FrameGood {
         requires net { net < length parts.now.netlist.nets }
         ensures { (j : ℕ) → j < 512 → captures parts.now (pattern_of block j) ≡ true → lane result j ≡ net_changes parts.now value (pattern_of block j) net }
     {
-        let _ = parts.circuit().order();
-        let first = self.first.blocks()[block].values.as_slice()[net as usize];
-        let second = self.second.blocks()[block].values.as_slice()[net as usize];
-        changing(first, second, value)
+        let first = &self.first.blocks()[block];
+        let second = &self.second.blocks()[block];
+        launched_lanes(parts, first, second, net, value)
     }
 }
 

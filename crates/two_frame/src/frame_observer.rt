@@ -7,7 +7,7 @@ ghost use Rattle.lane_rows.specs.GoodRows.{pattern_of};
 ghost use Rattle.packed_sim.specs.Belongs.{captures, IsScratchOf};
 ghost use Rattle.fault_effects.specs.FaultModel.{straight_in};
 ghost use Rattle.match_counts.specs.Tables.{IsCount};
-ghost use Rattle.two_frame.specs.TwoFrame.{net_changes};
+ghost use Rattle.frame_rows.specs.Frames.{net_changes};
 ghost use Rattle.two_frame.specs.FrameRows.{IsFrameGood};
 ghost use Rattle.two_frame.specs.FrameModel.{frame_model};
 

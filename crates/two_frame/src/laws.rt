@@ -1,5 +1,5 @@
 //! Laws of transition faults, which hang on functions with nothing to run.
-ghost use Rattle.std.specs.Prelude.{◌≡◌, ◌&&◌, ℕ, ◌<◌, true, None, length, map};
+ghost use Rattle.std.specs.Prelude.{◌≡◌, ◌&&◌, ℕ, ◌<◌, true, length, map};
 ghost use Rattle.scan_model.specs.declared.circuit.Driver.TheVariants.{Gate};
 ghost use Rattle.scan_model.specs.declared.circuit.GateKind.{GateKind};
 ghost use Rattle.scan_model.specs.declared.circuit.PinPlace.TheVariants as place;
@@ -16,17 +16,10 @@ ghost use Rattle.scan_model.specs.Coverage.{bit_of};
 ghost use Rattle.scan_model.specs.Suspect.{observed_net};
 ghost use Rattle.scan_model.specs.Masks.{flip_shows_from, place_is_point};
 ghost use Rattle.scan_model.proofs.counting.Branches.{force_pin};
-ghost use Rattle.two_frame.specs.TwoFrame.{changes, second_source, second_value, frame_fails_at, frame_fails, makes_transition};
+ghost use Rattle.frame_rows.specs.Frames.{changes, second_source};
+ghost use Rattle.two_frame.specs.TwoFrame.{frame_fails_at, frame_fails, makes_transition};
 
 use scan_model::Parts;
-
-/// A law, with nothing to run: without a fault a net has in the second frame the value of the
-/// circuit under what drives that frame.
-pub fn second_frame(parts: &Parts)
-    ensures { (w n : ℕ) → n < length parts.now.netlist.nets → second_value parts.now None w n ≡ values_of parts.now.netlist (second_source parts.now w) nothing_forced n }
-{
-    let _ = parts.circuit().order();
-}
 
 /// A law, with nothing to run: a slow stem predicts a fail at a point exactly where it makes the
 /// transition and one flip of the stem over the second frame's values shows there.

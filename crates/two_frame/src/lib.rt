@@ -10,13 +10,13 @@ mod laws;
 mod names;
 mod reach;
 mod reader;
-mod second;
 mod text;
 
 pub use counts::{counts_over, frame_counts};
 pub use expected::{expected_over, frame_expected};
 pub use fails::slow_len;
 pub use frame_good::{FrameGood, FrameScratch};
-pub use laws::{only_transitions, second_frame, slow_operands, slow_pins, slow_stems};
+pub use frame_rows::second_frame;
+pub use laws::{only_transitions, slow_operands, slow_pins, slow_stems};
 pub use reader::read_two_frame;
 pub use text::frame_text;

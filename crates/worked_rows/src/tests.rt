@@ -1,9 +1,8 @@
 //! The tests, by what they call.
+mod cones;
 mod counts;
 mod designs;
 mod faults;
 mod logs;
-mod readers;
-mod responses;
-mod steps;
+mod rows;
 mod suspects;

@@ -25,7 +25,7 @@ pub(super) struct Designs {
 }
 
 impl Model for Designs {
-    ghost use Rattle.book.specs.Kinds.{arc_values};
+    ghost use Rattle.die_entries.specs.Entries.{arc_values};
     ghost use Rattle.std.specs.Arc.{arc_value};
     ghost use Rattle.std.specs.Option.{option_map};
     ghost use Rattle.book.specs.Places.{DesignsFacts, AreIndexed};

@@ -1,11 +1,11 @@
 //! A die with its logs and sign-offs.
 ghost use Rattle.std.specs.Prelude.{◌≡◌, ◌<◌, IfOk, OnOk};
 ghost use Rattle.std.specs.Arc.{arc_value};
-ghost use Rattle.book.specs.Kinds.{arc_values};
+ghost use Rattle.die_entries.specs.Entries.{arc_values};
 ghost use Rattle.book.specs.Dies.{IsSameDie, bare_die, is_die, with_log, with_sign};
 
-use crate::sign::Sign;
 use diagnosis::ReadLog;
+use die_entries::Sign;
 use scan_model::{Name, NoMemory};
 use std::alloc::Global;
 use std::marker::Model;
@@ -23,7 +23,7 @@ pub struct Die {
 
 impl Model for Die {
     ghost use Rattle.std.specs.Prelude.{◌-◌, vec_len, vec_capacity};
-    ghost use Rattle.book.specs.Kinds.{arc_values};
+    ghost use Rattle.die_entries.specs.Entries.{arc_values};
     ghost use Rattle.book.specs.Dies.{DieFacts};
 
     ghost Value = { DieFacts };

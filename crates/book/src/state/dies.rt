@@ -6,8 +6,8 @@ ghost use Rattle.book.specs.Dies.{AreSameDies, DieFacts, bare_die, die_key, is_d
 
 use super::die::Die;
 use super::places::note;
-use crate::sign::Sign;
 use diagnosis::ReadLog;
+use die_entries::Sign;
 use scan_model::NoMemory;
 use std::alloc::Global;
 use std::collections::BTreeMap;

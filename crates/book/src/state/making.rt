@@ -3,9 +3,9 @@ ghost use Rattle.std.specs.Prelude.{◌≡◌, IfOk, IfSome};
 ghost use Rattle.std.specs.Arc.{arc_value};
 ghost use Rattle.book.specs.Kinds.{design_deed, log_deed, sign_deed};
 
-use crate::sign::Sign;
 use desk_outside::{Deed, DeedKind};
 use diagnosis::{Design, ReadLog};
+use die_entries::Sign;
 use scan_model::{Name, NoMemory};
 use std::alloc::Global;
 use std::sync::Arc;

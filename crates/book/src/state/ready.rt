@@ -1,7 +1,7 @@
 //! Changes for which all memory was taken: their deeds are made, and there is room for what they add.
-use crate::sign::Sign;
 use desk_outside::Deed;
 use diagnosis::{Design, ReadLog};
+use die_entries::Sign;
 use std::sync::Arc;
 
 /// A design that may be added.

@@ -6,8 +6,9 @@ use chain_compactor::Compact;
 use fault_universe::{fault_at, universe_len};
 use good_sim::{is_fail, plain_response};
 use log_join::Joined;
-use scan_model::{Bit, BitClass, Counts, Expected, NoMemory, Parts, Point, Scored, Tri, tri_xor};
+use scan_model::{Bit, BitClass, Counts, Expected, Parts, Point, Scored, Tri, tri_xor};
 use std::alloc::Global;
+use std::process::Abort;
 
 /// A test through a compactor, what is expected there and what the logs say.
 #[derive(Clone, Copy)]
@@ -16,6 +17,39 @@ pub(crate) struct Case<'a> {
     pub(crate) compact: &'a Compact,
     pub(crate) expected: &'a Expected,
     pub(crate) joined: &'a Joined,
+}
+
+/// The values of points, or of compact points, by their numbers, and X behind the last.
+type Values = [Tri; 16];
+
+fn value_of(values: &[Tri], number: u32) -> Tri {
+    match values.get(number as usize) {
+        Some(value) => *value,
+        None => Tri::Unknown,
+    }
+}
+
+fn set(values: &mut [Tri], number: u32, value: Tri) {
+    if let Some(place) = values.get_mut(number as usize) {
+        *place = value;
+    }
+}
+
+fn values_of(list: &[Tri]) -> Values {
+    let mut values = [Tri::Unknown; 16];
+    for (number, value) in (0..).zip(list) {
+        set(&mut values, number, *value);
+    }
+    values
+}
+
+/// What the points show in a pattern under the fault at a place, or without one where no fault has it.
+fn response(rt: &impl Abort, alloc: Global, parts: &Parts, pattern: u32, place: u32) -> Values
+    requires { pattern < length parts.now.patterns }
+{
+    let fault = fault_at(parts, place);
+    let response = plain_response(alloc, parts, pattern, fault).expect(rt, "memory");
+    values_of(response.as_slice())
 }
 
 /// What a point shows, of what all points show in their order.
@@ -55,59 +89,53 @@ fn parity(parts: &Parts, compact: &Compact, response: &[Tri], channel: u32, cycl
     value
 }
 
-/// What the compact points show in a pattern under the fault at a place, or without one where no fault has it.
-fn seen(
-    alloc: Global,
-    parts: &Parts,
-    compact: &Compact,
-    pattern: u32,
-    place: u32,
-) -> Result<Vec<Tri>, NoMemory>
-    requires { pattern < length parts.now.patterns }
-{
-    let response = plain_response(alloc, parts, pattern, fault_at(parts, place))?;
-    let response = response.as_slice();
-    let mut row = Vec::new(alloc);
-    for point in compact.in_order().as_slice() {
-        row.push(match *point {
-            Point::Output { .. } => value_at(parts, response, *point),
-            Point::Cell { chain, pos } => parity(parts, compact, response, chain, pos),
-        })?;
+/// What a compact point shows, of what all points show.
+fn compacted(parts: &Parts, compact: &Compact, response: &[Tri], point: Point) -> Tri {
+    match point {
+        Point::Output { .. } => value_at(parts, response, point),
+        Point::Cell { chain, pos } => parity(parts, compact, response, chain, pos),
     }
-    Ok(row)
+}
+
+/// What the compact points show in a pattern under the fault at a place, or without one where no fault has it.
+fn seen(rt: &impl Abort, alloc: Global, case: Case<'_>, pattern: u32, place: u32) -> Values
+    requires { pattern < length case.parts.now.patterns }
+{
+    let response = response(rt, alloc, case.parts, pattern, place);
+    let mut row = [Tri::Unknown; 16];
+    for (number, point) in (0..).zip(case.compact.in_order().as_slice()) {
+        let value = compacted(case.parts, case.compact, &response, *point);
+        set(&mut row, number, value);
+    }
+    row
 }
 
 /// Whether the expected values of a pattern are those that a tester sees without a fault.
-fn is_seen(alloc: Global, case: Case<'_>, pattern: u32) -> Result<bool, NoMemory>
+fn is_seen(rt: &impl Abort, alloc: Global, case: Case<'_>, pattern: u32) -> bool
     requires test { IsJoinedOf (length case.parts.now.patterns) (length case.compact.now.points) case.joined.now }
     requires fits { FitsExpected case.expected.now case.joined.now }
     requires pattern { pattern < length case.parts.now.patterns }
 {
-    let row = seen(alloc, case.parts, case.compact, pattern, u32::MAX)?;
+    let row = seen(rt, alloc, case, pattern, u32::MAX);
     for point in 0..case.joined.points() {
-        let value = case.expected.get(&Bit { pattern, point });
-        if row.get(point as usize) != Some(&value) {
-            return Ok(false);
+        if case.expected.get(&Bit { pattern, point }) != value_of(&row, point) {
+            return false;
         }
     }
-    Ok(true)
+    true
 }
 
 /// Whether the expected values of all patterns are those that a tester sees without a fault.
-pub(crate) fn are_seen(alloc: Global, case: Case<'_>) -> Result<bool, NoMemory>
+pub(crate) fn are_seen(rt: &impl Abort, alloc: Global, case: Case<'_>) -> bool
     requires test { IsJoinedOf (length case.parts.now.patterns) (length case.compact.now.points) case.joined.now }
     requires fits { FitsExpected case.expected.now case.joined.now }
 {
     for pattern in 0..case.parts.patterns().len() as u32 {
-        if !is_seen(alloc, case, pattern)? {
-            return Ok(false);
+        if !is_seen(rt, alloc, case, pattern) {
+            return false;
         }
     }
-    Ok(true)
-}
-
-fn one_if(counted: bool) -> u64 {
-    if counted { 1 } else { 0 }
+    true
 }
 
 /// Counts with one bit more: its class, and whether the fault predicts a fail there.
@@ -115,39 +143,47 @@ fn with_bit(counts: Counts, class: BitClass, fails: bool) -> Counts {
     let failing = class == BitClass::Failing;
     let passing = class == BitClass::Passing;
     Counts {
-        tfsf: counts.tfsf.saturating_add(one_if(failing && fails)),
-        tfsp: counts.tfsp.saturating_add(one_if(failing && !fails)),
-        tpsf: counts.tpsf.saturating_add(one_if(passing && fails)),
+        tfsf: counts.tfsf.saturating_add(u64::from(failing && fails)),
+        tfsp: counts.tfsp.saturating_add(u64::from(failing && !fails)),
+        tpsf: counts.tpsf.saturating_add(u64::from(passing && fails)),
     }
+}
+
+/// Counts with the bits of a pattern more, in which points show these values without and with a fault.
+fn with_bits(case: Case<'_>, pattern: u32, good: &Values, bad: &Values, before: Counts) -> Counts
+    requires test { IsJoinedOf (length case.parts.now.patterns) (length case.compact.now.points) case.joined.now }
+    requires fits { FitsExpected case.expected.now case.joined.now }
+    requires pattern { pattern < length case.parts.now.patterns }
+{
+    let mut counts = before;
+    for point in 0..case.joined.points() {
+        let class = case.joined.class(case.expected, &Bit { pattern, point });
+        let fails = is_fail(value_of(good, point), value_of(bad, point));
+        counts = with_bit(counts, class, fails);
+    }
+    counts
 }
 
 /// The counts of the fault at a place with the bits of a pattern more.
 fn with_pattern(
+    rt: &impl Abort,
     alloc: Global,
     case: Case<'_>,
     place: u32,
     pattern: u32,
     before: Counts,
-) -> Result<Counts, NoMemory>
+) -> Counts
     requires test { IsJoinedOf (length case.parts.now.patterns) (length case.compact.now.points) case.joined.now }
     requires fits { FitsExpected case.expected.now case.joined.now }
     requires pattern { pattern < length case.parts.now.patterns }
 {
-    let good = seen(alloc, case.parts, case.compact, pattern, u32::MAX)?;
-    let bad = seen(alloc, case.parts, case.compact, pattern, place)?;
-    let mut counts = before;
-    for point in 0..case.joined.points() {
-        let class = case.joined.class(case.expected, &Bit { pattern, point });
-        let values = (good.get(point as usize), bad.get(point as usize));
-        if let (Some(good), Some(bad)) = values {
-            counts = with_bit(counts, class, is_fail(*good, *bad));
-        }
-    }
-    Ok(counts)
+    let good = seen(rt, alloc, case, pattern, u32::MAX);
+    let bad = seen(rt, alloc, case, pattern, place);
+    with_bits(case, pattern, &good, &bad, before)
 }
 
 /// The counts of the fault at a place.
-fn counts_of(alloc: Global, case: Case<'_>, place: u32) -> Result<Counts, NoMemory>
+fn counts_of(rt: &impl Abort, alloc: Global, case: Case<'_>, place: u32) -> Counts
     requires test { IsJoinedOf (length case.parts.now.patterns) (length case.compact.now.points) case.joined.now }
     requires fits { FitsExpected case.expected.now case.joined.now }
 {
@@ -157,22 +193,22 @@ fn counts_of(alloc: Global, case: Case<'_>, place: u32) -> Result<Counts, NoMemo
         tpsf: 0,
     };
     for pattern in 0..case.parts.patterns().len() as u32 {
-        counts = with_pattern(alloc, case, place, pattern, counts)?;
+        counts = with_pattern(rt, alloc, case, place, pattern, counts);
     }
-    Ok(counts)
+    counts
 }
 
-/// The rows of the faults that explain a fail.
-pub(crate) fn counts_by_definition(alloc: Global, case: Case<'_>) -> Result<Vec<Scored>, NoMemory>
+/// Whether the rows are those of the faults that explain a fail.
+pub(crate) fn are_counts(rt: &impl Abort, alloc: Global, case: Case<'_>, rows: &[Scored]) -> bool
     requires test { IsJoinedOf (length case.parts.now.patterns) (length case.compact.now.points) case.joined.now }
     requires fits { FitsExpected case.expected.now case.joined.now }
 {
-    let mut rows = Vec::new(alloc);
+    let mut left = rows.iter();
     for place in 0..universe_len(case.parts) {
-        let counts = counts_of(alloc, case, place)?;
-        if counts.tfsf > 0 {
-            rows.push(Scored { place, counts })?;
+        let counts = counts_of(rt, alloc, case, place);
+        if counts.tfsf > 0 && left.next() != Some(&Scored { place, counts }) {
+            return false;
         }
     }
-    Ok(rows)
+    left.next().is_none()
 }

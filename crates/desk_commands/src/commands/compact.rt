@@ -5,9 +5,10 @@ ghost use Rattle.desk_outside.specs.Faults.{Rose};
 ghost use Rattle.scan_model.specs.declared.logs.LogFacts.{LogFacts};
 ghost use Rattle.log_join.specs.Joining.{StandsFor, IsJoinedOf};
 ghost use Rattle.packed_sim.specs.Belongs.{BelongsTo};
-ghost use Rattle.chain_compactor.specs.Channels.{IsCompactorOf};
+ghost use Rattle.compact_points.specs.Channels.{IsCompactorOf};
+ghost use Rattle.compact_points.specs.Compaction.{compact_rows};
 ghost use Rattle.chain_compactor.specs.ChannelText.{channel_reading};
-ghost use Rattle.chain_compactor.specs.Compaction.{compact_candidates, compact_rows};
+ghost use Rattle.chain_compactor.specs.CompactMatches.{compact_candidates};
 ghost use Rattle.chain_compactor.specs.CompactReport.{compact_report};
 ghost use Rattle.command_words.specs.CommandViews.{shown_order};
 ghost use Rattle.desk_commands.specs.FileReadings.{file_reading};
@@ -104,7 +105,7 @@ fn text_over(
 }
 
 impl<'v> View for CompactorView<'v> {
-    ghost use Rattle.chain_compactor.specs.Channels.{IsCompactorOf};
+    ghost use Rattle.compact_points.specs.Channels.{IsCompactorOf};
     ghost use Rattle.chain_compactor.specs.CompactLog.{compact_frame};
     ghost use Rattle.chain_compactor.specs.CompactReport.{compact_report};
 

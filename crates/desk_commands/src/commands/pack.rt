@@ -2,8 +2,8 @@
 ghost use Rattle.std.specs.Prelude.{◌≡◌, ◌≤◌, List, Some, true, false};
 ghost use Rattle.desk_outside.specs.declared.shelf.File.{File};
 ghost use Rattle.desk_outside.specs.Faults.{Rose};
+ghost use Rattle.design_bundle.specs.Bundle.{bundle_text};
 ghost use Rattle.diagnosis.specs.Texts.{value};
-ghost use Rattle.diagnosis.specs.Bundle.{bundle_text};
 ghost use Rattle.desk_commands.specs.Designs.{shown_design};
 ghost use Rattle.desk_commands.specs.Work.{pack_reading};
 ghost use Rattle.command_words.specs.CommandViews.{shown_files};

@@ -4,10 +4,10 @@ ghost use Rattle.desk_outside.specs.Doors.{DoorTold};
 ghost use Rattle.desk_outside.specs.Faults.{Rose};
 ghost use Rattle.book.specs.LegalDeeds.{is_legal};
 ghost use Rattle.report_cache.specs.Truth.{IsTrueFor};
-ghost use Rattle.desk_http.specs.declared.sessions.requests.SessionEnd.{SessionEnd};
+ghost use Rattle.final_replies.specs.declared.ends.SessionEnd.{SessionEnd};
 ghost use Rattle.desk_http.specs.Sessions.{IsSession, Rise};
 ghost use Rattle.desk_http.specs.ServedConnections.{DidSome, Serves};
-ghost use Rattle.desk_http.specs.DeskSeats.{of_desk, IsSeatOf};
+ghost use Rattle.desk_answers.specs.DeskSeats.{of_desk, IsSeatOf};
 
 use crate::sessions::requests::{SessionNote, session_at};
 use crate::sessions::serve::{Served, serve_door_at};

@@ -1,34 +1,28 @@
 //! A session: the requests of a connection, one after another, each with its reply.
-ghost use Rattle.std.specs.Prelude.{◌≡◌, ◌+◌, ◌<◌, ◌≤◌, ◌==◌, ◌||◌, ◌++◌, [], ℕ, List, Bool, true, false, length, drop, slice_range, Option, Some, None, OnOk, OnErr, IfOk, vec_len};
+ghost use Rattle.std.specs.Prelude.{◌≡◌, ◌+◌, ◌<◌, ◌≤◌, ◌==◌, ◌||◌, [], List, true, length, drop, slice_range, Some, OnOk, OnErr, IfOk, vec_len};
 ghost use Rattle.std.specs.Io.KnownBytes.{prepend_known, append_known};
-ghost use Rattle.std.specs.Str.{IsAscii};
 ghost use Rattle.book.specs.LegalDeeds.{is_legal};
 ghost use Rattle.desk_outside.specs.declared.deed.Deed.{Deed};
 ghost use Rattle.desk_outside.specs.Faults.{Rose};
 ghost use Rattle.desk_outside.specs.Bytes.{AddsPart};
 ghost use Rattle.report_cache.specs.Truth.{IsTrueFor};
-ghost use Rattle.desk_http.specs.declared.sessions.requests.SessionEnd.{SessionEnd};
-ghost use Rattle.desk_replies.specs.declared.bodies.Refusal.TheVariants as refusal;
-ghost use Rattle.desk_replies.specs.declared.status.Status.TheVariants as status;
-ghost use Rattle.desk_replies.specs.Bodies.{refusal_body, no_memory_body};
-ghost use Rattle.desk_replies.specs.Statuses.{refusal_status};
-ghost use Rattle.desk_replies.specs.Replies.{reply_text};
-ghost use Rattle.desk_http.specs.Answering.{IsAnswer};
-ghost use Rattle.desk_http.specs.Seats.{IsPrefix};
-ghost use Rattle.desk_http.specs.Sessions.{IsSession, Rise, interim_if};
-ghost use Rattle.desk_http.specs.Turns.{Replied, Responds, Takes};
 ghost use Rattle.desk_heads.specs.SeenHeads.{Sees, IsHeadIn};
 ghost use Rattle.desk_heads.specs.Items.{item_limit};
 ghost use Rattle.httparse.specs.Spans.{span_bytes};
 ghost use Rattle.desk_heads.specs.declared.head.HeadSeen.TheVariants as seen;
+ghost use Rattle.desk_answers.specs.Answering.{IsAnswer};
+ghost use Rattle.desk_answers.specs.Seats.{IsPrefix};
+ghost use Rattle.final_replies.specs.declared.ends.SessionEnd.{SessionEnd};
+ghost use Rattle.final_replies.specs.FinalReplies.{Responds};
+ghost use Rattle.desk_http.specs.Sessions.{IsSession, Rise, interim_if};
+ghost use Rattle.desk_http.specs.Turns.{Takes};
 
-use crate::answers::{Request, answer};
-use crate::routes::Routes;
 use crate::sessions::marks::{ITEM_LIMIT, Marks};
-use crate::sessions::seat::SeatAt;
-use desk_heads::{BodyRead, Head, HeadFault, HeadRead, Inbox, read_head, read_to};
+use desk_answers::{Request, Routes, SeatAt};
+use desk_heads::{BodyRead, Head, HeadRead, Inbox, read_head, read_to};
 use desk_outside::{Failed, Gate, Link, send_all};
-use desk_replies::{AnswerFault, Refusal, Reply, Response, interim, keeper_fault, no_memory};
+use desk_replies::interim;
+use final_replies::{SessionEnd, Site, TurnEnd, respond, send_no_memory, send_refusal};
 use report_cache::ReportCache;
 use scan_model::{NoMemory, Rows};
 use std::alloc::Global;
@@ -37,164 +31,11 @@ use std::thread::Threads;
 // The most bytes that one read takes.
 const PIECE: usize = 65_536;
 
-/// How a session ended.
-#[derive(Clone, Copy, Debug, PartialEq, Eq)]
-pub enum SessionEnd {
-    /// A reply that closes was sent.
-    Closed,
-    /// The input ended between messages.
-    Ended,
-    /// The input ended within a message.
-    Cut,
-    /// The connection failed, and its count of faults rose.
-    LinkFault,
-    /// There was no memory to begin with: nothing was read or sent.
-    NoMemory,
-}
-
 /// How a session ended, with a mark for each final reply: the number of deeds at which it was given.
 #[derive(Debug, Drop)]
 pub struct SessionNote {
     pub end: SessionEnd,
     pub marks: Rows<u64>,
-}
-
-// How a turn ended: the mark of its final reply, where its sending began, and how the session ended, if it did.
-#[derive(Clone, Copy, Debug, PartialEq, Eq)]
-struct TurnEnd {
-    mark: Option<u64>,
-    end: Option<SessionEnd>,
-}
-
-impl TurnEnd {
-    // With no final reply.
-    fn silent(end: SessionEnd) -> TurnEnd
-        ensures mark { result.mark ≡ None }
-        ensures end { result.end ≡ Some end }
-    {
-        TurnEnd {
-            mark: None,
-            end: Some(end),
-        }
-    }
-}
-
-// Sends a final reply, of which two parts are given.
-fn send_reply<L: Link>(link: &mut L, head: &[u8], body: &[u8], closes: bool) -> Option<SessionEnd>
-    ensures sent { Replied result closes (head.now ++ body.now) (L.sent link.old) (L.sent link.new) }
-    ensures left { L.left link.new ≡ L.left link.old }
-    ensures later { L.faults link.old ≤ L.faults link.new }
-    ensures failed { result ≡ Some SessionEnd.LinkFault → Rose (L.faults link.old) (L.faults link.new) }
-{
-    match send_all(link, head) {
-        Ok(()) => {}
-        Err(Failed) => return Some(SessionEnd::LinkFault),
-    }
-    match send_all(link, body) {
-        Ok(()) => if closes {
-            Some(SessionEnd::Closed)
-        } else {
-            None
-        },
-        Err(Failed) => Some(SessionEnd::LinkFault),
-    }
-}
-
-// Sends a final reply that is given whole.
-fn send_fixed<L: Link>(link: &mut L, reply: &[u8], closes: bool) -> Option<SessionEnd>
-    ensures sent { Replied result closes reply.now (L.sent link.old) (L.sent link.new) }
-    ensures left { L.left link.new ≡ L.left link.old }
-    ensures later { L.faults link.old ≤ L.faults link.new }
-    ensures failed { result ≡ Some SessionEnd.LinkFault → Rose (L.faults link.old) (L.faults link.new) }
-{
-    send_reply(link, reply, b"", closes)
-}
-
-// Sends a response.
-fn send_response<L: Link>(link: &mut L, response: &Response, closes: bool) -> Option<SessionEnd>
-    ensures sent { Replied result closes (reply_text response.now.status response.now.methods closes response.now.body) (L.sent link.old) (L.sent link.new) }
-    ensures left { L.left link.new ≡ L.left link.old }
-    ensures later { L.faults link.old ≤ L.faults link.new }
-    ensures failed { result ≡ Some SessionEnd.LinkFault → Rose (L.faults link.old) (L.faults link.new) }
-{
-    let body = response.body.as_slice();
-    let reply = Reply {
-        status: response.status,
-        methods: response.methods,
-        closes,
-        length: body.len(),
-    };
-    send_reply(link, reply.head().as_slice(), body, closes)
-}
-
-// Sends that memory ran out, which closes.
-fn send_no_memory<L: Link>(link: &mut L) -> Option<SessionEnd>
-    ensures sent { Replied result true (reply_text status.NoMemory None true no_memory_body) (L.sent link.old) (L.sent link.new) }
-    ensures left { L.left link.new ≡ L.left link.old }
-    ensures later { L.faults link.old ≤ L.faults link.new }
-    ensures failed { result ≡ Some SessionEnd.LinkFault → Rose (L.faults link.old) (L.faults link.new) }
-{
-    send_fixed(link, no_memory(), true)
-}
-
-// Sends the refusal of a head, which closes.
-fn send_refusal<L: Link>(link: &mut L, fault: HeadFault) -> Option<SessionEnd>
-    ensures sent { let why = refusal.Head fault in
-        Replied result true (reply_text (refusal_status why) None true (refusal_body why)) (L.sent link.old) (L.sent link.new) }
-    ensures left { L.left link.new ≡ L.left link.old }
-    ensures later { L.faults link.old ≤ L.faults link.new }
-    ensures failed { result ≡ Some SessionEnd.LinkFault → Rose (L.faults link.old) (L.faults link.new) }
-{
-    send_response(link, &Response::refused(Refusal::Head(fault)), true)
-}
-
-// Where the requests of a session are answered.
-#[derive(Drop)]
-struct Site<'a, R, D> {
-    rt: &'a R,
-    alloc: Global,
-    routes: &'a Routes,
-    desk: &'a D,
-}
-
-// Answers a request, and sends its final reply.
-fn respond<R: Threads + Sync, D, S: SeatAt<R, D>, G: Gate, L: Link>(
-    site: &Site<'_, R, D>,
-    seat: &mut S,
-    cache: &mut ReportCache,
-    gate: &mut G,
-    link: &mut L,
-    request: &Request<'_>,
-    closes: bool,
-) -> TurnEnd
-    requires ascii { IsAscii request.now.target.now }
-    requires belongs { S.belongs seat.old site.now.desk.now }
-    requires cache { IsTrueFor cache.old (S.facts seat.old site.now.desk.now).seen }
-    ensures stays { S.belongs seat.new site.now.desk.now }
-    ensures cache { (later : List Deed) → IsPrefix (S.facts seat.new site.now.desk.now).seen later → IsTrueFor cache.old later → IsTrueFor cache.new later }
-    ensures responds { let s = S.facts seat.old site.now.desk.now in
-        Responds (λ deeds answer. IsAnswer s.limit deeds request.now.target.now request.now.method request.now.body.now answer) closes result.mark result.end s (S.facts seat.new site.now.desk.now) (L.sent link.old) (L.sent link.new) }
-    ensures left { L.left link.new ≡ L.left link.old }
-    ensures later { L.faults link.old ≤ L.faults link.new }
-    ensures failed { result.end ≡ Some SessionEnd.LinkFault → Rose (L.faults link.old) (L.faults link.new) }
-{
-    let came = answer(
-        site.rt,
-        site.alloc,
-        site.routes,
-        site.desk,
-        seat,
-        cache,
-        gate,
-        request,
-    );
-    let mark = Some(seat.mark(site.desk));
-    let end = match came {
-        Ok(response) => send_response(link, &response, closes),
-        Err(AnswerFault::KeeperFault) => send_fixed(link, keeper_fault(closes), closes),
-        Err(AnswerFault::NoMemory) => send_no_memory(link),
-    };
-    TurnEnd { mark, end }
 }
 
 // Sends the interim reply where it is asked for.

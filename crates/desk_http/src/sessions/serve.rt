@@ -6,9 +6,10 @@ ghost use Rattle.desk_outside.specs.declared.door.LinkHome.{LinkHome};
 ghost use Rattle.report_cache.specs.Truth.{IsTrueFor};
 ghost use Rattle.desk_http.specs.ServedConnections.{DidSome, IsServed, Serves, is_unserved, with_served};
 
-use crate::sessions::requests::{SessionEnd, session_at};
-use crate::sessions::seat::SeatAt;
+use crate::sessions::requests::session_at;
+use desk_answers::SeatAt;
 use desk_outside::{Door, Failed, Gate};
+use final_replies::SessionEnd;
 use report_cache::ReportCache;
 use std::alloc::Global;
 use std::thread::Threads;

@@ -1,6 +1,6 @@
 //! No session waits for another that is held in its gate.
 ghost use Rattle.std.specs.Prelude.{◌≡◌, All};
-ghost use Rattle.desk_http.specs.DeskSeats.{IsSeatOf};
+ghost use Rattle.desk_answers.specs.DeskSeats.{IsSeatOf};
 
 use super::desks::start_two;
 use super::texts::*;

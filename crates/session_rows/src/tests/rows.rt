@@ -5,34 +5,7 @@ use super::{Row, book_behind, new_keeper};
 use desk_http::SessionEnd;
 
 // What is asked over a connection to a new desk, and what comes of it.
-const ROWS: [Row<'static>; 5] = [
-    // Four faults explain a pattern.
-    Row {
-        max_deeds: 1000000,
-        asked: &[PUT_C17, POST_FAILS, GET_SLAT, GET_SLAT_0, GET_SLAT_1],
-        sent: &[
-            CREATED_C17,
-            CREATED_LOG_1,
-            ONE_EXPLAINED,
-            FOUR_FIT,
-            ONE_OTHER_EXPLAINED,
-        ],
-        marks: &[1, 2, 2, 2, 2],
-        end: SessionEnd::Ended,
-    },
-    // No single fault explains a pattern that candidates explain in part.
-    Row {
-        max_deeds: 1000000,
-        asked: &[PUT_C17, POST_BOTH_FAIL, GET_SLAT, GET_SLAT_0],
-        sent: &[
-            CREATED_C17,
-            CREATED_LOG_1,
-            NONE_EXPLAINED,
-            NO_OTHER_EXPLAINED,
-        ],
-        marks: &[1, 2, 2, 2],
-        end: SessionEnd::Ended,
-    },
+const ROWS: [Row<'static>; 3] = [
     // A full desk takes no more.
     Row {
         max_deeds: 1,

@@ -66,29 +66,3 @@ pub(super) const NO_DESIGN: &[u8] =
 
 pub(super) const KEEPER_FAULT: &[u8] =
     b"HTTP/1.1 503 Service Unavailable\r\nContent-Type: text/plain\r\nContent-Length: 13\r\n\r\nkeeper fault\n";
-
-// Posts a log of a die whose outputs 22 and 23 both fail.
-pub(super) const POST_BOTH_FAIL: &[u8] =
-    b"POST /designs/c17/dies/D1/logs HTTP/1.1\r\nContent-Length: 71\r\n\r\nFAILLOG 1\ndie D1\ndesign c17\ntested 0 0\nfail 0 out 22\nfail 0 out 23\nend\n";
-
-// The patterns of the die's first log that single faults explain, and the faults of two patterns.
-pub(super) const GET_SLAT: &[u8] = b"GET /designs/c17/dies/D1/reports/1/slat HTTP/1.1\r\n\r\n";
-
-pub(super) const GET_SLAT_0: &[u8] = b"GET /designs/c17/dies/D1/reports/1/slat/0 HTTP/1.1\r\n\r\n";
-
-pub(super) const GET_SLAT_1: &[u8] = b"GET /designs/c17/dies/D1/reports/1/slat/1 HTTP/1.1\r\n\r\n";
-
-pub(super) const ONE_EXPLAINED: &[u8] =
-    b"HTTP/1.1 200 OK\r\nContent-Type: text/plain\r\nContent-Length: 86\r\n\r\nSLAT 1\ndesign c17\ndie D1\nlogs 1\nfailing-patterns 1\nslat-patterns 1\npattern 0 faults 4\n";
-
-pub(super) const NONE_EXPLAINED: &[u8] =
-    b"HTTP/1.1 200 OK\r\nContent-Type: text/plain\r\nContent-Length: 67\r\n\r\nSLAT 1\ndesign c17\ndie D1\nlogs 1\nfailing-patterns 1\nslat-patterns 0\n";
-
-pub(super) const FOUR_FIT: &[u8] =
-    b"HTTP/1.1 200 OK\r\nContent-Type: text/plain\r\nContent-Length: 101\r\n\r\npattern 0\nfault 0 stem 1 sa0\nfault 11 stem 10 sa1\nfault 18 stem 22 sa0\nfault 22 branch 3 to 10 2 sa0\n";
-
-pub(super) const ONE_OTHER_EXPLAINED: &[u8] =
-    b"HTTP/1.1 404 Not Found\r\nContent-Type: text/plain\r\nContent-Length: 19\r\n\r\nrule 72 patterns 1\n";
-
-pub(super) const NO_OTHER_EXPLAINED: &[u8] =
-    b"HTTP/1.1 404 Not Found\r\nContent-Type: text/plain\r\nContent-Length: 19\r\n\r\nrule 72 patterns 0\n";

@@ -1,42 +1,58 @@
 //! The designs c17 and s27, and an odd one of which no benchmark is like.
-use diagnosis::{BundleFault, Design, design_of};
-use scan_model::{NoMemory, Profile};
+use diagnosis::{Design, design_of};
+use scan_model::Profile;
 use std::alloc::Global;
+use std::process::Abort;
 
-pub(crate) const C17: &str =
-    "INPUT(1)\nINPUT(2)\nINPUT(3)\nINPUT(6)\nINPUT(7)\nOUTPUT(22)\nOUTPUT(23)\n10 = NAND(1, 3)\n11 = NAND(3, 6)\n16 = NAND(2, 11)\n19 = NAND(11, 7)\n22 = NAND(10, 16)\n23 = NAND(16, 19)\n";
-
-pub(crate) const S27: &str =
-    "INPUT(G0)\nINPUT(G1)\nINPUT(G2)\nINPUT(G3)\nOUTPUT(G17)\nG5 = DFF(G10)\nG6 = DFF(G11)\nG7 = DFF(G13)\nG14 = NOT(G0)\nG17 = NOT(G11)\nG8 = AND(G14, G6)\nG15 = OR(G12, G8)\nG16 = OR(G3, G8)\nG9 = NAND(G16, G15)\nG10 = NOR(G14, G11)\nG11 = NOR(G5, G9)\nG12 = NOR(G1, G7)\nG13 = NOR(G2, G12)\n";
-
-/// A gate that reads a net twice, and a flop in no chain.
-pub(crate) const ODD: &str =
-    "INPUT(a)\nOUTPUT(y)\nf = DFF(y)\ng = DFF(n)\nh = DFF(f)\nn = XOR(a, a)\nm = AND(f, h)\ny = OR(m, n)\n";
-
-pub(crate) fn repeated(alloc: Global, part: &str, times: u32) -> Result<String, NoMemory> {
-    let mut all = String::new(alloc);
-    for _ in 0..times {
-        all.push_str(part)?;
-    }
-    Ok(all)
+/// The texts of a design, with patterns that come fourteen times, and the words of its points in a log: the outputs, and the
+/// cells in the order in which they are unloaded.
+#[derive(Clone, Copy)]
+pub(crate) struct Row {
+    pub(crate) netlist: &'static [u8],
+    pub(crate) scan: &'static [u8],
+    pub(crate) patterns: &'static str,
+    pub(crate) pairs: &'static [u8],
+    pub(crate) points: &'static [&'static [u8]],
 }
 
-/// The design d of four texts.
-pub(crate) fn design(
-    alloc: Global,
-    profile: Profile,
-    netlist: &str,
-    scan: &str,
-    patterns: &str,
-    pairs: &str,
-) -> Result<Design, BundleFault> {
+const C17: Row = Row {
+    netlist: b"INPUT(1)\nINPUT(2)\nINPUT(3)\nINPUT(6)\nINPUT(7)\nOUTPUT(22)\nOUTPUT(23)\n10 = NAND(1, 3)\n11 = NAND(3, 6)\n16 = NAND(2, 11)\n19 = NAND(11, 7)\n22 = NAND(10, 16)\n23 = NAND(16, 19)\n",
+    scan: b"",
+    patterns: "CAPTURE 10110\nCAPTURE 01X01\nCAPTURE 00111\nCAPTURE 11011\nCAPTURE 0110X\n",
+    pairs: b"net_a,net_b\n10,19\n11,10\n",
+    points: &[b"out 22", b"out 23"],
+};
+
+const S27: Row = Row {
+    netlist: b"INPUT(G0)\nINPUT(G1)\nINPUT(G2)\nINPUT(G3)\nOUTPUT(G17)\nG5 = DFF(G10)\nG6 = DFF(G11)\nG7 = DFF(G13)\nG14 = NOT(G0)\nG17 = NOT(G11)\nG8 = AND(G14, G6)\nG15 = OR(G12, G8)\nG16 = OR(G3, G8)\nG9 = NAND(G16, G15)\nG10 = NOR(G14, G11)\nG11 = NOR(G5, G9)\nG12 = NOR(G1, G7)\nG13 = NOR(G2, G12)\n",
+    scan: b"CHAIN c0 G5 G6 G7\n",
+    patterns: "CAPTURE 0110 1X0\nSHIFT 101\nCAPTURE 1X01 011\nCAPTURE 0000 110\nSHIFT 0X1\n",
+    pairs: b"net_a,net_b\nG14,G12\n",
+    points: &[b"out G17", b"cell c0 2", b"cell c0 1", b"cell c0 0"],
+};
+
+// A gate that reads a net twice, and a flop in no chain.
+const ODD: Row = Row {
+    netlist: b"INPUT(a)\nOUTPUT(y)\nf = DFF(y)\ng = DFF(n)\nh = DFF(f)\nn = XOR(a, a)\nm = AND(f, h)\ny = OR(m, n)\n",
+    scan: b"CHAIN c g h\n",
+    patterns: "CAPTURE 1 0X\nSHIFT 10\nCAPTURE X 11\nCAPTURE 0 10\nSHIFT X1\n",
+    pairs: b"",
+    points: &[b"out y", b"cell c 1", b"cell c 0"],
+};
+
+pub(crate) const ROWS: [Row; 3] = [C17, S27, ODD];
+
+/// The design d of a row, in profile 2.
+pub(crate) fn design(rt: &impl Abort, alloc: Global, row: &Row) -> Design {
+    let patterns = row.patterns.repeat(alloc, 14).expect(rt, "memory");
     design_of(
         alloc,
         b"d",
-        profile,
-        netlist.as_bytes(),
-        scan.as_bytes(),
+        Profile::Two,
+        row.netlist,
+        row.scan,
         patterns.as_bytes(),
-        pairs.as_bytes(),
+        row.pairs,
     )
+    .expect(rt, "a design")
 }

@@ -1,37 +1,29 @@
 //! Dies of a design with logs.
 ghost use Rattle.diagnosis.specs.Designs.{IsLogOf};
 
-use diagnosis::{BundleFault, Design, DieView, ReadLog, log_of};
-use scan_model::{Name, NoMemory};
+use diagnosis::{Design, DieView, ReadLog, log_of};
+use scan_model::Name;
 use std::alloc::Global;
+use std::process::Abort;
 use std::sync::Arc;
 
 /// The die D1 of a design, without a log.
-pub(crate) fn die_of(
-    alloc: Global,
-    design: Result<Design, BundleFault>,
-) -> Result<DieView, NoMemory> {
-    match design {
-        Ok(design) => {
-            let name = Name::copy_of(alloc, b"D1")?;
-            DieView::make(alloc, Arc::new(alloc, design)?, name)
-        }
-        Err(_) => Err(NoMemory),
-    }
+pub(crate) fn die_of(rt: &impl Abort, alloc: Global, design: Design) -> DieView {
+    let design = Arc::new(alloc, design).expect(rt, "memory");
+    let name = Name::copy_of(alloc, b"D1").expect(rt, "memory");
+    DieView::make(alloc, design, name).expect(rt, "memory")
 }
 
-fn with_read_log(alloc: Global, mut view: DieView, log: ReadLog) -> Result<DieView, NoMemory>
-    requires { IsLogOf view.design view.die log }
+fn add(rt: &impl Abort, alloc: Global, view: &mut DieView, log: ReadLog)
+    requires { IsLogOf view.old.design view.old.die log }
 {
-    view.add(Arc::new(alloc, log)?)?;
-    Ok(view)
+    let log = Arc::new(alloc, log).expect(rt, "memory");
+    let _put = view.add(log).expect(rt, "memory");
 }
 
-/// This die with one log more, which must be a log of it.
-pub(crate) fn with_log(alloc: Global, view: DieView, text: &[u8]) -> Result<DieView, NoMemory> {
+/// Adds a log, which must be one of the die.
+pub(crate) fn add_text(rt: &impl Abort, alloc: Global, view: &mut DieView, text: &[u8]) {
     let _ = view.revision();
-    match log_of(alloc, view.design(), view.die(), text) {
-        Ok(log) => with_read_log(alloc, view, log),
-        Err(_) => Err(NoMemory),
-    }
+    let log = log_of(alloc, view.design(), view.die(), text).expect(rt, "a log");
+    add(rt, alloc, view, log);
 }

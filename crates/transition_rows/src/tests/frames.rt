@@ -1,10 +1,12 @@
 //! Two frames, net by net: what each point shows, with a slow stem or pin or without one.
-use super::slow::{SlowFault, value_of};
+use super::slow::{SlowFault, Values, value_of};
 use scan_model::{
-    Circuit, Driver, GateKind, NoMemory, Parts, PinPlace, Point, Tri, tri_and, tri_not, tri_or,
+    Circuit, Driver, GateKind, Parts, Pattern, PinPlace, Point, Tri, tri_and, tri_not, tri_or,
     tri_xor,
 };
-use std::alloc::Global;
+
+/// The values of points, by their numbers.
+pub(crate) type Shown = [Tri; 4];
 
 /// What a pin sees, of the values that nets have so far.
 fn seen(circuit: &Circuit, values: &[Tri], slow: SlowFault<'_>, pin: u32) -> Tri {
@@ -71,20 +73,15 @@ fn settle(circuit: &Circuit, values: &mut [Tri], slow: SlowFault<'_>, net: u32) 
 }
 
 /// The values of all nets, given what inputs and flops are driven to.
-fn settled(
-    alloc: Global,
-    circuit: &Circuit,
-    sources: &[Tri],
-    slow: SlowFault<'_>,
-) -> Result<Vec<Tri>, NoMemory> {
-    let mut values = Vec::new(alloc);
+fn settled(circuit: &Circuit, sources: &Values, slow: SlowFault<'_>) -> Values {
+    let mut values = *sources;
     for (net, source) in (0..).zip(sources) {
-        values.push(slow.at_stem(net, *source))?;
+        set(&mut values, net, slow.at_stem(net, *source));
     }
     for gate in circuit.order().as_slice() {
         settle(circuit, &mut values, slow, *gate);
     }
-    Ok(values)
+    values
 }
 
 fn set_all(values: &mut [Tri], nets: &[u32], given: &[Tri]) {
@@ -93,43 +90,43 @@ fn set_all(values: &mut [Tri], nets: &[u32], given: &[Tri]) {
     }
 }
 
+/// What a pattern drives: its inputs, and the cells of its chains.
+fn drive(parts: &Parts, pattern: &Pattern, sources: &mut [Tri]) {
+    let inputs = parts.circuit().inputs();
+    set_all(sources, inputs.as_slice(), pattern.inputs.as_slice());
+    let chains = parts.chains().as_slice();
+    for (chain, load) in chains.iter().zip(pattern.loads.as_slice()) {
+        set_all(sources, chain.cells.as_slice(), load.as_slice());
+    }
+}
+
 /// The fault-free values of the first frame. A flop in no chain is X in it.
-pub(crate) fn first_frame(
-    alloc: Global,
-    parts: &Parts,
-    pattern: usize,
-) -> Result<Vec<Tri>, NoMemory> {
-    let circuit = parts.circuit();
-    let mut sources = vec![in alloc; Tri::Unknown; circuit.nets().len()]?;
-    if let Some(pattern) = parts.patterns().as_slice().get(pattern) {
-        set_all(
-            &mut sources,
-            circuit.inputs().as_slice(),
-            pattern.inputs.as_slice(),
-        );
-        let chains = parts.chains().as_slice();
-        for (chain, load) in chains.iter().zip(pattern.loads.as_slice()) {
-            set_all(&mut sources, chain.cells.as_slice(), load.as_slice());
-        }
+pub(crate) fn first_frame(parts: &Parts, pattern: u32) -> Values {
+    let mut sources = [Tri::Unknown; 16];
+    if let Some(pattern) = parts.patterns().as_slice().get(pattern as usize) {
+        drive(parts, pattern, &mut sources);
     }
     let none = SlowFault {
         fault: None,
-        first: &[],
+        first: &sources,
     };
-    settled(alloc, circuit, &sources, none)
+    settled(parts.circuit(), &sources, none)
 }
 
 /// What drives the second frame: inputs hold, and each flop has what its data pin saw in the first.
-fn next_sources(alloc: Global, circuit: &Circuit, first: &[Tri]) -> Result<Vec<Tri>, NoMemory> {
+fn next_sources(circuit: &Circuit, first: &Values) -> Values {
     let none = SlowFault { fault: None, first };
-    let mut sources = Vec::new(alloc);
+    let mut sources = *first;
     for (number, net) in (0..).zip(circuit.nets().as_slice()) {
-        sources.push(match net.driver {
-            Driver::Flop => seen(circuit, first, none, net.first_pin),
-            Driver::Input | Driver::Gate(_) => value_of(first, number),
-        })?;
+        if net.driver == Driver::Flop {
+            set(
+                &mut sources,
+                number,
+                seen(circuit, first, none, net.first_pin),
+            );
+        }
     }
-    Ok(sources)
+    sources
 }
 
 /// The pin of an output.
@@ -157,17 +154,13 @@ fn pin_of(parts: &Parts, point: Point) -> u32 {
 }
 
 /// What each point shows in the second frame.
-pub(crate) fn shown(
-    alloc: Global,
-    parts: &Parts,
-    slow: SlowFault<'_>,
-) -> Result<Vec<Tri>, NoMemory> {
+pub(crate) fn shown(parts: &Parts, slow: SlowFault<'_>) -> Shown {
     let circuit = parts.circuit();
-    let sources = next_sources(alloc, circuit, slow.first)?;
-    let values = settled(alloc, circuit, &sources, slow)?;
-    let mut row = Vec::new(alloc);
-    for point in parts.points().as_slice() {
-        row.push(seen(circuit, &values, slow, pin_of(parts, *point)))?;
+    let values = settled(circuit, &next_sources(circuit, slow.first), slow);
+    let mut row = [Tri::Unknown; 4];
+    for (number, point) in (0..).zip(parts.points().as_slice()) {
+        let value = seen(circuit, &values, slow, pin_of(parts, *point));
+        set(&mut row, number, value);
     }
-    Ok(row)
+    row
 }

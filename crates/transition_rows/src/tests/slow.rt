@@ -1,6 +1,9 @@
 //! A slow stem or pin, by its definition.
 use scan_model::{Fault, Stuck, Tri, tri_and, tri_or};
 
+/// The values of nets, by their numbers, and X for numbers that no net has.
+pub(crate) type Values = [Tri; 16];
+
 /// The value of a net, X past their end.
 pub(crate) fn value_of(values: &[Tri], net: u32) -> Tri {
     match values.get(net as usize) {
@@ -13,13 +16,14 @@ pub(crate) fn value_of(values: &[Tri], net: u32) -> Tri {
 #[derive(Clone, Copy)]
 pub(crate) struct SlowFault<'a> {
     pub(crate) fault: Option<Fault>,
-    pub(crate) first: &'a [Tri],
+    pub(crate) first: &'a Values,
 }
 
 impl SlowFault<'_> {
     /// What a site of a net has, to which a value comes.
     fn held(&self, net: u32, value: Stuck, now: Tri) -> Tri {
-        let first = value_of(self.first, net);
+        let values = self.first;
+        let first = value_of(values, net);
         match value {
             Stuck::Zero => tri_and(first, now),
             Stuck::One => tri_or(first, now),

@@ -1,12 +1,13 @@
-//! The list of modelled faults.
-use super::designs::s27;
+//! The list of modelled faults of s27.
+use super::designs::{CAPTURE27, parts};
 use fault_universe::{fault_at, fault_text, place_of, universe, universe_len};
-use scan_model::{Fault, Name, NoMemory, Parts, Rows};
+use scan_model::{Fault, Parts};
 use std::alloc::Global;
+use std::process::Abort;
 
 // Whether each fault stands at its place.
-fn are_placed(parts: &Parts, faults: &Rows<Fault>) -> bool {
-    for (place, fault) in (0u32..).zip(faults.as_slice()) {
+fn are_placed(parts: &Parts, faults: &[Fault]) -> bool {
+    for (place, fault) in (0u32..).zip(faults) {
         if place_of(parts, fault) != Some(place) {
             return false;
         }
@@ -14,22 +15,20 @@ fn are_placed(parts: &Parts, faults: &Rows<Fault>) -> bool {
     true
 }
 
-fn text_at(alloc: Global, parts: &Parts, place: u32) -> Result<Option<Name>, NoMemory> {
-    match fault_at(parts, place) {
-        Some(fault) => Ok(Some(fault_text(alloc, parts, &fault)?)),
-        None => Ok(None),
-    }
+fn are_listed(rt: &impl Abort, alloc: Global, parts: &Parts) -> bool {
+    let faults = universe(alloc, parts).expect(rt, "memory");
+    faults.len() == 64 && universe_len(parts) == 64 && are_placed(parts, faults.as_slice())
+}
+
+fn has_text(rt: &impl Abort, alloc: Global, parts: &Parts, place: u32, text: &[u8]) -> bool {
+    let fault = fault_at(parts, place).expect(rt, "a fault");
+    let words = fault_text(alloc, parts, &fault).expect(rt, "memory");
+    words.as_slice() == text
 }
 
 #[test]
 fn all_faults_of_s27_and_a_branch_as_text(rt: HostRuntime) {
-    let design = s27(&rt, rt.alloc(), "CAPTURE 0000 000\n");
-    let parts = design.parts();
-    let faults = universe(rt.alloc(), parts).expect(&rt, "memory");
-    assert!(rt; (faults.len(), universe_len(parts)) == (64, 64));
-    assert!(rt; are_placed(parts, &faults));
-    let text = text_at(rt.alloc(), parts, 45);
-    assert!(rt;
-        matches!(&text, Ok(Some(text)) if text.as_slice() == b"branch G8 to G16 2 sa1".as_slice())
-    );
+    let s27 = parts(&rt, rt.alloc(), &CAPTURE27);
+    assert!(rt; are_listed(&rt, rt.alloc(), &s27));
+    assert!(rt; has_text(&rt, rt.alloc(), &s27, 45, b"branch G8 to G16 2 sa1"));
 }

@@ -1,51 +1,35 @@
-//! The log of the die D1, joined.
-ghost use Rattle.std.specs.Prelude.{length, IfOk};
+//! One log of the die D1 of the design d, joined.
+ghost use Rattle.std.specs.Prelude.{length};
 ghost use Rattle.scan_model.specs.ScanTest.{points_of};
+ghost use Rattle.scan_model.specs.Coverage.{FitsLog};
 ghost use Rattle.log_join.specs.Joining.{IsJoinedOf};
-ghost use Rattle.diagnosis.specs.Designs.{StandsOver};
 
-use diagnosis::{BundleFault, Design, ReadLog, Section, log_of};
+use fail_logs::read_log;
 use log_join::Joined;
-use scan_model::{NoMemory, Parts};
+use scan_model::{LogFacts, Parts};
 use std::alloc::Global;
-use text_parts::ReadFault;
+use std::process::Abort;
 
-fn read(alloc: Global, design: &Design, log: &[u8]) -> Result<ReadLog, BundleFault>
-    ensures { IfOk result (StandsOver design.now.test) }
+fn facts_of(rt: &impl Abort, alloc: Global, parts: &Parts, log: &[u8]) -> LogFacts
+    ensures { FitsLog (length parts.now.patterns) (length (points_of parts.now)) result }
 {
-    match log_of(alloc, design, b"D1", log) {
-        Ok(read) => Ok(read),
-        Err(ReadFault::Text(fault)) => Err(BundleFault::Text {
-            section: Section::Log,
-            fault,
-        }),
-        Err(ReadFault::NoMemory) => Err(BundleFault::NoMemory),
-    }
+    read_log(alloc, parts, b"d", b"D1", log).expect(rt, "a log")
 }
 
-fn without_logs(alloc: Global, parts: &Parts) -> Result<Joined, NoMemory>
-    ensures { IfOk result (IsJoinedOf (length parts.now.patterns) (length (points_of parts.now))) }
+fn without_logs(rt: &impl Abort, alloc: Global, parts: &Parts) -> Joined
+    ensures { IsJoinedOf (length parts.now.patterns) (length (points_of parts.now)) result }
 {
     let patterns = parts.patterns().len() as u32;
     let points = parts.points().len() as u32;
-    Joined::make(alloc, patterns, points)
+    Joined::make(alloc, patterns, points).expect(rt, "memory")
 }
 
-fn add(joined: &mut Joined, parts: &Parts, log: &ReadLog)
-    requires size { IsJoinedOf (length parts.now.patterns) (length (points_of parts.now)) joined.old }
-    requires log { StandsOver parts.now log.now }
-    ensures { IsJoinedOf (length parts.now.patterns) (length (points_of parts.now)) joined.new }
+/// The log, joined.
+pub(crate) fn joined_of(rt: &impl Abort, alloc: Global, parts: &Parts, log: &[u8]) -> Joined
+    ensures { IsJoinedOf (length parts.now.patterns) (length (points_of parts.now)) result }
 {
-    let _ = parts.points();
-    joined.add(log.facts());
-}
-
-pub(crate) fn joined_of(alloc: Global, design: &Design, log: &[u8]) -> Result<Joined, BundleFault>
-    ensures { IfOk result (IsJoinedOf (length design.now.test.patterns) (length (points_of design.now.test))) }
-{
-    let parts = design.parts();
-    let read = read(alloc, design, log)?;
-    let mut joined = without_logs(alloc, parts)?;
-    add(&mut joined, parts, &read);
-    Ok(joined)
+    let facts = facts_of(rt, alloc, parts, log);
+    let mut joined = without_logs(rt, alloc, parts);
+    joined.add(&facts);
+    joined
 }

@@ -4,8 +4,9 @@ use Rattle.std.proofs.lemmas.Bool.Decides.{nat_tests}
 use Rattle.scan_model.specs.declared.parts.Point.{Point}
 use Rattle.scan_model.specs.declared.parts.Point.TheVariants.{Cell}
 use Rattle.scan_model.specs.Values.{is_unknown}
-use Rattle.chain_compactor.specs.Channels.{chain_length as model_length}
-use Rattle.chain_compactor.proofs.ChainNets.{row_there, as_long, net_is, few_cells}
+use Rattle.compact_points.specs.Channels.{chain_length as model_length}
+use Rattle.compact_points.proofs.ChainLengths.{few_cells}
+use Rattle.chain_compactor.proofs.ChainNets.{row_there, as_long, net_is}
 use Rattle.chain_compactor.proofs.changes.chain_changed.Goals as goal
 
 pub nets_in-own-requires : goal.nets_in-own-requires
@@ -14,7 +15,7 @@ nets_in-own-requires g c = row_there c.args.parts.now c.args.nets.now c.requires
 pub overflow_cast-pos : goal.overflow_cast-pos
 overflow_cast-pos g c =
     let t = c.args.parts.now in
-    omega (arith, as_long t c.args.nets.now c.requires.nets c.args.chain c.requires.chain c.nets_in-own.result.now c.nets_in-own.ensures, few_cells t c.args.nets.now c.requires.nets c.args.chain c.requires.chain c.chains.ensures.fits)
+    omega (arith, as_long t c.args.nets.now c.requires.nets c.args.chain c.requires.chain c.nets_in-own.result.now c.nets_in-own.ensures, few_cells t c.chains.ensures.fits c.args.chain c.requires.chain)
 
 pub changed-requires-clause-point : goal.changed-requires-clause-point
 changed-requires-clause-point g c =

@@ -2,8 +2,8 @@ use Rattle.std.proofs.Common.{◌≡◌, ℕ, ◌+◌, ◌++◌, List, map, take
 use Rattle.std.proofs.lemmas.List.{take_all, map-append, drop_all}
 use Rattle.scan_model.specs.declared.values.Tri.{Tri}
 use Rattle.scan_model.specs.Values.{xor_of}
-use Rattle.chain_compactor.specs.Compaction.{cell_shown, cells_shown}
-use Rattle.chain_compactor.proofs.Members.{shown_more}
+use Rattle.compact_points.specs.Compaction.{cell_shown, cells_shown}
+use Rattle.compact_points.proofs.ShownCells.{shown_more}
 use Rattle.chain_compactor.proofs.XorChanges.{each_known, shown_rest}
 use Rattle.chain_compactor.proofs.changes.chains_changed.Goals as goal
 

@@ -2,7 +2,7 @@ use Rattle.std.proofs.Common.{◌≡◌, ℕ, ◌<◌, ◌++◌, false, map, tak
 use Rattle.std.specs.List.{list_any}
 use Rattle.scan_model.specs.Values.{is_unknown, xor_of}
 use Rattle.lane_rows.specs.Planes.{held}
-use Rattle.chain_compactor.specs.Compaction.{cells_shown}
+use Rattle.compact_points.specs.Compaction.{cells_shown}
 use Rattle.chain_compactor.proofs.changes.chains_changed.Given as goal
 
 abbrev pub invariant-loop-chain : goal.invariant-loop-chain

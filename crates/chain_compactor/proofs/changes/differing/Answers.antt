@@ -1,7 +1,7 @@
 use Rattle.std.proofs.Common.{map, ◌∙◌}
 use Rattle.scan_model.specs.Values.{xor_of}
 use Rattle.lane_rows.specs.Planes.{held}
-use Rattle.chain_compactor.specs.Compaction.{members}
+use Rattle.compact_points.specs.Compaction.{members}
 use Rattle.chain_compactor.proofs.XorChanges.{opposite_where_known}
 use Rattle.chain_compactor.proofs.changes.differing.Goals as goal
 

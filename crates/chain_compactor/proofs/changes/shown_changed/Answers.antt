@@ -8,9 +8,9 @@ use Rattle.scan_model.specs.declared.parts.Point.{Point}
 use Rattle.scan_model.specs.declared.parts.Point.TheVariants.{Output}
 use Rattle.scan_model.specs.Values.{is_unknown, xor_of}
 use Rattle.lane_rows.specs.Planes.{held}
-use Rattle.chain_compactor.specs.declared.compactor.Channel.{Channel}
-use Rattle.chain_compactor.specs.Channels.{no_channel, channel_at}
-use Rattle.chain_compactor.specs.Compaction.{cells_shown, members}
+use Rattle.compact_points.specs.declared.compactor.Channel.{Channel}
+use Rattle.compact_points.specs.Channels.{no_channel, channel_at}
+use Rattle.compact_points.specs.Compaction.{cells_shown, members}
 use Rattle.chain_compactor.proofs.changes.shown_changed.Goals as goal
 
 pub changed-requires-clause-point : goal.changed-requires-clause-point

@@ -1,5 +1,5 @@
 use Rattle.std.proofs.Common.{◌≡◌, max, map, drop}
-use Rattle.chain_compactor.specs.Channels.{greatest}
+use Rattle.compact_points.specs.Channels.{greatest}
 use Rattle.chain_compactor.specs.AfterChannels.{length_in}
 use Rattle.chain_compactor.proofs.channels.greatest_length.Given as goal
 

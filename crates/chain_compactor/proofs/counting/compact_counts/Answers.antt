@@ -7,7 +7,7 @@ use Rattle.scan_model.specs.Universe.{universe}
 use Rattle.scan_model.specs.Suspect.{suspects}
 use Rattle.match_counts.specs.Totals.{candidates_in}
 use Rattle.match_counts.proofs.CandidateRows.{suspects_below}
-use Rattle.chain_compactor.specs.Compaction.{compact_bits, compact_class, compact_counts_of, predicts_compact_fail}
+use Rattle.chain_compactor.specs.CompactMatches.{compact_bits, compact_class, compact_counts_of, predicts_compact_fail}
 use Rattle.chain_compactor.proofs.AmongSuspects.{among_suspects}
 use Rattle.chain_compactor.proofs.counting.compact_counts.Goals as goal
 

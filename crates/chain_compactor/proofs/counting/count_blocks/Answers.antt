@@ -26,10 +26,10 @@ use Rattle.match_counts.specs.Sides.{classes_by, AreSideRows}
 use Rattle.match_counts.specs.Tables.{IsCount}
 use Rattle.match_counts.specs.Totals.{AreBlockShares}
 use Rattle.match_counts.proofs.BlockSums.{totals_are}
-use Rattle.chain_compactor.specs.Compaction.{compact_class, predicts_compact_fail}
+use Rattle.compact_points.proofs.CompactRows.{rows_fit}
+use Rattle.chain_compactor.specs.CompactMatches.{compact_class, predicts_compact_fail}
 use Rattle.chain_compactor.specs.CompactModel.{compact_model}
 use Rattle.chain_compactor.specs.CompactCounts.{AreExpected}
-use Rattle.chain_compactor.proofs.CompactRows.{rows_fit}
 use Rattle.chain_compactor.proofs.SeenPoints.{seen_are_places}
 use Rattle.chain_compactor.proofs.CompactModel.{compact_model-logic, compact_model-chain}
 use Rattle.chain_compactor.proofs.BlockCounts.{compact_sides}

@@ -3,7 +3,7 @@ use Rattle.scan_model.specs.declared.logs.LogFacts.{LogFacts}
 use Rattle.log_join.specs.Joining.{StandsFor}
 use Rattle.match_counts.specs.Sides.{classes_by}
 use Rattle.match_counts.specs.Totals.{AreCounted}
-use Rattle.chain_compactor.specs.Compaction.{compact_class}
+use Rattle.chain_compactor.specs.CompactMatches.{compact_class}
 use Rattle.chain_compactor.specs.CompactModel.{compact_model}
 use Rattle.chain_compactor.proofs.counting.count_blocks.Given as goal
 

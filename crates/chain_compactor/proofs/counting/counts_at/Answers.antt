@@ -6,7 +6,7 @@ use Rattle.scan_model.specs.Universe.{universe}
 use Rattle.fault_effects.specs.declared.suspect.Suspect.{Suspect}
 use Rattle.fault_effects.specs.Owners.{IsSuspectOf, places_of}
 use Rattle.match_counts.specs.Totals.{AreTotals, candidates_in}
-use Rattle.chain_compactor.specs.Compaction.{compact_bits, compact_class, predicts_compact_fail}
+use Rattle.chain_compactor.specs.CompactMatches.{compact_bits, compact_class, predicts_compact_fail}
 use Rattle.chain_compactor.proofs.counting.counts_at.Goals as goal
 
 pub owners_of-requires-clause-few : goal.owners_of-requires-clause-few

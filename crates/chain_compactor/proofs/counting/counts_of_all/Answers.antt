@@ -5,7 +5,7 @@ use Rattle.scan_model.specs.Universe.{universe}
 use Rattle.fail_logs.proofs.Whole.{range_below}
 use Rattle.match_counts.specs.Totals.{candidates_in}
 use Rattle.match_counts.proofs.CandidateRows.{all_candidates}
-use Rattle.chain_compactor.specs.Compaction.{compact_bits, compact_class, predicts_compact_fail}
+use Rattle.chain_compactor.specs.CompactMatches.{compact_bits, compact_class, predicts_compact_fail}
 use Rattle.chain_compactor.proofs.counting.counts_of_all.Goals as goal
 
 pub counts_at-requires-clause-places : goal.counts_at-requires-clause-places

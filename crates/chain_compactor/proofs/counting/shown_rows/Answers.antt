@@ -7,9 +7,9 @@ use Rattle.lane_rows.specs.Planes.{Planes, held}
 use Rattle.lane_rows.specs.Sources.{no_planes}
 use Rattle.lane_rows.specs.GoodRows.{pattern_of}
 use Rattle.fail_logs.specs.FrameFacts.{point_among}
-use Rattle.chain_compactor.specs.Compaction.{compact_value}
+use Rattle.compact_points.specs.Compaction.{compact_value}
+use Rattle.compact_points.proofs.PointsThere.{point_is_there}
 use Rattle.chain_compactor.specs.CompactCounts.{expected_at}
-use Rattle.chain_compactor.proofs.Members.{point_is_there}
 use Rattle.chain_compactor.proofs.counting.shown_rows.Goals as goal
 
 pub shown_in_block-requires-clause-point : goal.shown_in_block-requires-clause-point

@@ -2,7 +2,7 @@ use Rattle.std.proofs.Common.{◌≡◌, ℕ, ◌<◌, None, length}
 use Rattle.lane_rows.specs.Planes.{held}
 use Rattle.lane_rows.specs.GoodRows.{pattern_of, AreBlockRows}
 use Rattle.fail_logs.specs.FrameFacts.{point_among}
-use Rattle.chain_compactor.specs.Compaction.{compact_value}
+use Rattle.compact_points.specs.Compaction.{compact_value}
 use Rattle.chain_compactor.specs.CompactCounts.{expected_at}
 use Rattle.chain_compactor.proofs.counting.shown_rows.Given as goal
 

@@ -1,5 +1,5 @@
 use Rattle.std.proofs.Common.{◌≡◌, ◌++◌, drop}
-use Rattle.chain_compactor.specs.Channels.{shown_in}
+use Rattle.compact_points.specs.Channels.{shown_in}
 use Rattle.chain_compactor.proofs.in_order.add_cycle.Given as goal
 
 abbrev pub invariant-loop-x : goal.invariant-loop-x

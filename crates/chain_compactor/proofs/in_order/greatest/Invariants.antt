@@ -1,5 +1,5 @@
 use Rattle.std.proofs.Common.{◌≡◌, max, drop}
-use Rattle.chain_compactor.specs.Channels.{greatest as model_greatest}
+use Rattle.compact_points.specs.Channels.{greatest as model_greatest}
 use Rattle.chain_compactor.proofs.in_order.greatest.Given as goal
 
 abbrev pub invariant-loop-number : goal.invariant-loop-number

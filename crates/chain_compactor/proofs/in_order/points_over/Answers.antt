@@ -3,7 +3,7 @@ use Rattle.std.specs.Prelude.{flat_map}
 use Rattle.std.specs.List.{range_with_len}
 use Rattle.scan_model.specs.declared.parts.Point.TheVariants.{Output}
 use Rattle.scan_model.proofs.PointCount.{cycles_more}
-use Rattle.chain_compactor.specs.Channels.{shown_in}
+use Rattle.compact_points.specs.Channels.{shown_in}
 use Rattle.chain_compactor.proofs.in_order.points_over.Goals as goal
 
 pub loop-number-preserved : goal.loop-number-preserved

@@ -4,8 +4,8 @@ use Rattle.scan_model.specs.Netlist.{Netlist}
 use Rattle.scan_model.specs.ScanTest.{ScanTest}
 use Rattle.scan_model.proofs.PointCount.{outputs_few}
 use Rattle.text_parts.specs.ReadResults.{Fails}
-use Rattle.chain_compactor.specs.declared.compactor.Channel.{Channel}
-use Rattle.chain_compactor.specs.Channels.{Compactor, compactor, compactor_of, cycles_of, points_over}
+use Rattle.compact_points.specs.declared.compactor.Channel.{Channel}
+use Rattle.compact_points.specs.Channels.{Compactor, compactor, compactor_of, cycles_of, points_over}
 use Rattle.chain_compactor.specs.ChannelText.{channel_reading}
 use Rattle.chain_compactor.proofs.PointCount.{greatest-few}
 use Rattle.chain_compactor.proofs.Judged.{channels_first, channels_none}

@@ -2,7 +2,7 @@ use Rattle.std.proofs.Common.{◌≡◌, ◌≤◌, ◌-◌, length, arith, ap, 
 use Rattle.text_parts.specs.Views.{nows}
 use Rattle.scan_model.specs.ScanTest.{ScanTest}
 use Rattle.scan_model.proofs.PointCount.{outputs_few}
-use Rattle.chain_compactor.specs.Channels.{cycles_of}
+use Rattle.compact_points.specs.Channels.{cycles_of}
 use Rattle.chain_compactor.specs.ChannelText.{channels_before, numbered}
 use Rattle.chain_compactor.proofs.PointCount.{length-points_over}
 use Rattle.chain_compactor.proofs.Sound.{none_sound, numbered_fit}

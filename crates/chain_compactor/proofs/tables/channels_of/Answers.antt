@@ -3,8 +3,8 @@ use Rattle.std.specs.Prelude.{filter}
 use Rattle.std.specs.List.{range_with_len}
 use Rattle.std.proofs.lemmas.List.{get_or_read}
 use Rattle.scan_model.proofs.Orders.{filter_range_more}
-use Rattle.chain_compactor.specs.declared.compactor.Channel.{Channel}
-use Rattle.chain_compactor.specs.Channels.{no_channel, channel_at}
+use Rattle.compact_points.specs.declared.compactor.Channel.{Channel}
+use Rattle.compact_points.specs.Channels.{no_channel, channel_at}
 use Rattle.chain_compactor.specs.ObservationPoints.{has_chain}
 use Rattle.chain_compactor.proofs.tables.channels_of.Goals as goal
 

@@ -1,7 +1,7 @@
 use Rattle.std.proofs.Common.{◌≡◌}
 use Rattle.std.specs.Prelude.{filter}
 use Rattle.std.specs.List.{range_with_len}
-use Rattle.chain_compactor.specs.Channels.{channel_at}
+use Rattle.compact_points.specs.Channels.{channel_at}
 use Rattle.chain_compactor.specs.ObservationPoints.{has_chain}
 use Rattle.chain_compactor.proofs.tables.channels_of.Given as goal
 

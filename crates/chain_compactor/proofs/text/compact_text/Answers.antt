@@ -4,7 +4,7 @@ use Rattle.scan_model.specs.Coverage.{bits_over}
 use Rattle.scan_model.specs.Classes.{class_with}
 use Rattle.scan_model.specs.Ranking.{ranked}
 use Rattle.scan_model.specs.ReportText.{layout_with, concatenated}
-use Rattle.chain_compactor.specs.Compaction.{compact_candidates}
+use Rattle.chain_compactor.specs.CompactMatches.{compact_candidates}
 use Rattle.chain_compactor.specs.CompactReport.{compact_form, compact_layout}
 use Rattle.chain_compactor.proofs.text.compact_text.Goals as goal
 

@@ -9,7 +9,7 @@ use Rattle.lane_rows.specs.Lanes.{lane}
 use Rattle.lane_rows.specs.GoodRows.{pattern_of}
 use Rattle.log_rows.specs.declared.point_row.PointRow.{PointRow}
 use Rattle.log_rows.specs.PlaceRows.{ArePlaceRows}
-use Rattle.chain_compactor.proofs.CompactRows.{rows_fit}
+use Rattle.compact_points.proofs.CompactRows.{rows_fit}
 use Rattle.chain_compactor.proofs.tracing.upstream_bits.Goals as goal
 
 pub rows_of_places-requires-clause-expected : goal.rows_of_places-requires-clause-expected

@@ -1,6 +1,7 @@
 use Rattle.std.proofs.Common.{ap, ◌∙◌}
-use Rattle.diagnosis.specs.Bundle.{bundle_text, texts_reading}
-use Rattle.diagnosis.specs.ReaderAnswers.{four}
+use Rattle.design_bundle.specs.FourTexts.{four}
+use Rattle.design_bundle.specs.Bundle.{bundle_text}
+use Rattle.diagnosis.specs.Bundle.{texts_reading}
 use Rattle.diagnosis.proofs.AreRead.{profile_read}
 use Rattle.diagnosis.proofs.design.design_of.Goals as goal
 

@@ -1,6 +1,7 @@
 use Rattle.std.proofs.Common.{◌≡◌, Ok, sym, ap, ◌∙◌}
-use Rattle.diagnosis.specs.Bundle.{bundle_text, bundle_reading}
-use Rattle.diagnosis.specs.ReaderAnswers.{four}
+use Rattle.design_bundle.specs.FourTexts.{four}
+use Rattle.design_bundle.specs.Bundle.{bundle_text}
+use Rattle.diagnosis.specs.Bundle.{bundle_reading}
 use Rattle.diagnosis.proofs.PackedReads.{packed_reads}
 use Rattle.diagnosis.proofs.design.design_with.Goals as goal
 

@@ -1,4 +1,4 @@
-use Rattle.diagnosis.specs.ReaderAnswers.{four}
+use Rattle.design_bundle.specs.FourTexts.{four}
 use Rattle.diagnosis.proofs.WordNames.{word_names}
 use Rattle.diagnosis.proofs.texts.parts_of.Goals as goal
 

@@ -1,7 +1,7 @@
 use Rattle.std.proofs.Common.{rules, ◌≡◌, Err, refl}
+use Rattle.design_bundle.specs.Sections.{four_texts}
 use Rattle.diagnosis.specs.ReadDesigns.{shown_design}
 use Rattle.diagnosis.specs.Bundle.{texts_source}
-use Rattle.diagnosis.specs.Sections.{four_texts}
 use Rattle.diagnosis.proofs.Halting.{test_stands, is_refused}
 use Rattle.diagnosis.proofs.texts.read_texts.Goals as goal
 

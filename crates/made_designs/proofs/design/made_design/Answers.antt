@@ -1,5 +1,5 @@
 use Rattle.std.proofs.Common.{◌≡◌, ℕ, List, sym, subst}
-use Rattle.diagnosis.specs.ReaderAnswers.{four}
+use Rattle.design_bundle.specs.FourTexts.{four}
 use Rattle.scan_model.specs.declared.fault.Profile.TheVariants.{One}
 use Rattle.made_laws.specs.MadeNetlist.{made_netlist}
 use Rattle.made_laws.specs.MadeScan.{made_scan}

@@ -2,7 +2,7 @@ use Rattle.std.proofs.Common.{◌≡◌, ℕ, ◌+◌, ◌-◌, ◌*◌, ◌/◌
 use Rattle.lane_rows.specs.Lanes.{lane}
 use Rattle.slat_view.specs.Slat.{is_failing_pattern, fitting_places}
 use Rattle.slat_view.specs.Tests.{fitting_among, IsSlatUpTo}
-use Rattle.slat_view.specs.Trials.{places_in}
+use Rattle.pattern_fits.specs.FitPlaces.{places_in}
 use Rattle.slat_view.proofs.Counting.{pattern_more, one_most, few_fit}
 use Rattle.slat_view.proofs.counts.add_block.Goals as goal
 

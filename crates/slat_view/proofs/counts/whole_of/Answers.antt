@@ -1,6 +1,6 @@
 use Rattle.std.proofs.Common.{◌≡◌, ◌∙◌, ℕ, ◌+◌, ◌-◌, ◌*◌, ◌^◌, ◌<◌, ◌≤◌, List, length, Option, Some, None, sym, ap, subst, arith, rules}
 use Rattle.std.specs.Prelude.{min, IfSome, OnSome}
-use Rattle.slat_view.specs.declared.fit.Fit.{Fit}
+use Rattle.pattern_fits.specs.declared.fit.Fit.{Fit}
 use Rattle.fault_effects.specs.Owners.{places_of}
 use Rattle.slat_view.specs.Tests.{IsSlatUpTo, IsBlockOf, HaveAllFits}
 use Rattle.slat_view.specs.Whole.{HavePlacesUpTo, fits_in}
@@ -8,7 +8,7 @@ use Rattle.slat_view.proofs.KeptFits.{one_more, both_kept, many_more, few_more, 
 use Rattle.slat_view.proofs.counts.whole_of.Goals as goal
 
 pub loop-block-preserved : goal.loop-block-preserved
-loop-block-preserved c =
+loop-block-preserved g c =
     let t = c.args.tested.now.parts.now in
     let k = c.loop-block.block in
     let n = length t.patterns in

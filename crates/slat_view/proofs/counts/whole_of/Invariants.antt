@@ -8,7 +8,7 @@ use Rattle.slat_view.specs.Whole.{HavePlacesUpTo, fits_in}
 use Rattle.slat_view.proofs.counts.whole_of.Given as goal
 
 abbrev pub invariant-loop-block : goal.invariant-loop-block
-invariant-loop-block l = record {
+invariant-loop-block g l = record {
   few : l.slat.failing ≤ min (512 * l.block) (length l.tested.parts.now.patterns);
   counted : (logs : List LogFacts) → StandsFor logs l.tested.die.now.joined → HaveAllFits l.tested.parts.now logs (places_of l.tested.die.now.suspects)
       → IsSlatUpTo l.tested.parts.now logs (min (512 * l.block) (length l.tested.parts.now.patterns)) l.slat;

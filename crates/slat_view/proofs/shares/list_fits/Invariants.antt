@@ -3,7 +3,7 @@ use Rattle.std.specs.Prelude.{All, filter}
 use Rattle.lane_rows.specs.Lanes.{lane}
 use Rattle.fault_effects.specs.Owners.{places_of, suspect_at}
 use Rattle.fault_effects.specs.Shares.{HasShare}
-use Rattle.slat_view.specs.Trials.{places_in}
+use Rattle.pattern_fits.specs.FitPlaces.{places_in}
 use Rattle.slat_view.proofs.shares.list_fits.Given as goal
 
 abbrev pub invariant-loop-i : goal.invariant-loop-i

@@ -1,8 +1,8 @@
 use Rattle.std.proofs.Common.{◌≡◌, ◌++◌, ◌∷◌, [], List, cond, sym, ap, ◌∙◌, append-nil}
 use Rattle.std.proofs.lemmas.Result.{on_ok_weaker}
 use Rattle.lane_rows.specs.Lanes.{lane}
-use Rattle.slat_view.specs.declared.fit.Fit.{Fit}
-use Rattle.slat_view.specs.Trials.{places_in}
+use Rattle.pattern_fits.specs.declared.fit.Fit.{Fit}
+use Rattle.pattern_fits.specs.FitPlaces.{places_in}
 use Rattle.slat_view.proofs.Trying.{chosen}
 use Rattle.slat_view.proofs.shares.push_fit.Goals as goal
 

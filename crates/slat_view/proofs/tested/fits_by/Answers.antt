@@ -15,13 +15,14 @@ use Rattle.fault_effects.specs.Owners.{IsSuspectOf, AreOwners, owner, places_of,
 use Rattle.fault_effects.specs.Shares.{HasShare}
 use Rattle.fault_effects.proofs.PointModel.{point_model-logic, point_model-chain, all_in_universe}
 use Rattle.diag_report.specs.PredictedLog.{fault_of}
-use Rattle.slat_view.specs.declared.fit.Fit.{Fit}
-use Rattle.slat_view.specs.Trials.{fits_in, places_in, AreFits}
+use Rattle.pattern_fits.specs.declared.fit.Fit.{Fit}
+use Rattle.pattern_fits.specs.FitPlaces.{places_in}
+use Rattle.slat_view.specs.Trials.{fits_in, AreFits}
 use Rattle.slat_view.proofs.BlockFits.{group_there}
 use Rattle.slat_view.proofs.tested.fits_by.Goals as goal
 
 pub block_parts-requires-clause-work : goal.block_parts-requires-clause-work
-block_parts-requires-clause-work c =
+block_parts-requires-clause-work g c =
     let t = c.args.parts.now in
     let Ordered : Netlist → Type 0 = λ n. IsEvaluationOrder n c.order.result.now in
     let Owners : List Suspect → Type 0 = λ ss. AreOwners t ss c.args.die.now.owners in
@@ -39,7 +40,7 @@ block_parts-requires-clause-work c =
     }
 
 pub block_parts-requires-clause-chains : goal.block_parts-requires-clause-chains
-block_parts-requires-clause-chains c = record {
+block_parts-requires-clause-chains g c = record {
   test = refl;
   good = refl;
   block = refl;
@@ -49,12 +50,12 @@ block_parts-requires-clause-chains c = record {
 }
 
 pub list_fits-requires : goal.list_fits-requires
-list_fits-requires c =
+list_fits-requires g c =
     let Inside : List (Share (List ℕ)) → Type 0 = λ ss. All (λ s. s.suspect < length c.as_slice-suspects.result.now) ss in
     subst Inside (sym c.as_slice.ensures) (c.in_ok-shares.ensures.inside (All-nil _))
 
 pub returns : goal.returns
-returns c =
+returns g c =
     let t = c.args.parts.now in
     let rows = c.args.rows.now in
     let b = c.args.block in

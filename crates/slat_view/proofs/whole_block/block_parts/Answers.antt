@@ -1,14 +1,16 @@
 use Rattle.std.proofs.Common.{◌≡◌, ℕ, ◌+◌, ◌<◌, List, [], ◌++◌, length, get_or, sym, ap, subst, ◌∙◌, inl, inr, arith}
 use Rattle.std.proofs.lemmas.Bool.{cases_eq}
+use Rattle.std.proofs.lemmas.Result.{IfOk-at_ok}
 use Rattle.scan_model.specs.Netlist.{Netlist}
 use Rattle.fault_effects.specs.declared.share.Share.{Share}
 use Rattle.fault_effects.specs.declared.work_kind.WorkKind.TheVariants.{Cells}
 use Rattle.fault_effects.specs.Owners.{owner, suspect_at}
 use Rattle.fault_effects.specs.Pieces.{IsServed}
-use Rattle.fault_effects.specs.Shares.{Shares}
 use Rattle.fault_effects.proofs.PieceShares.{shares_behind}
 use Rattle.fault_effects.proofs.ShareLists.{shares_join}
 use Rattle.fault_effects.proofs.OwnerGroups.{owned_in}
+use Rattle.slat_view.specs.FitWork.{FitShares, model_of, block_of}
+use Rattle.slat_view.specs.Trials.{AreFitting}
 use Rattle.slat_view.proofs.whole_block.block_parts.Goals as goal
 
 pub returns : goal.returns
@@ -19,16 +21,19 @@ returns g c =
     let suspects = w.suspects.now in
     let N = length t.netlist.nets in
     let owner_at : ℕ → ℕ = λ i. owner t (suspect_at suspects i).fault in
-    let cells = c.group.result.now in
-    let served = IsServed t suspects Cells cells in
+    let group = c.group-group.result.now in
+    let served = IsServed t suspects Cells group in
     let logic = c.in_ok-shares.shares in
+    let cells = c.in_ok-cells.cells in
     let count : c.len-count.result ≡ N = c.len-count.ensures ∙ ap length (c.nets.ensures.value ∙ ap (λ (n : Netlist). n.nets) c.circuit.ensures.value) in
-    let cells_are : cells ≡ get_or w.owners.now (N + 2) [] = c.group.ensures ∙ ap (λ (n : ℕ). get_or w.owners.now (n + 2) []) count in
-    let Joined : List (Share g.row.O-Part.Denot) → Type 0 = Shares (g.O.Observer.means o) (g.O.Observer.model o) (g.O.Observer.block o) suspects served logic in
-    let behind : Joined c.append.new.shares = subst Joined (sym (c.in_ok-append.ensures ∙ ap (λ (piece : List (Share g.row.O-Part.Denot)). logic ++ piece) c.as_slice.ensures))
-    (shares_behind (g.O.Observer.means o) (g.O.Observer.model o) (g.O.Observer.block o) suspects served logic c.in_ok-cells.cells c.in_ok-cells.ensures) in
-    shares_join (g.O.Observer.means o) (g.O.Observer.model o) (g.O.Observer.block o) suspects (λ i. owner_at i < N + 2) served (λ i. owner_at i < N + 3) [] logic c.append.new.shares c.in_ok-shares.ensures behind
+    let cells_are : group ≡ get_or w.owners.now (N + 2) [] = c.group-group.ensures ∙ ap (λ (n : ℕ). get_or w.owners.now (n + 2) []) count in
+    let of_logic = IfOk-at_ok (FitShares w (λ i. owner_at i < N + 2) []) c.in_ok-shares.was c.join-of_logic.ensures.first in
+    let of_cells = IfOk-at_ok (FitShares w served []) c.in_ok-cells.was c.join-of_logic.ensures.second in
+    let Joined : List (Share (List ℕ)) → Type 0 = FitShares w served logic in
+    let behind : Joined c.append.new.shares = subst Joined (sym (c.in_ok-append.ensures ∙ ap (λ (piece : List (Share (List ℕ))). logic ++ piece) c.as_slice.ensures))
+    (shares_behind (AreFitting o.points.rows.now) (model_of o) (block_of o) suspects served logic cells of_cells) in
+    shares_join (AreFitting o.points.rows.now) (model_of o) (block_of o) suspects (λ i. owner_at i < N + 2) served (λ i. owner_at i < N + 3) [] logic c.append.new.shares of_logic behind
     (λ i lt below. elim (cases_eq (owner_at i) (N + 2)) [
-      | inl same ↦ inr (owned_in t suspects w.owners.now (N + 2) cells c.requires.work.owners cells_are i lt same)
+      | inl same ↦ inr (owned_in t suspects w.owners.now (N + 2) group c.requires.work.owners cells_are i lt same)
       | inr other ↦ inl (omega (arith, below, other))
     ])

@@ -4,7 +4,7 @@ use Rattle.diagnosis.specs.Designs.{ViewFacts, texts_of}
 use Rattle.book.specs.Answers.{die_look, up_to}
 use Rattle.book.specs.Changes.{BookFacts, IsBook, IsViewIn}
 use Rattle.book.specs.Lookups.{IsDieIn}
-use Rattle.book.specs.Kinds.{arc_values}
+use Rattle.die_entries.specs.Entries.{arc_values}
 use Rattle.book.proofs.LegalLists.{both}
 use Rattle.book.proofs.Looking.{design_there, die_looked, view_in, revision_stays}
 use Rattle.book.proofs.Showing.{IsShown, is_shown, some_is, die_tagged, part_stands, part_differs}

@@ -7,10 +7,10 @@ use Rattle.lane_rows.specs.Lanes.{lane}
 use Rattle.lane_rows.specs.Planes.{Planes, held}
 use Rattle.lane_rows.specs.Sources.{no_planes}
 use Rattle.packed_sim.proofs.FaultBits.{and_when}
-use Rattle.chain_compactor.specs.Compaction.{members}
+use Rattle.compact_points.specs.Compaction.{members}
+use Rattle.compact_points.proofs.PointsThere.{point_is_there}
 use Rattle.chain_compactor.specs.Flips.{members_at}
 use Rattle.chain_compactor.specs.CompactCounts.{expected_at}
-use Rattle.chain_compactor.proofs.Members.{point_is_there}
 use Rattle.chain_compactor.proofs.counts.CompactCounts.differing_row.Goals as goal
 
 pub differing-differs-requires-clause-point : goal.differing-differs-requires-clause-point

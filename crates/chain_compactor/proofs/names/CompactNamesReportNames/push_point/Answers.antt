@@ -1,4 +1,4 @@
-use Rattle.chain_compactor.proofs.Members.{point_is_there}
+use Rattle.compact_points.proofs.PointsThere.{point_is_there}
 use Rattle.chain_compactor.proofs.names.CompactNamesReportNames.push_point.Goals as goal
 
 pub push_shown-requires-clause-point : goal.push_shown-requires-clause-point

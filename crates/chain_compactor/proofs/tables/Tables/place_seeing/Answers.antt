@@ -10,7 +10,7 @@ use Rattle.scan_model.specs.ScanTest.{ScanTest, IsPoint, points_of, point_at}
 use Rattle.scan_model.proofs.Points.{points_are_points}
 use Rattle.fail_logs.specs.BitNumbers.{place_in}
 use Rattle.fail_logs.specs.Frames.{rows_view}
-use Rattle.chain_compactor.specs.Channels.{channel_at, chain_length}
+use Rattle.compact_points.specs.Channels.{channel_at, chain_length}
 use Rattle.chain_compactor.specs.ObservationPoints.{has_chain, channels_of, cycle_places, seeing}
 use Rattle.chain_compactor.proofs.tables.Tables.place_seeing.Goals as goal
 

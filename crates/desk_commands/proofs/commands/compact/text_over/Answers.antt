@@ -1,7 +1,7 @@
 use Rattle.std.proofs.Common.{sym, subst}
 use Rattle.scan_model.specs.Universe.{universe}
 use Rattle.lane_rows.specs.GoodRows.{AreGoodRows}
-use Rattle.chain_compactor.specs.Compaction.{compact_bits, compact_class, predicts_compact_fail}
+use Rattle.chain_compactor.specs.CompactMatches.{compact_bits, compact_class, predicts_compact_fail}
 use Rattle.desk_commands.proofs.Candidates.{in_order, places}
 use Rattle.desk_commands.proofs.commands.compact.text_over.Goals as goal
 

@@ -1,6 +1,6 @@
+use Rattle.design_bundle.specs.Bundle.{bundle_text}
 use Rattle.diagnosis.specs.Texts.{value}
 use Rattle.diagnosis.proofs.Halting.{comes_after}
-use Rattle.diagnosis.specs.Bundle.{bundle_text}
 use Rattle.desk_commands.specs.Designs.{shown_design}
 use Rattle.command_words.specs.CommandViews.{shown_files}
 use Rattle.desk_commands.specs.Work.{design_reading}

@@ -1,6 +1,6 @@
 use Rattle.std.proofs.Common.{◌∙◌, ap, sym, Ok}
 use Rattle.std.proofs.lemmas.Result.{err_from_is_err_and}
-use Rattle.diagnosis.specs.Bundle.{bundle_text}
+use Rattle.design_bundle.specs.Bundle.{bundle_text}
 use Rattle.desk_commands.proofs.FilePlaces.{same_four}
 use Rattle.desk_commands.proofs.commands.pack.bundle_over.Goals as goal
 

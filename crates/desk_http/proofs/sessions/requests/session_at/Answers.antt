@@ -1,12 +1,12 @@
 use Rattle.std.proofs.Common.{◌≡◌, ◌∙◌, ◌+◌, ◌≤◌, ℕ, List, [], Option, length, sym, ap, subst, arith}
 use Rattle.std.specs.Io.KnownBytes.{prepend_known}
-use Rattle.desk_http.specs.declared.sessions.requests.SessionEnd.{SessionEnd}
-use Rattle.desk_http.specs.declared.sessions.requests.SessionEnd.TheVariants.{NoMemory}
+use Rattle.final_replies.specs.declared.ends.SessionEnd.{SessionEnd}
+use Rattle.final_replies.specs.declared.ends.SessionEnd.TheVariants.{NoMemory}
 use Rattle.desk_http.specs.Sessions.{IsSession, Rise, with_mark}
 use Rattle.desk_http.specs.Turns.{Takes}
 use Rattle.desk_http.proofs.SessionSteps.{SoFar, begins, goes_on, ends_session, no_session, still_few, marks_few}
-use Rattle.desk_http.proofs.SeatSteps.{prefix_same}
-use Rattle.desk_http.proofs.KeptReports.{true_after}
+use Rattle.desk_answers.proofs.SeatSteps.{prefix_same}
+use Rattle.desk_answers.proofs.KeptReports.{true_after}
 use Rattle.desk_http.proofs.SessionLaws.{marks_rise}
 use Rattle.desk_http.proofs.sessions.requests.session_at.Goals as goal
 

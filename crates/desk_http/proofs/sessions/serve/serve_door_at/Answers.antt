@@ -1,6 +1,6 @@
 use Rattle.std.proofs.Common.{[], ◌+◌, ℕ, sym, subst, arith}
 use Rattle.desk_http.specs.ServedConnections.{is_unserved, Serves}
-use Rattle.desk_http.proofs.SeatSteps.{did_nothing}
+use Rattle.desk_answers.proofs.SeatSteps.{did_nothing}
 use Rattle.desk_http.proofs.ServeSteps.{did_some_on, count_few, none_served, one_more_served}
 use Rattle.desk_http.proofs.sessions.serve.serve_door_at.Goals as goal
 

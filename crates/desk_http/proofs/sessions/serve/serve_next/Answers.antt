@@ -2,7 +2,7 @@ use Rattle.std.proofs.Common.{◌==◌, not, ℕ, List, [], Option, Some, ap, su
 use Rattle.desk_outside.specs.declared.door.LinkHome.{LinkHome}
 use Rattle.desk_outside.specs.Doors.{handed}
 use Rattle.desk_http.specs.Sessions.{IsSession}
-use Rattle.desk_http.proofs.SeatSteps.{did_nothing}
+use Rattle.desk_answers.proofs.SeatSteps.{did_nothing}
 use Rattle.desk_http.proofs.ServeSteps.{told_after, home_is, rose_above}
 use Rattle.desk_http.proofs.sessions.serve.serve_next.Goals as goal
 

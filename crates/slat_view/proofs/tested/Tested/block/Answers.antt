@@ -5,18 +5,19 @@ use Rattle.log_rows.specs.declared.point_row.PointRow.{PointRow}
 use Rattle.log_rows.specs.PointRows.{ArePointRows}
 use Rattle.fault_effects.specs.Owners.{places_of}
 use Rattle.diag_report.specs.PredictedLog.{fault_of}
-use Rattle.slat_view.specs.declared.fit.Fit.{Fit}
+use Rattle.pattern_fits.specs.declared.fit.Fit.{Fit}
 use Rattle.slat_view.specs.Slat.{is_failing_pattern, fits}
 use Rattle.slat_view.specs.Tests.{fitting_among}
-use Rattle.slat_view.specs.Trials.{any_failing, fits_in, places_in}
+use Rattle.pattern_fits.specs.FitPlaces.{places_in}
+use Rattle.slat_view.specs.Trials.{any_failing, fits_in}
 use Rattle.slat_view.proofs.Trying.{failing_lane, fits_there, same_chosen, none_fit}
 use Rattle.slat_view.proofs.tested.Tested.block.Goals as goal
 
 pub fits_by-requires-clause-failing : goal.fits_by-requires-clause-failing
-fits_by-requires-clause-failing c = λ j lt. rw c.as_slice-rows.ensures (rw c.as_slice.ensures at c.failing_lanes-failing.ensures j lt)
+fits_by-requires-clause-failing g c = λ j lt. rw c.as_slice-rows.ensures (rw c.as_slice.ensures at c.failing_lanes-failing.ensures j lt)
 
 pub returns-then-is_empty : goal.returns-then-is_empty
-returns-then-is_empty c = λ logs stands.
+returns-then-is_empty g c = λ logs stands.
     let x = c.args.self.now in
     let t = x.parts.now in
     let b = c.args.block in
@@ -32,7 +33,7 @@ returns-then-is_empty c = λ logs stands.
     }
 
 pub returns : goal.returns
-returns c = λ logs stands.
+returns g c = λ logs stands.
     let x = c.args.self.now in
     let t = x.parts.now in
     let b = c.args.block in

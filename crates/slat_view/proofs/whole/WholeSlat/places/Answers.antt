@@ -4,7 +4,7 @@ use Rattle.std.proofs.lemmas.Result.{IfOk-weaker}
 use Rattle.scan_model.specs.declared.logs.Scored.{Scored}
 use Rattle.scan_model.specs.MatchCounts.{candidates}
 use Rattle.diagnosis.specs.Designs.{facts_of}
-use Rattle.slat_view.specs.declared.fit.Fit.{Fit}
+use Rattle.pattern_fits.specs.declared.fit.Fit.{Fit}
 use Rattle.slat_view.specs.Slat.{fitting_places}
 use Rattle.slat_view.specs.Whole.{places_at, HavePlacesUpTo}
 use Rattle.slat_view.proofs.FittingCandidates.{fitting_listed}

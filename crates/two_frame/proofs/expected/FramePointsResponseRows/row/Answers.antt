@@ -12,7 +12,8 @@ use Rattle.scan_model.proofs.counting.Shown.{point_at-IsPoint}
 use Rattle.lane_rows.specs.Planes.{Planes, held}
 use Rattle.lane_rows.specs.Sources.{lane_values, no_planes}
 use Rattle.lane_rows.specs.GoodRows.{pattern_of, no_block}
-use Rattle.two_frame.specs.TwoFrame.{second_source, frame_observed, frame_response}
+use Rattle.frame_rows.specs.Frames.{second_source}
+use Rattle.two_frame.specs.TwoFrame.{frame_observed, frame_response}
 use Rattle.two_frame.proofs.BlockReads.{values_read, second_values, net_read}
 use Rattle.two_frame.proofs.FrameResponses.{net_shows, length-frame_rows}
 use Rattle.two_frame.proofs.expected.FramePointsResponseRows.row.Goals as goal

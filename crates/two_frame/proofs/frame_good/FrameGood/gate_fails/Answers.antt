@@ -7,9 +7,9 @@ use Rattle.lane_rows.specs.Lanes.{lane}
 use Rattle.lane_rows.specs.GoodRows.{pattern_of}
 use Rattle.lane_rows.specs.Stimuli.{captures}
 use Rattle.packed_sim.specs.Belongs.{observed_at}
-use Rattle.two_frame.specs.TwoFrame.{second_source, net_changes}
-use Rattle.two_frame.specs.FrameRows.{second_stimuli}
-use Rattle.two_frame.proofs.NextFrame.{captured}
+use Rattle.frame_rows.specs.Frames.{second_source, net_changes}
+use Rattle.frame_rows.specs.SecondRows.{second_stimuli}
+use Rattle.two_frame.proofs.Captures.{captured}
 use Rattle.two_frame.proofs.ShownFails.{and_same, gate_fails-is}
 use Rattle.two_frame.proofs.frame_good.FrameGood.gate_fails.Goals as goal
 

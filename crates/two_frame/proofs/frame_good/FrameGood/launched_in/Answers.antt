@@ -3,8 +3,8 @@ use Rattle.std.proofs.lemmas.Bool.{eqb-true}
 use Rattle.lane_rows.specs.Lanes.{lane}
 use Rattle.lane_rows.specs.GoodRows.{pattern_of}
 use Rattle.lane_rows.specs.Stimuli.{captures}
-use Rattle.two_frame.specs.TwoFrame.{net_changes}
-use Rattle.two_frame.proofs.NextFrame.{captured}
+use Rattle.frame_rows.specs.Frames.{net_changes}
+use Rattle.two_frame.proofs.Captures.{captured}
 use Rattle.two_frame.proofs.frame_good.FrameGood.launched_in.Goals as goal
 
 there_alone : (x y here : Bool) → (here ≡ true → x ≡ y) → (x && here) ≡ (y && here)

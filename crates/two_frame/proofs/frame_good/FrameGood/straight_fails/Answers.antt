@@ -3,7 +3,7 @@ use Rattle.std.proofs.lemmas.Bool.{eq-eqb}
 use Rattle.scan_model.specs.Netlist.{pin_at}
 use Rattle.scan_model.specs.ScanTest.{point_at}
 use Rattle.scan_model.specs.Masks.{place_is_point}
-use Rattle.two_frame.specs.TwoFrame.{net_changes}
+use Rattle.frame_rows.specs.Frames.{net_changes}
 use Rattle.two_frame.proofs.ShownFails.{and_same, pin_fails-is}
 use Rattle.two_frame.proofs.frame_good.FrameGood.straight_fails.Goals as goal
 

@@ -2,7 +2,7 @@ use Rattle.std.proofs.Common.{length, ap, ◌∙◌, arith}
 use Rattle.scan_model.specs.Netlist.{Netlist, pin_at}
 use Rattle.lane_rows.specs.GoodRows.{pattern_of}
 use Rattle.packed_sim.specs.declared.good.PackedGood.{PackedGood}
-use Rattle.two_frame.specs.TwoFrame.{net_changes}
+use Rattle.frame_rows.specs.Frames.{net_changes}
 use Rattle.two_frame.proofs.frame_observer.FrameCounts.pin_launched.Goals as goal
 
 pub launched-requires-clause-block : goal.launched-requires-clause-block

@@ -3,7 +3,7 @@ use Rattle.std.proofs.lemmas.Result.{on_ok_weaker}
 use Rattle.lane_rows.specs.Stimuli.{AreRowsOf}
 use Rattle.packed_sim.specs.declared.good.PackedGood.{PackedGood}
 use Rattle.packed_sim.specs.Belongs.{IsBuiltFor, IsScratchOf}
-use Rattle.two_frame.specs.FrameRows.{second_stimuli}
+use Rattle.frame_rows.specs.SecondRows.{second_stimuli}
 use Rattle.two_frame.proofs.frame_observer.FrameCountsObserver.flip.Goals as goal
 
 pub show-requires-clause-built : goal.show-requires-clause-built

@@ -11,8 +11,9 @@ use Rattle.lane_rows.specs.GoodRows.{pattern_of}
 use Rattle.lane_rows.specs.Stimuli.{AreRowsOf}
 use Rattle.packed_sim.specs.declared.good.PackedGood.{PackedGood}
 use Rattle.fault_effects.proofs.Owned.{gate_kind, touched_pin, only_one}
-use Rattle.two_frame.specs.TwoFrame.{second_source, net_changes, makes_transition}
-use Rattle.two_frame.specs.FrameRows.{second_stimuli}
+use Rattle.frame_rows.specs.Frames.{second_source, net_changes}
+use Rattle.frame_rows.specs.SecondRows.{second_stimuli}
+use Rattle.two_frame.specs.TwoFrame.{makes_transition}
 use Rattle.two_frame.proofs.FrameFlips.{stem_flips}
 use Rattle.two_frame.proofs.frame_observer.FrameCountsObserver.mask.Goals as goal
 

@@ -13,8 +13,8 @@ use Rattle.packed_sim.specs.Belongs.{captures, block_at}
 use Rattle.fault_effects.specs.FaultModel.{straight_in}
 use Rattle.match_counts.specs.Tables.{seen_in}
 use Rattle.match_counts.specs.SameTables.{count_same}
-use Rattle.two_frame.specs.TwoFrame.{net_changes}
-use Rattle.two_frame.specs.FrameRows.{second_stimuli}
+use Rattle.frame_rows.specs.Frames.{net_changes}
+use Rattle.frame_rows.specs.SecondRows.{second_stimuli}
 use Rattle.two_frame.specs.FrameModel.{frame_model}
 use Rattle.two_frame.proofs.frame_observer.FrameCountsObserver.straight.Goals as goal
 

@@ -4,7 +4,7 @@ use Rattle.std.specs.Str.{bytes_eq}
 use Rattle.std.specs.Arc.{arc_value}
 use Rattle.std.proofs.lemmas.Option.{slice_get_read}
 use Rattle.std.proofs.lemmas.Grind.{common_steps}
-use Rattle.book.specs.Kinds.{arc_values}
+use Rattle.die_entries.specs.Entries.{arc_values}
 use Rattle.book.specs.Places.{DesignsFacts, place_of}
 use Rattle.book.proofs.Noted.{arc_there, arc_past, not_noted, noted_past, noted_there}
 use Rattle.book.proofs.state.designs.Designs.place.Goals as goal

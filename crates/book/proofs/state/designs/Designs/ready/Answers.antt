@@ -3,7 +3,7 @@ use Rattle.std.specs.List.{position}
 use Rattle.std.specs.Str.{bytes_eq}
 use Rattle.std.specs.Arc.{arc_value}
 use Rattle.diagnosis.specs.Designs.{DesignFacts}
-use Rattle.book.specs.Kinds.{arc_values}
+use Rattle.die_entries.specs.Entries.{arc_values}
 use Rattle.book.specs.Places.{DesignsFacts, AreNoted, place_of}
 use Rattle.book.proofs.Noted.{AreNoted-kept}
 use Rattle.book.proofs.state.designs.Designs.ready.Goals as goal

@@ -1,0 +1,4 @@
+pub mod ChainLengths
+pub mod ShownCells
+pub mod PointsThere
+pub mod CompactRows

@@ -1,0 +1,5 @@
+use Rattle.desk_answers.proofs.DeskSeat.{looks_so}
+use Rattle.desk_answers.proofs.desk_seat.DeskSeatSeatAtDesk.look_design.Goals as goal
+
+pub returns-clause-did : goal.returns-clause-did
+returns-clause-did g c = looks_so c.args.self.now c.look_design.new.seat c.look_design.result.mark c.mark-mark.ensures.base c.look_design.ensures.looks

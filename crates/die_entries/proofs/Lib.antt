@@ -1,0 +1,3 @@
+pub mod FirstThat
+pub mod MoreLogs
+pub mod Revisions

@@ -1,0 +1,3 @@
+pub mod SecondValues
+pub mod NextFrame
+pub mod LaneReads

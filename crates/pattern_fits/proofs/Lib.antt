@@ -1,0 +1,2 @@
+mod Carries
+pub mod Shown

@@ -1,0 +1,6 @@
+use Rattle.std.proofs.Common.{◌≡◌, ℕ, ◌+◌, ◌<◌, take}
+use Rattle.pattern_fits.specs.Sliced.{value, rows_with}
+use Rattle.pattern_fits.proofs.lane_counter.LaneCounter.sub_rows.Given as goal
+
+abbrev pub invariant-loop-row : goal.invariant-loop-row
+invariant-loop-row l = (j : ℕ) → j < 512 → value l.self j + rows_with (take l.row-index l.rows) j ≡ value l.initial.self j

@@ -1,0 +1,10 @@
+use Rattle.std.proofs.Common.{◌≡◌, ◌+◌, ◌*◌, ◌<◌, ℕ, length}
+use Rattle.lane_rows.specs.Lanes.{lane}
+use Rattle.pattern_fits.specs.Sliced.{value, weight, one}
+use Rattle.pattern_fits.proofs.lane_counter.add_from.Given as goal
+
+abbrev pub invariant-loop-i : goal.invariant-loop-i
+invariant-loop-i l = record {
+  len : length l.slices ≡ length l.fn.slices;
+  sum : (j : ℕ) → j < 512 → value l.slices j + weight l.i * one (lane l.carry j) ≡ value l.fn.slices j + one (lane l.fn.lanes j);
+}

@@ -1,9 +1,0 @@
-//! A fault and the patterns of a block that it fits.
-use lane_rows::Row;
-
-/// The place of a fault, and the lanes of a block that it fits.
-#[derive(Clone, Copy, Debug)]
-pub(crate) struct Fit {
-    pub place: u32,
-    pub lanes: Row,
-}

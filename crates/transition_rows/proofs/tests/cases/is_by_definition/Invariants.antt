@@ -1,4 +1,0 @@
-use Rattle.transition_rows.proofs.tests.cases.is_by_definition.Given as goal
-
-abbrev pub ghosts-fails : goal.ghosts-fails
-ghosts-fails a = record { name = a.blank.name; parts = a.blank.parts }
