@@ -7,9 +7,10 @@
 With 1, 2, 4 and 8 workers, twice as many clients as workers, each a process of its own, upload logs of 100 dies of the design
 of examples/day and ask for pages of their reports, three pages to a log, over connections of 50 requests.
 
-With --large there are 8 workers: 15 clients upload logs of 1 MiB, each another one, and one asks for the signs of a die, which takes
-nothing but its turn. OTHER are programs of other states; these and the one of this state take turns, three times each, and for each the
-most logs a second, and the median and the longest of the waits for signs of that turn, are told.
+With --large there are 8 workers: 7 clients upload logs of 1 MiB, each another one, and an eighth asks for a sign-off that isn't there,
+which takes nothing but its turn. A worker serves a connection to its end, so there are no more clients than workers. OTHER are programs of
+other states; these and the one of this state take turns, three times each, and for each the most logs a second, and the median and the
+longest of the waits for sign-offs of that turn, are told.
 """
 import argparse
 import multiprocessing
@@ -54,39 +55,64 @@ def client(number, port, until, found):
     found.put((requests, longest))
 
 
-def large_log(number, turn):
-    """A log of 1 MiB of a client's own die; its comment tells it from the others."""
-    head = 'FAILLOG 1\ndie large%d\ndesign block\n# %d\ntested 0 511\n' % (number, turn)
+def large_log(number):
+    """What follows the first lines of a log of 1 MiB of a client's own die."""
     fails = ''.join('fail %d cell c0 %d\n' % (k % 512, k % 5) for k in range(LARGE // 16))
-    return (head + fails)[:LARGE - 4].rpartition('\n')[0].encode() + b'\nend\n'
+    return ('die large%d\ndesign block\ntested 0 511\n' % number + fails)[:LARGE - 64].rpartition('\n')[0].encode() + b'\nend\n'
 
 
-def uploader(number, port, until, found):
-    """Uploads large logs until the time, and tells how many were taken."""
-    taken = 0
+def uploader(number, port, until):
+    """Uploads large logs until the time, and tells how many were taken; a comment tells each from the others."""
+    taken, rest = 0, large_log(number)
     with connect(port) as s:
         while time.monotonic() < until:
-            status, body = ask(s, 'POST', '/designs/block/dies/large%d/logs' % number, large_log(number, taken))
-            if status not in (200, 201):
+            status, body = ask(s, 'POST', '/designs/block/dies/large%d/logs' % number, b'FAILLOG 1\n# %d\n' % taken + rest)
+            if status != 201:
                 sys.exit('a large log: %d %r' % (status, body))
             taken += 1
-    found.put((taken, []))
+    return taken, []
 
 
-def asker(port, until, found):
-    """Asks for the signs of a die until the time, and tells each wait."""
+def asker(port, until):
+    """Asks for a sign-off of a die until the time, and tells each wait; no connection is asked for more than it serves."""
     waits = []
-    with connect(port) as s:
-        while time.monotonic() < until:
-            begin = time.monotonic()
-            ask(s, 'GET', '/designs/block/dies/large0/signs')
-            waits.append(time.monotonic() - begin)
-            time.sleep(0.002)
-    found.put((0, waits))
+    while time.monotonic() < until:
+        with connect(port) as s:
+            for _ in range(500):
+                begin = time.monotonic()
+                ask(s, 'GET', '/designs/block/dies/large0/signoffs/1')
+                waits.append(time.monotonic() - begin)
+                time.sleep(0.002)
+                if time.monotonic() > until:
+                    break
+    return 0, waits
+
+
+def tells(found, work, *words):
+    """What a client found, or why it ended: whoever waits for it hears of both."""
+    try:
+        found.put(work(*words))
+    except (SystemExit, OSError) as fault:
+        found.put(fault)
+
+
+def load_clients(port, seconds):
+    """What each of the clients found."""
+    found = multiprocessing.Queue()
+    until = time.monotonic() + seconds
+    works = [(uploader, i, port, until) for i in range(7)] + [(asker, port, until)]
+    clients = [multiprocessing.Process(target=tells, args=(found, *work), daemon=True) for work in works]
+    for it in clients:
+        it.start()
+    told = [found.get(timeout=seconds + 60) for _ in clients]
+    for it in told:
+        if isinstance(it, BaseException):
+            sys.exit('a client ended: %s' % it)
+    return told
 
 
 def load_large(program, seconds, folder, bundle):
-    """Logs a second, and the waits for signs, of eight workers."""
+    """Logs a second, and the waits for sign-offs, of eight workers."""
     port = free_port()
     store = os.path.join(folder, 'large.db')
     desk = subprocess.Popen([program, 'serve', str(port), '8', '1000000', store], stdout=subprocess.DEVNULL)
@@ -94,15 +120,7 @@ def load_large(program, seconds, folder, bundle):
         with connect(port) as s:
             if ask(s, 'PUT', '/designs/block', bundle)[0] != 201:
                 sys.exit('the design was refused')
-        found = multiprocessing.Queue()
-        until = time.monotonic() + seconds
-        clients = [multiprocessing.Process(target=uploader, args=(i, port, until, found)) for i in range(15)]
-        clients.append(multiprocessing.Process(target=asker, args=(port, until, found)))
-        for it in clients:
-            it.start()
-        told = [found.get() for _ in clients]
-        for it in clients:
-            it.join()
+        told = load_clients(port, seconds)
     finally:
         desk.kill()
         desk.wait()
@@ -118,7 +136,7 @@ def tell_large(seconds, programs, bundle):
             for program in programs:
                 best[program] = max(best.get(program, (0, 0, 0)), load_large(program, seconds, folder, bundle))
     for program, (logs, median, longest) in best.items():
-        print('%s: %6.1f logs of 1 MiB a second, signs in %.1f ms, the longest wait %.0f ms' % (program, logs, 1e3 * median, 1e3 * longest))
+        print('%s: %6.1f logs of 1 MiB a second, sign-offs in %.1f ms, the longest wait %.0f ms' % (program, logs, 1e3 * median, 1e3 * longest))
 
 
 def load(workers, seconds, folder, bundle):
