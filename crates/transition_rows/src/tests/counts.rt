@@ -7,7 +7,7 @@ ghost use Rattle.two_frame.specs.FrameRows.{AllCapture};
 
 use super::design::made;
 use super::fails::is_other;
-use super::frames::{Shown, first_frame, shown};
+use super::frames::{PointValues, first_frame, shown};
 use super::slow::SlowFault;
 use fail_logs::read_log;
 use fault_universe::fault_at;
@@ -55,7 +55,7 @@ fn counted(counts: Counts, listed: bool, expected: Tri, value: Tri) -> Counts {
 }
 
 /// The counts with the bits of one pattern more, whose points are expected to show values and show others.
-fn with_bits(pattern: u32, expected: &Shown, values: &Shown, counts: Counts) -> Counts {
+fn with_bits(pattern: u32, expected: &PointValues, values: &PointValues, counts: Counts) -> Counts {
     let mut sum = counts;
     for point in 0..4 {
         let listed = LISTED.contains(&(pattern, point));

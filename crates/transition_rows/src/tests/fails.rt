@@ -5,7 +5,7 @@ ghost use Rattle.two_frame.specs.TwoFrame.{transitions};
 ghost use Rattle.two_frame.specs.FrameRows.{AllCapture};
 
 use super::design::made;
-use super::frames::{Shown, first_frame, shown};
+use super::frames::{PointValues, first_frame, shown};
 use super::slow::{SlowFault, Values};
 use fault_universe::fault_at;
 use scan_model::{Parts, Steps, Tri};
@@ -49,7 +49,7 @@ fn fails<L: Ledger>(
 }
 
 /// Whether a row of points says where these values are fails.
-fn are_fails(out: &[bool; 4], expected: &Shown, values: &Shown) -> bool {
+fn are_fails(out: &[bool; 4], expected: &PointValues, values: &PointValues) -> bool {
     for point in 0..4 {
         if out[point] != is_other(expected[point], values[point]) {
             return false;
@@ -66,7 +66,7 @@ fn is_by_definition(
     place: u32,
     pattern: u32,
     first: &Values,
-    expected: &Shown,
+    expected: &PointValues,
 ) -> bool
     requires captures { AllCapture parts.now }
     requires place { place < length (transitions parts.now) }

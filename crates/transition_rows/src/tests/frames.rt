@@ -6,7 +6,7 @@ use scan_model::{
 };
 
 /// The values of points, by their numbers.
-pub(crate) type Shown = [Tri; 4];
+pub(crate) type PointValues = [Tri; 4];
 
 /// What a pin sees, of the values that nets have so far.
 fn seen(circuit: &Circuit, values: &[Tri], slow: SlowFault<'_>, pin: u32) -> Tri {
@@ -154,7 +154,7 @@ fn pin_of(parts: &Parts, point: Point) -> u32 {
 }
 
 /// What each point shows in the second frame.
-pub(crate) fn shown(parts: &Parts, slow: SlowFault<'_>) -> Shown {
+pub(crate) fn shown(parts: &Parts, slow: SlowFault<'_>) -> PointValues {
     let circuit = parts.circuit();
     let values = settled(circuit, &next_sources(circuit, slow.first), slow);
     let mut row = [Tri::Unknown; 4];
