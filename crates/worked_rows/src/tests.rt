@@ -4,5 +4,7 @@ mod counts;
 mod designs;
 mod faults;
 mod logs;
+mod responses;
 mod rows;
+mod steps;
 mod suspects;

@@ -61,6 +61,11 @@ pub(crate) fn parts(rt: &impl Abort, alloc: Global, texts: &Texts) -> Parts {
     .expect(rt, "a design")
 }
 
+/// c17 with other patterns.
+pub(crate) fn c17_over(rt: &impl Abort, alloc: Global, patterns: &[u8]) -> Parts {
+    parts_of(alloc, Profile::One, C17, b"", patterns, b"").expect(rt, "a design")
+}
+
 /// The design of `demo 7 2`.
 pub(crate) fn demo(rt: &impl Abort, alloc: Global) -> Parts {
     let made = made_design(alloc, 7, 2).expect(rt, "memory");
