@@ -6,7 +6,7 @@ use Rattle.scan_model.specs.Marks.{is_marked}
 use Rattle.scan_model.specs.ScanTest.{ScanTest}
 use Rattle.scan_model.specs.Universe.{universe}
 use Rattle.back_trace.specs.Traces.{no_fault}
-use Rattle.back_trace.specs.Both.{explains_both, AreBothMarked}
+use Rattle.back_trace.specs.CommonPatterns.{explains_both, AreBothMarked}
 
 module _ (t : ScanTest) (b : ℕ) (ones others : List (List ℕ)) where
   pub both_begin : (marks : List Bool) → AreBothMarked t b ones others 0 marks marks

@@ -4,4 +4,4 @@ pub mod Keys
 pub mod Traces
 pub mod Slots
 pub mod SuspectMarks
-pub mod Both
+pub mod CommonPatterns

@@ -6,8 +6,8 @@ ghost use Rattle.lane_rows.specs.GoodRows.{AreBlockRows};
 ghost use Rattle.back_trace.specs.Fails.{IsWithin};
 ghost use Rattle.back_trace.specs.Traces.{no_fault};
 ghost use Rattle.back_trace.specs.SuspectMarks.{IsTraced};
-ghost use Rattle.back_trace.specs.Both as both;
-ghost use Rattle.back_trace.specs.Both.{AreBothMarked};
+ghost use Rattle.back_trace.specs.CommonPatterns as both;
+ghost use Rattle.back_trace.specs.CommonPatterns.{AreBothMarked};
 
 use crate::explain::explaining_lanes;
 use crate::keys::{cell_keys, observed_keys};

@@ -15,7 +15,7 @@ use Rattle.compact_points.specs.declared.compactor.Channel.{Channel}
 use Rattle.compact_points.specs.Channels.{Compactor, cycles_of, compact_points, compactor_of}
 use Rattle.chain_compactor.specs.declared.channels.Channels.{Channels}
 use Rattle.chain_compactor.specs.ChannelText.{ChannelNames, chain_names, channel_of, named_channels, channels_before, numbered, has_other_form, lacks_chain, is_taken, is_one_more, has_too_many_points, channel_rules, channel_rule, compactor_of_lines}
-use Rattle.chain_compactor.specs.AfterChannels.{numbers_in, cycles_in, some_rules, line_rules, AddsSome, IsAfter}
+use Rattle.chain_compactor.specs.ChannelReading.{numbers_in, cycles_in, some_rules, line_rules, AddsSome, IsAfter}
 use Rattle.chain_compactor.proofs.PointCount.{points_more}
 use Rattle.chain_compactor.proofs.Sound.{AreSound, line_more}
 

@@ -33,7 +33,7 @@ use Rattle.scan_model.specs.Masks.{operand_values, mask, place_nets, place_is_po
 use Rattle.scan_model.proofs.counting.Masks.{masks_apart}
 use Rattle.scan_model.proofs.counting.Shown.{not_opposite_itself}
 use Rattle.lane_rows.specs.GoodRows.{same_kind}
-use Rattle.packed_sim.specs.Belongs.{captures}
+use Rattle.packed_sim.specs.PackedParts.{captures}
 use Rattle.packed_sim.proofs.Changes.{point_stands}
 use Rattle.fault_effects.specs.FaultModel.{IsFaultModel, IsChainModel, pin_flips}
 use Rattle.fault_effects.proofs.SoleReader.{pin_flips-is}

@@ -27,7 +27,7 @@ use Rattle.place_sets.specs.Places.{has_place}
 use Rattle.lane_rows.specs.GoodRows.{no_block, pattern_of, same_kind}
 use Rattle.packed_sim.specs.declared.good.PackedGood.{PackedGood}
 use Rattle.packed_sim.specs.declared.scratch.Scratch.{Scratch}
-use Rattle.packed_sim.specs.Belongs.{BelongsTo, block_at, captures, has_own_row}
+use Rattle.packed_sim.specs.PackedParts.{BelongsTo, block_at, captures, has_own_row}
 use Rattle.packed_sim.proofs.Belonging.{own_no_row}
 use Rattle.fail_logs.specs.FrameFacts.{point_among}
 use Rattle.fault_effects.specs.FaultModel.{Table, shown_in, straight_in, fails_in}

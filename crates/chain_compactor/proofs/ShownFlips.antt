@@ -11,7 +11,7 @@ use Rattle.scan_model.proofs.counting.Shown.{observed_net-in_range}
 use Rattle.lane_rows.specs.GoodRows.{pattern_of}
 use Rattle.packed_sim.specs.declared.good.PackedGood.{PackedGood}
 use Rattle.packed_sim.specs.declared.scratch.Scratch.{Scratch}
-use Rattle.packed_sim.specs.Belongs.{captures, good_at, now_at}
+use Rattle.packed_sim.specs.PackedParts.{captures, good_at, now_at}
 use Rattle.packed_sim.specs.Changes.{IsChange}
 use Rattle.packed_sim.proofs.Belonging.{good_is}
 use Rattle.packed_sim.proofs.Changes.{xor_back, point_stands}

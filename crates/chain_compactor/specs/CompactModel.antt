@@ -4,7 +4,7 @@ use Rattle.std.specs.List.{list_any}
 use Rattle.scan_model.specs.ScanTest.{ScanTest, point_at}
 use Rattle.scan_model.specs.Coverage.{bit_of}
 use Rattle.scan_model.specs.Masks.{mask}
-use Rattle.packed_sim.specs.Belongs.{captures}
+use Rattle.packed_sim.specs.PackedParts.{captures}
 use Rattle.fault_effects.specs.FaultModel.{FaultModel, pin_flips}
 use Rattle.compact_points.specs.Channels.{Compactor}
 use Rattle.chain_compactor.specs.CompactMatches.{predicts_compact_fail}

@@ -1,6 +1,6 @@
 -- The specs of tests with a compactor.
 pub mod ChannelText
-pub mod AfterChannels
+pub mod ChannelReading
 pub mod CompactLog
 pub mod CompactMatches
 pub mod Flips

@@ -6,7 +6,7 @@ use Rattle.scan_model.specs.Masks.{flipped}
 use Rattle.lane_rows.specs.GoodRows.{pattern_of}
 use Rattle.packed_sim.specs.declared.good.PackedGood.{PackedGood}
 use Rattle.packed_sim.specs.declared.scratch.Scratch.{Scratch}
-use Rattle.packed_sim.specs.Belongs.{BelongsTo, IsScratchIn, captures, now_at, observed_at}
+use Rattle.packed_sim.specs.PackedParts.{BelongsTo, IsScratchIn, captures, now_at, observed_at}
 use Rattle.packed_sim.specs.ChainLoads.{IsLoaded}
 
 -- in block b the scratch shows a flip of net n

@@ -9,7 +9,7 @@ ghost use Rattle.scan_model.specs.ScanTest.{ScanTest};
 ghost use Rattle.text_parts.specs.Views.{nows};
 ghost use Rattle.compact_points.specs.Channels.{greatest};
 ghost use Rattle.chain_compactor.specs.ChannelText.{channel_of};
-ghost use Rattle.chain_compactor.specs.AfterChannels.{length_in, numbers_in};
+ghost use Rattle.chain_compactor.specs.ChannelReading.{length_in, numbers_in};
 
 use crate::named::NamedChannel;
 use compact_points::Channel;
@@ -103,7 +103,7 @@ pub struct Channels<'a> {
 }
 
 impl<'a> Channels<'a> {
-    ghost use Rattle.chain_compactor.specs.AfterChannels.{named_view, named_rules, line_rules, Adds, AddsSome, IsAfter};
+    ghost use Rattle.chain_compactor.specs.ChannelReading.{named_view, named_rules, line_rules, Adds, AddsSome, IsAfter};
 
     pub fn new(alloc: Global, outputs: usize) -> Self
         ensures { (t : ScanTest) → outputs ≡ length t.netlist.outputs → IsAfter t result [] }

@@ -6,7 +6,7 @@ ghost use Rattle.scan_model.specs.declared.logs.LogFacts.{LogFacts};
 ghost use Rattle.scan_model.specs.Universe.{universe};
 ghost use Rattle.log_join.specs.Joining.{StandsFor, IsJoinedOf};
 ghost use Rattle.lane_rows.specs.GoodRows.{AreBlockRows};
-ghost use Rattle.packed_sim.specs.Belongs.{BelongsTo};
+ghost use Rattle.packed_sim.specs.PackedParts.{BelongsTo};
 ghost use Rattle.fault_effects.specs.Owners.{IsSuspectOf, AreOwners, owner, suspect_at};
 ghost use Rattle.fault_effects.specs.Readers.{AreReads};
 ghost use Rattle.match_counts.specs.Totals.{AreCounted, AreTotals, candidates_in};

@@ -3,7 +3,7 @@
 ghost use Rattle.std.specs.Prelude.{◌≡◌, ℕ, ◌<◌, ◌≤◌, true, All, Contains, length, IfOk};
 ghost use Rattle.scan_model.specs.ScanTest.{points_of, point_at};
 ghost use Rattle.place_sets.specs.Places.{has_place, room};
-ghost use Rattle.packed_sim.specs.Belongs.{IsBuiltFor, observed_at};
+ghost use Rattle.packed_sim.specs.PackedParts.{IsBuiltFor, observed_at};
 ghost use Rattle.chain_compactor.specs.ObservationPoints.{seeing};
 ghost use Rattle.chain_compactor.specs.CompactCounts.{AreDue};
 

@@ -9,7 +9,7 @@ ghost use Rattle.text_parts.specs.ReadResults.{Gives, IfFault};
 ghost use Rattle.fail_logs.specs.Frames.{frame_view};
 ghost use Rattle.fail_logs.specs.FrameFacts.{IsFrameOf};
 ghost use Rattle.compact_points.specs.Channels.{IsCompactorOf, greatest};
-ghost use Rattle.chain_compactor.specs.AfterChannels.{length_in};
+ghost use Rattle.chain_compactor.specs.ChannelReading.{length_in};
 ghost use Rattle.chain_compactor.specs.CompactLog.{compact_frame};
 
 use crate::channels::greatest_length;

@@ -16,7 +16,7 @@ pub struct NamedChannel<'a, 'b> {
 }
 
 impl<'a, 'b> NamedChannel<'a, 'b> {
-    ghost use Rattle.chain_compactor.specs.AfterChannels.{named_view};
+    ghost use Rattle.chain_compactor.specs.ChannelReading.{named_view};
 
     /// The channel of a line's words, where they are of its form.
     pub fn of_words(words: &'b [&'a [u8]]) -> Option<Self>

@@ -1,7 +1,7 @@
 //! Flips and faults of shift paths over the compact points of a block, and what faults come to: two sums.
 
 ghost use Rattle.std.specs.Prelude.{◌≡◌, ◌<◌, length, OnOk};
-ghost use Rattle.packed_sim.specs.Belongs.{BelongsTo, IsScratchIn};
+ghost use Rattle.packed_sim.specs.PackedParts.{BelongsTo, IsScratchIn};
 ghost use Rattle.fault_effects.specs.FaultModel.{shown_in};
 ghost use Rattle.match_counts.specs.Tables.{HasTable};
 ghost use Rattle.chain_compactor.specs.CompactModel.{compact_model};
@@ -40,7 +40,7 @@ impl CompactCounts<'_> {
 
 impl Observer for CompactCounts<'_> {
     ghost use Rattle.std.specs.Prelude.{length};
-    ghost use Rattle.packed_sim.specs.Belongs.{BelongsTo, IsScratchOf};
+    ghost use Rattle.packed_sim.specs.PackedParts.{BelongsTo, IsScratchOf};
     ghost use Rattle.match_counts.specs.Tables.{HasTable, IsCount};
     ghost use Rattle.match_counts.specs.SameTables.{count_same};
     ghost use Rattle.chain_compactor.specs.CompactModel.{compact_model};

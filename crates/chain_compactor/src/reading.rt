@@ -7,7 +7,7 @@ ghost use Rattle.text_parts.specs.ReadResults.{Gives, IfFault};
 ghost use Rattle.text_parts.specs.Views.{nows};
 ghost use Rattle.compact_points.specs.Channels.{IsCompactorOf, compactor_of};
 ghost use Rattle.chain_compactor.specs.ChannelText.{chain_names, channel_rule, channel_breaks, channel_reading, compactor_of_lines};
-ghost use Rattle.chain_compactor.specs.AfterChannels.{IsAfter, IsKept};
+ghost use Rattle.chain_compactor.specs.ChannelReading.{IsAfter, IsKept};
 
 use crate::channels::Channels;
 use crate::in_order::points_over;

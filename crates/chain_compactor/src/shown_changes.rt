@@ -29,7 +29,7 @@ impl Changes for FlipChanges<'_> {
     ghost use Rattle.scan_model.specs.Suspect.{observed_net};
     ghost use Rattle.scan_model.specs.Masks.{flipped};
     ghost use Rattle.lane_rows.specs.GoodRows.{pattern_of};
-    ghost use Rattle.packed_sim.specs.Belongs.{captures};
+    ghost use Rattle.packed_sim.specs.PackedParts.{captures};
     ghost use Rattle.chain_compactor.specs.ShownFlips.{ShowsFlip};
 
     ghost test = { λ o. o.parts.now };
@@ -67,7 +67,7 @@ impl Changes for PinChanges<'_> {
     ghost use Rattle.scan_model.specs.NetValue.{good_value};
     ghost use Rattle.scan_model.specs.Suspect.{observed_net};
     ghost use Rattle.lane_rows.specs.GoodRows.{pattern_of};
-    ghost use Rattle.packed_sim.specs.Belongs.{captures};
+    ghost use Rattle.packed_sim.specs.PackedParts.{captures};
     ghost use Rattle.chain_compactor.specs.Flips.{straight_value};
     ghost use Rattle.chain_compactor.specs.ShownFlips.{IsStuckIn};
 

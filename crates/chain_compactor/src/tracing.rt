@@ -8,7 +8,7 @@ ghost use Rattle.scan_model.specs.Universe.{universe};
 ghost use Rattle.scan_model.specs.Suspect.{suspects};
 ghost use Rattle.log_join.specs.Joining.{StandsFor, IsJoinedOf};
 ghost use Rattle.lane_rows.specs.Lanes.{lane};
-ghost use Rattle.packed_sim.specs.Belongs.{BelongsTo};
+ghost use Rattle.packed_sim.specs.PackedParts.{BelongsTo};
 ghost use Rattle.log_rows.specs.PointRows.{no_point_row};
 ghost use Rattle.compact_points.specs.Channels.{IsCompactorOf};
 ghost use Rattle.compact_points.specs.Compaction.{compact_rows};

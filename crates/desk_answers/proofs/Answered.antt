@@ -20,7 +20,7 @@ use Rattle.desk_answers.specs.Resources.{resource_of, methods_of}
 use Rattle.desk_replies.specs.Answers.{Answer, refused, other_method, look_refused}
 use Rattle.desk_answers.specs.RouteAnswers.{answer_at, routed, predicted, design_put, sign_post}
 use Rattle.desk_answers.specs.Seats.{IsPrefix, SeatFacts, Did}
-use Rattle.desk_answers.specs.Answering.{Came, made_by, failures_of, AnsweredAt, Answered, AnsweredBy, IsAnswer, IsAnswerAt, ReadsSign, has_sign, with_done}
+use Rattle.desk_answers.specs.BookAnswers.{Came, made_by, failures_of, AnsweredAt, Answered, AnsweredBy, IsAnswer, IsAnswerAt, ReadsSign, has_sign, with_done}
 use Rattle.desk_replies.specs.Responses.{response_of}
 use Rattle.desk_answers.proofs.SeatSteps.{prefix_on, did_after_nothing}
 use Rattle.desk_answers.proofs.SignKnown.{sign_known}

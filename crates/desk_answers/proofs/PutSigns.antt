@@ -23,7 +23,7 @@ use Rattle.die_entries.specs.declared.sign.Sign.{Sign}
 use Rattle.desk_replies.specs.Bodies.{sign_off_line}
 use Rattle.desk_replies.specs.Answers.{Answer, look, look_refused, put}
 use Rattle.desk_answers.specs.RouteAnswers.{with_design, with_die, sign_post}
-use Rattle.desk_answers.specs.Answering.{AnsweredBy}
+use Rattle.desk_answers.specs.BookAnswers.{AnsweredBy}
 use Rattle.desk_replies.specs.Responses.{PutAnswered, response_of}
 use Rattle.desk_answers.specs.Seats.{IsPrefix, SeatFacts, Did, SeatChanged}
 use Rattle.desk_answers.proofs.Answered.{said_as, unfound}

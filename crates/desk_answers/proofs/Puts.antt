@@ -38,7 +38,7 @@ use Rattle.desk_replies.specs.Bodies.{design_body, log_body}
 use Rattle.desk_replies.specs.declared.bodies.TextKind.TheVariants as kind
 use Rattle.desk_replies.specs.Answers.{Answer, look, look_refused, put, put_refused, unprocessable}
 use Rattle.desk_answers.specs.RouteAnswers.{over, with_design, design_read, design_put, log_read, log_post}
-use Rattle.desk_answers.specs.Answering.{AnsweredBy, with_done}
+use Rattle.desk_answers.specs.BookAnswers.{AnsweredBy, with_done}
 use Rattle.desk_replies.specs.Responses.{PutAnswered, response_of}
 use Rattle.desk_answers.specs.Seats.{IsPrefix, SeatFacts, Did, SeatChanged, failed_in, IsLogIn}
 use Rattle.desk_answers.proofs.SeatSteps.{did_nothing}

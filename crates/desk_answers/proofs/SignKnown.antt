@@ -12,7 +12,7 @@ use Rattle.serde_json.specs.Find.{get_member}
 use Rattle.serde_json.specs.Read.{read}
 use Rattle.die_entries.specs.declared.sign.Sign.{Sign}
 use Rattle.desk_answers.specs.SignBodies.{members_len, IsSign, IsSignBody}
-use Rattle.desk_answers.specs.Answering.{ReadsSign}
+use Rattle.desk_answers.specs.BookAnswers.{ReadsSign}
 
 -- the sign-off that a value stands for, or that it stands for none
 abbrev ReadsValue : Data → Option Sign → Type 0

@@ -3,6 +3,6 @@ pub mod Routes
 pub mod Resources
 pub mod SignBodies
 pub mod RouteAnswers
-pub mod Answering
+pub mod BookAnswers
 pub mod Seats
 pub mod DeskSeats

@@ -12,7 +12,7 @@ ghost use Rattle.desk_replies.specs.Responses.{response_of};
 ghost use Rattle.desk_answers.specs.Seats.{IsPrefix, Did};
 ghost use Rattle.desk_answers.specs.Resources.{HasTags, methods_of, resource_of};
 ghost use Rattle.desk_answers.specs.RouteAnswers.{answer_at};
-ghost use Rattle.desk_answers.specs.Answering.{IsAnswer, IsAnswerAt, Answered};
+ghost use Rattle.desk_answers.specs.BookAnswers.{IsAnswer, IsAnswerAt, Answered};
 
 use self::designs::{get_design, get_fails, put_design};
 use self::dies::{get_page, get_report, post_log};

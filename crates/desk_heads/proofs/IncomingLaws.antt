@@ -10,7 +10,7 @@ use Rattle.desk_heads.specs.declared.head.Head.{Head}
 use Rattle.desk_heads.specs.declared.head.HeadFault.{HeadFault}
 use Rattle.desk_heads.specs.declared.head.HeadSeen.TheVariants.{Refused}
 use Rattle.desk_heads.specs.Heads.{HeadFacts, IsHeadOf}
-use Rattle.desk_heads.specs.Incoming.{Grows, IsUnended}
+use Rattle.desk_heads.specs.InboxReads.{Grows, IsUnended}
 use Rattle.desk_heads.specs.Items.{refused, request, nothing, part, item, IsFrontOf}
 use Rattle.desk_heads.specs.SeenHeads.{IsAsked, IsHeadIn, Sees}
 use Rattle.desk_heads.proofs.HeadLaws.{stays}

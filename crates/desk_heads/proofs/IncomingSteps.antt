@@ -5,7 +5,7 @@ use Rattle.std.proofs.lemmas.Bool.{leb-false}
 use Rattle.std.proofs.lemmas.List.{length-take}
 use Rattle.desk_heads.specs.declared.head.HeadFault.TheVariants as fault
 use Rattle.desk_heads.specs.Heads.{head_length, head_limit, HeadFound, IsHeadOf}
-use Rattle.desk_heads.specs.Incoming.{Grows, Loses, IsUnended, HasHead}
+use Rattle.desk_heads.specs.InboxReads.{Grows, Loses, IsUnended, HasHead}
 use Rattle.desk_heads.proofs.HeadLaws.{Found, one_head, stays}
 
 -- fewer bytes than the longest head has

@@ -3,7 +3,7 @@ use Rattle.std.proofs.Common.{◌≡◌, ℕ, zero, ◌≤◌, min, List, ◌++�
 use Rattle.std.proofs.lemmas.List.{take-append-le, length-take, take_all}
 use Rattle.std.proofs.Math.Seq.{take-take}
 use Rattle.desk_heads.specs.Heads.{head_length, head_limit, HeadFound, HasNoEndWithin}
-use Rattle.desk_heads.specs.Incoming.{IsUnended}
+use Rattle.desk_heads.specs.InboxReads.{IsUnended}
 use Rattle.desk_heads.proofs.IncomingSteps.{unended_short}
 
 -- in no byte

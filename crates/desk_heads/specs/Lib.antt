@@ -3,4 +3,4 @@ pub mod Heads
 pub mod Items
 pub mod Fields
 pub mod SeenHeads
-pub mod Incoming
+pub mod InboxReads

@@ -7,7 +7,7 @@ ghost use Rattle.std.specs.Io.KnownBytes.{prepend_known, IsAtEnd};
 ghost use Rattle.desk_heads.specs.declared.incoming.BodyRead.{BodyRead};
 ghost use Rattle.desk_heads.specs.declared.incoming.HeadRead.{HeadRead};
 ghost use Rattle.desk_heads.specs.declared.incoming.ReadStop.{ReadStop};
-ghost use Rattle.desk_heads.specs.Incoming.{Grows, Loses, HasHead, EndsInPiece, HeadReads, BodyReads};
+ghost use Rattle.desk_heads.specs.InboxReads.{Grows, Loses, HasHead, EndsInPiece, HeadReads, BodyReads};
 ghost use Rattle.desk_outside.specs.Faults.{Rose};
 
 use crate::head::{Head, HeadFault, HeadSeen};

@@ -5,7 +5,7 @@ use Rattle.desk_outside.specs.Faults.{Rose}
 use Rattle.desk_serve.specs.declared.ending.Ending.{Ending}
 use Rattle.desk_serve.specs.declared.ending.Ending.TheVariants.{Done, SinkFault, StoreFault, NoMemory, Spoiled, StreetFault}
 use Rattle.desk_serve.specs.Lines.{status_of}
-use Rattle.desk_serve.specs.Runs.{Asked, Outside, HasEnded, HasRun, IsWritten}
+use Rattle.desk_serve.specs.Runs.{RunOrder, Outside, HasEnded, HasRun, IsWritten}
 use Rattle.command_words.specs.declared.command.Command.{Command}
 use Rattle.command_words.specs.declared.command.Command.TheVariants.{Make, Demo}
 use Rattle.command_words.specs.Invocations as words
@@ -23,7 +23,7 @@ other_status NoMemory = (omega arith, omega arith)
 other_status (Spoiled row) = (omega arith, omega arith)
 other_status StreetFault = (omega arith, omega arith)
 
-module _ (asked : Asked) (old new : Outside) (untouched : Type 0) (status : ℕ) where
+module _ (asked : RunOrder) (old new : Outside) (untouched : Type 0) (status : ℕ) where
   pub never_2 : HasRun asked old new untouched status → status ≢ 2
   never_2 (ending, is, ended) e = (other_status ending).0 (sym is ∙ e)
 

@@ -16,7 +16,7 @@ use Rattle.desk_serve.specs.declared.ending.Ending.TheVariants.{Done, SinkFault,
 use Rattle.desk_serve.specs.Lines.{Writes, first_line, line_of}
 use Rattle.desk_serve.specs.Refusals.{ending_of}
 use Rattle.desk_serve.specs.StreetEnd.{OverBook, IsOver}
-use Rattle.desk_serve.specs.Runs.{Asked, Outside, HasEnded, IsDue, IsFirstDue, IsUnused, WereServed, HasAll, HasAllUnlessFailed, HasNone, was_kept, max_deeds}
+use Rattle.desk_serve.specs.Runs.{RunOrder, Outside, HasEnded, IsDue, IsFirstDue, IsUnused, WereServed, HasAll, HasAllUnlessFailed, HasNone, was_kept, max_deeds}
 
 -- ---- bytes
 
@@ -45,7 +45,7 @@ only_rose (inr (sink, part, cause)) on = inr (sink, part, on cause)
 
 -- ---- the last bytes
 
-module _ (asked : Asked) (old new : Outside) (untouched : Type 0) (result : Ending) where
+module _ (asked : RunOrder) (old new : Outside) (untouched : Type 0) (result : Ending) where
   -- a line alone
   pub ends_alone : (due : Ending) → IsDue asked old new untouched due (line_of due) → Writes due (line_of due) result old.written new.written (Rose old.sink_faults new.sink_faults) → HasEnded asked old new untouched result
   ends_alone due is (inl (same, wrote)) = inl record { text = line_of due; is = subst (λ r. IsDue asked old new untouched r (line_of due)) (sym same) is; wrote = wrote }
@@ -79,14 +79,14 @@ module _ (asked : Asked) (old new : Outside) (untouched : Type 0) (result : Endi
 
 -- ---- a store that wasn't opened
 
-pub no_keeper : (asked : Asked) (old new : Outside) (untouched : Type 0) (ending result : Ending) → untouched → ((told : CabinetTold) → old.cabinet ≡ Some told → IsUnused asked.store told new.cabinet)
+pub no_keeper : (asked : RunOrder) (old new : Outside) (untouched : Type 0) (ending result : Ending) → untouched → ((told : CabinetTold) → old.cabinet ≡ Some told → IsUnused asked.store told new.cabinet)
     → (ending ≡ StoreFault) ⊎ (ending ≡ NoMemory) → (ending ≡ StoreFault → Rose old.cabinet_faults new.cabinet_faults) → Writes ending (line_of ending) result old.written new.written (Rose old.sink_faults new.sink_faults) → HasEnded asked old new untouched result
 no_keeper asked old new untouched ending result same unused (inl is) rose writes =
     ends_alone asked old new untouched result StoreFault (record { street = same; cabinet = unused }, rose is, refl) (subst (λ e. Writes e (line_of e) result old.written new.written (Rose old.sink_faults new.sink_faults)) is writes)
 no_keeper asked old new untouched ending result same unused (inr is) rose writes =
     ends_alone asked old new untouched result NoMemory (inl (record { street = same; cabinet = unused }, refl)) (subst (λ e. Writes e (line_of e) result old.written new.written (Rose old.sink_faults new.sink_faults)) is writes)
 
-pub not_opened : (asked : Asked) (old new : Outside) (untouched : Type 0) (f : StartFault) (result : Ending) → untouched → ((told : CabinetTold) → old.cabinet ≡ Some told → IsUnused asked.store told new.cabinet)
+pub not_opened : (asked : RunOrder) (old new : Outside) (untouched : Type 0) (f : StartFault) (result : Ending) → untouched → ((told : CabinetTold) → old.cabinet ≡ Some told → IsUnused asked.store told new.cabinet)
     → ((row : ℕ) → f ≡ fault.Spoiled row → (told : CabinetTold) → old.cabinet ≡ Some told → (deeds : List Deed) × (faults : ℕ) × (new.cabinet ≡ Some (was_kept told asked.store deeds deeds faults)) × (spoiled_row max_deeds deeds ≡ Some row))
     → (f ≡ fault.Failed → Rose old.cabinet_faults new.cabinet_faults) → Writes (ending_of f) (line_of (ending_of f)) result old.written new.written (Rose old.sink_faults new.sink_faults) → HasEnded asked old new untouched result
 not_opened asked old new untouched (fault.Spoiled row) result same unused spoiled rose writes =
@@ -118,7 +118,7 @@ keeper_rose faults_of (Some k) first old mid new some none rose on later =
 
 -- ---- a store that was opened
 
-module _ (asked : Asked) (old new : Outside) (untouched : Type 0) (deeds : List Deed) (book : BookFacts) (kept : (told : CabinetTold) → old.cabinet ≡ Some told → new.cabinet ≡ Some (was_kept told asked.store deeds book.deeds book.faults)) where
+module _ (asked : RunOrder) (old new : Outside) (untouched : Type 0) (deeds : List Deed) (book : BookFacts) (kept : (told : CabinetTold) → old.cabinet ≡ Some told → new.cabinet ≡ Some (was_kept told asked.store deeds book.deeds book.faults)) where
   were_served : (doors unserved : ℕ) (links : _) → OverBook asked old.street new.street doors unserved links deeds book → WereServed asked old new doors unserved links deeds book.deeds
   were_served doors unserved links over = record { grown = over.grown; faults = book.faults; cabinet = kept; street = over.street }
 

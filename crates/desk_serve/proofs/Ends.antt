@@ -8,7 +8,7 @@ use Rattle.desk_outside.specs.declared.street.DoorHome.{DoorHome}
 use Rattle.desk_outside.specs.Streets.{StreetTold}
 use Rattle.book.specs.Changes.{BookFacts, IsBook}
 use Rattle.shared_desk.specs.Seats.{DeskFacts, SeatFacts, failed}
-use Rattle.shared_desk.specs.Starting.{AreAllSeats, IsFinished}
+use Rattle.shared_desk.specs.StartAndEnd.{AreAllSeats, IsFinished}
 use Rattle.std.proofs.Math.Seq.{drop-length}
 use Rattle.std.proofs.lemmas.List.Elements.{All-nil}
 use Rattle.book.specs.LegalDeeds.{is_legal}
@@ -18,13 +18,13 @@ use Rattle.desk_serve.specs.declared.ending.Ending.{Ending}
 use Rattle.desk_serve.specs.Doors.{DoorFacts, IsFreshDoor, Tells, has_failed, home_of, with_doors_out, with_doors_home}
 use Rattle.desk_serve.specs.Work.{Work, AllWorked, any_failed, any_unserved, instead_of}
 use Rattle.desk_serve.specs.StreetEnd.{AreFresh, StreetServed, IsOpened, opened_deeds, OverBook, IsOver}
-use Rattle.desk_serve.specs.Runs.{Asked, AreHome, HasAll, HasAllUnlessFailed, HasNone, max_deeds}
+use Rattle.desk_serve.specs.Runs.{RunOrder, AreHome, HasAll, HasAllUnlessFailed, HasNone, max_deeds}
 use Rattle.desk_serve.proofs.HomeServed.{lacked}
 use Rattle.desk_serve.proofs.Homes.{home_served, home_unserved, all_done, all_unless_failed, some_failed, none_lacked, some_lacked}
 use Rattle.desk_serve.proofs.Seats.{still_all, tells_after, based, legal_after, same_deeds, prefix_after}
 
 -- all seats are there at the end
-pub all_seats : (asked : Asked) (tells street_rose sink_rose : Type 0) (desk : DeskFacts) (seats after : List SeatFacts) (old new : Option (List ℕ)) (doors : List DoorFacts) (instead : Option Ending) → AreAllSeats desk seats
+pub all_seats : (asked : RunOrder) (tells street_rose sink_rose : Type 0) (desk : DeskFacts) (seats after : List SeatFacts) (old new : Option (List ℕ)) (doors : List DoorFacts) (instead : Option Ending) → AreAllSeats desk seats
     → StreetServed asked tells street_rose sink_rose desk seats old new after doors instead → AreAllSeats desk after
 all_seats asked tells street_rose sink_rose desk seats after old new doors instead all (inl lacks) = subst (AreAllSeats desk) (sym lacks.same) all
 all_seats asked tells street_rose sink_rose desk seats after old new doors instead all (inr (inl lacks)) = subst (AreAllSeats desk) (sym lacks.same) all
@@ -32,7 +32,7 @@ all_seats asked tells street_rose sink_rose desk seats after old new doors inste
     still_all desk asked.sessions ok.served.works seats after all ok.served.worked ok.served.seats_were ok.served.seats_are
 
 -- the doors tell where the street does
-pub all_tell : (asked : Asked) (tells street_rose sink_rose : Type 0) (desk : DeskFacts) (seats after : List SeatFacts) (old new : Option (List ℕ)) (doors : List DoorFacts) (instead : Option Ending) → StreetServed asked tells street_rose sink_rose desk seats old new after doors instead
+pub all_tell : (asked : RunOrder) (tells street_rose sink_rose : Type 0) (desk : DeskFacts) (seats after : List SeatFacts) (old new : Option (List ℕ)) (doors : List DoorFacts) (instead : Option Ending) → StreetServed asked tells street_rose sink_rose desk seats old new after doors instead
     → tells → All Tells doors
 all_tell asked tells street_rose sink_rose desk seats after old new doors instead (inl lacks) told = lacks.fresh.telling told
 all_tell asked tells street_rose sink_rose desk seats after old new doors instead (inr (inl lacks)) told = lacks.fresh.telling told
@@ -41,7 +41,7 @@ all_tell asked tells street_rose sink_rose desk seats after old new doors instea
 
 -- ---- a street at which nothing was served
 
-module _ (asked : Asked) (street_before street_after : Option StreetTold) (desk : DeskFacts) (seats : List SeatFacts) (book : BookFacts) (some : 0 < asked.workers) (opened : IsOpened asked.workers desk seats) (is_book : IsBook book) where
+module _ (asked : RunOrder) (street_before street_after : Option StreetTold) (desk : DeskFacts) (seats : List SeatFacts) (book : BookFacts) (some : 0 < asked.workers) (opened : IsOpened asked.workers desk seats) (is_book : IsBook book) where
   -- so many doors came home as they were
   pub rest_over : (tells : Type 0) (doors : List DoorFacts) (n : ℕ) → ((told : StreetTold) → street_before ≡ Some told → tells) → AreFresh tells doors → length doors ≡ n
       → ((told : StreetTold) → street_before ≡ Some told → street_after ≡ Some (with_doors_home (with_doors_out told asked.port (length doors)) doors)) → book.deeds ≡ opened_deeds seats → OverBook asked street_before street_after n 0 HasNone (opened_deeds seats) book
@@ -87,7 +87,7 @@ bool_cases : (b : Bool) → (b ≡ true) ⊎ (b ≡ false)
 bool_cases true = inl refl
 bool_cases false = inr refl
 
-pub over : (asked : Asked) (untouched tells rose_before rose sink_rose : Type 0) (street_before street_after : Option StreetTold) (old new : Option (List ℕ)) (desk : DeskFacts) (seats after : List SeatFacts) (doors : List DoorFacts) (instead : Option Ending) (book : BookFacts)
+pub over : (asked : RunOrder) (untouched tells rose_before rose sink_rose : Type 0) (street_before street_after : Option StreetTold) (old new : Option (List ℕ)) (desk : DeskFacts) (seats after : List SeatFacts) (doors : List DoorFacts) (instead : Option Ending) (book : BookFacts)
     → 0 < asked.workers → IsOpened asked.workers desk seats → IsBook book → ((told : StreetTold) → street_before ≡ Some told → tells) → StreetServed asked tells rose_before sink_rose desk seats old new after doors instead → IsFinished desk after book
     → ((told : StreetTold) → street_before ≡ Some told → street_after ≡ Some (with_doors_home (with_doors_out told asked.port (length doors)) doors)) → (rose_before → rose) → (list_any has_failed doors ≡ true → rose)
     → IsOver asked untouched rose sink_rose street_before street_after old new (opened_deeds seats) instead book

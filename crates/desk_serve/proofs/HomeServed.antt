@@ -8,7 +8,7 @@ use Rattle.desk_outside.specs.declared.door.LinkHome.{LinkHome}
 use Rattle.desk_outside.specs.Doors.{DoorTold, fresh_door}
 use Rattle.shared_desk.specs.Entries.{mine_of}
 use Rattle.shared_desk.specs.Seats.{DeskFacts, SeatFacts as DeskSeatFacts, failed}
-use Rattle.shared_desk.specs.Starting.{fresh_seat, HasOwn}
+use Rattle.shared_desk.specs.StartAndEnd.{fresh_seat, HasOwn}
 use Rattle.desk_answers.specs.Seats.{SeatFacts, Did}
 use Rattle.desk_answers.specs.DeskSeats.{of_desk}
 use Rattle.desk_http.specs.ServedConnections.{AreServed, Serves}

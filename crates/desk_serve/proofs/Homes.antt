@@ -10,12 +10,12 @@ use Rattle.desk_outside.specs.declared.street.DoorHome.{DoorHome}
 use Rattle.desk_outside.specs.Doors.{fresh_door}
 use Rattle.desk_outside.specs.Streets.{StreetTold}
 use Rattle.shared_desk.specs.Seats.{DeskFacts, SeatFacts as DeskSeatFacts, failed}
-use Rattle.shared_desk.specs.Starting.{fresh_seat, HasOwn}
+use Rattle.shared_desk.specs.StartAndEnd.{fresh_seat, HasOwn}
 use Rattle.desk_answers.proofs.SeatSteps.{prefix_same}
 use Rattle.desk_serve.specs.HomeDoors.{IsServedBy, AreServedBy}
 use Rattle.desk_serve.specs.Doors.{DoorFacts, IsFreshDoor, Tells, has_failed, told_or_fresh, home_of, with_doors_out, with_doors_home}
 use Rattle.desk_serve.specs.Work.{Work, HasWorked, AllWorked, any_failed, any_unserved}
-use Rattle.desk_serve.specs.Runs.{Asked, AreHome, HasAll, HasAllUnlessFailed, HasNone, doors_home, max_deeds}
+use Rattle.desk_serve.specs.Runs.{RunOrder, AreHome, HasAll, HasAllUnlessFailed, HasNone, doors_home, max_deeds}
 use Rattle.desk_serve.proofs.HomeServed.{lacked, serves_fresh, as_many_home, doors_served}
 use Rattle.desk_serve.proofs.Lists.{or_some, or_right}
 
@@ -77,7 +77,7 @@ fails : (desk : DeskFacts) (sessions : ℕ) (w : Work) → IsFreshDoor w.door_be
 fails desk sessions w fresh worked failed =
     let e : (w.door.faults == 0) ≡ false = ne_eqb _ _ (λ zero. omega (arith, zero, fresh.unfailed, worked.rose failed)) in rw e refl
 
-pub all_unless_failed : (desk : DeskFacts) (asked : Asked) (ws : List Work) → All IsFreshDoor (map (λ (w : Work). w.door_before) ws) → All Tells (map (λ (w : Work). w.door_before) ws) → AllWorked desk asked.sessions ws
+pub all_unless_failed : (desk : DeskFacts) (asked : RunOrder) (ws : List Work) → All IsFreshDoor (map (λ (w : Work). w.door_before) ws) → All Tells (map (λ (w : Work). w.door_before) ws) → AllWorked desk asked.sessions ws
     → All (HasAllUnlessFailed asked) (map home_of (map (λ (w : Work). w.door) ws))
 all_unless_failed desk asked [] fresh tell worked = All-nil (HasAllUnlessFailed asked)
 all_unless_failed desk asked (w ∷ ws) fresh tell (worked, rest) =
@@ -89,7 +89,7 @@ or_none : (a b : Bool) → (a || b) ≡ false → (a ≡ false) × (b ≡ false)
 or_none true b e = absurd (cc)
 or_none false b e = (refl, e)
 
-pub all_done : (desk : DeskFacts) (asked : Asked) (ws : List Work) → All IsFreshDoor (map (λ (w : Work). w.door_before) ws) → All Tells (map (λ (w : Work). w.door_before) ws) → AllWorked desk asked.sessions ws → any_failed ws ≡ false
+pub all_done : (desk : DeskFacts) (asked : RunOrder) (ws : List Work) → All IsFreshDoor (map (λ (w : Work). w.door_before) ws) → All Tells (map (λ (w : Work). w.door_before) ws) → AllWorked desk asked.sessions ws → any_failed ws ≡ false
     → All (HasAll asked) (map home_of (map (λ (w : Work). w.door) ws))
 all_done desk asked [] fresh tell worked good = All-nil (HasAll asked)
 all_done desk asked (w ∷ ws) fresh tell (worked, rest) good =
@@ -133,7 +133,7 @@ some_lacked (w ∷ ws) e =
 
 -- ---- the doors that are home
 
-pub home_served : (desk : DeskFacts) (asked : Asked) (told : StreetTold) (now : Option StreetTold) (before after : List Deed) (opened count : ℕ) (links : DoorHome → Type 0) (ws : List Work) → desk.limit ≡ max_deeds → desk.base ≡ length before
+pub home_served : (desk : DeskFacts) (asked : RunOrder) (told : StreetTold) (now : Option StreetTold) (before after : List Deed) (opened count : ℕ) (links : DoorHome → Type 0) (ws : List Work) → desk.limit ≡ max_deeds → desk.base ≡ length before
     → ((k : ℕ) (seat : DeskSeatFacts) → slice_get (map (λ (w : Work). w.seat_before) ws) k ≡ Some seat → seat ≡ fresh_seat desk before k) → All IsFreshDoor (map (λ (w : Work). w.door_before) ws) → All Tells (map (λ (w : Work). w.door_before) ws)
     → AllWorked desk asked.sessions ws → ((k : ℕ) (seat : DeskSeatFacts) → slice_get (map (λ (w : Work). w.seat) ws) k ≡ Some seat → HasOwn after seat)
     → now ≡ Some (with_doors_home (with_doors_out told asked.port (length (map (λ (w : Work). w.door) ws))) (map (λ (w : Work). w.door) ws)) → length (map (λ (w : Work). w.door) ws) ≡ asked.workers → All links (map home_of (map (λ (w : Work). w.door) ws))
@@ -152,7 +152,7 @@ home_served desk asked told now before after opened count links ws limited base 
       few = omega (arith, counted, served.2);
     }
 
-pub home_unserved : (asked : Asked) (told : StreetTold) (now : Option StreetTold) (deeds : List Deed) (count n : ℕ) (doors : List DoorFacts) → All IsFreshDoor doors → All Tells doors → now ≡ Some (with_doors_home (with_doors_out told asked.port (length doors)) doors)
+pub home_unserved : (asked : RunOrder) (told : StreetTold) (now : Option StreetTold) (deeds : List Deed) (count n : ℕ) (doors : List DoorFacts) → All IsFreshDoor doors → All Tells doors → now ≡ Some (with_doors_home (with_doors_out told asked.port (length doors)) doors)
     → length doors ≡ n → AreHome asked told now n 0 HasNone deeds deeds count
 home_unserved asked told now deeds count n doors fresh tell now_is many = record {
   homes = map home_of doors;

@@ -5,7 +5,7 @@ use Rattle.std.proofs.lemmas.List.Elements.{All-head}
 use Rattle.std.proofs.Math.Seq.{drop-append_seam, drop-length}
 use Rattle.desk_outside.specs.declared.deed.Deed.{Deed}
 use Rattle.shared_desk.specs.Seats.{DeskFacts}
-use Rattle.shared_desk.specs.Starting.{fresh_seat, HasOwn}
+use Rattle.shared_desk.specs.StartAndEnd.{fresh_seat, HasOwn}
 use Rattle.desk_answers.specs.Seats.{IsPrefix}
 
 -- a deed of a number is among those of the number

@@ -7,7 +7,7 @@ use Rattle.desk_outside.specs.declared.deed.Deed.{Deed}
 use Rattle.book.specs.LegalDeeds.{is_legal}
 use Rattle.book.specs.Changes.{BookFacts, IsBook}
 use Rattle.shared_desk.specs.Seats.{DeskFacts, SeatFacts}
-use Rattle.shared_desk.specs.Starting.{AreAllSeats, fresh_seat, HasOwn, IsFinished, IsStarted}
+use Rattle.shared_desk.specs.StartAndEnd.{AreAllSeats, fresh_seat, HasOwn, IsFinished, IsStarted}
 use Rattle.desk_answers.specs.Seats.{IsPrefix}
 use Rattle.desk_answers.proofs.SeatSteps.{prefix_on}
 use Rattle.desk_serve.specs.Doors.{DoorFacts, Tells}

@@ -8,13 +8,13 @@ use Rattle.desk_outside.specs.Streets.{StreetTold}
 use Rattle.book.specs.Changes.{BookFacts}
 use Rattle.book.specs.LegalDeeds.{is_legal}
 use Rattle.shared_desk.specs.Seats.{DeskFacts, SeatFacts}
-use Rattle.shared_desk.specs.Starting.{AreAllSeats, fresh_seat}
+use Rattle.shared_desk.specs.StartAndEnd.{AreAllSeats, fresh_seat}
 use Rattle.desk_serve.specs.declared.ending.Ending.{Ending}
 use Rattle.desk_serve.specs.declared.ending.Ending.TheVariants.{SinkFault, StreetFault, NoMemory}
 use Rattle.desk_serve.specs.Lines.{first_line}
 use Rattle.desk_serve.specs.Doors.{DoorFacts, IsFreshDoor, Tells}
 use Rattle.desk_serve.specs.Work.{HasServed}
-use Rattle.desk_serve.specs.Runs.{Asked, AreHome, IsGrown, HasAll, HasAllUnlessFailed, HasNone, max_deeds}
+use Rattle.desk_serve.specs.Runs.{RunOrder, AreHome, IsGrown, HasAll, HasAllUnlessFailed, HasNone, max_deeds}
 
 -- ---- a desk that was opened
 
@@ -40,7 +40,7 @@ pub record AreFresh (tells : Type 0) (doors : List DoorFacts) : Type 0 where
   pub telling : tells → All Tells doors
 
 -- a door wasn't handed out
-pub record DoorLacks (asked : Asked) (tells rose : Type 0) (seats : List SeatFacts) (written_before written_after : Option (List ℕ)) (seats_after : List SeatFacts) (doors : List DoorFacts) (instead : Option Ending) : Type 0 where
+pub record DoorLacks (asked : RunOrder) (tells rose : Type 0) (seats : List SeatFacts) (written_before written_after : Option (List ℕ)) (seats_after : List SeatFacts) (doors : List DoorFacts) (instead : Option Ending) : Type 0 where
   pub instead_is : instead ≡ Some StreetFault
   pub same : seats_after ≡ seats
   pub fresh : AreFresh tells doors
@@ -49,7 +49,7 @@ pub record DoorLacks (asked : Asked) (tells rose : Type 0) (seats : List SeatFac
   pub cause : rose
 
 -- the first line wasn't written
-pub record LineLacks (asked : Asked) (tells rose : Type 0) (seats : List SeatFacts) (written_before written_after : Option (List ℕ)) (seats_after : List SeatFacts) (doors : List DoorFacts) (instead : Option Ending) : Type 0 where
+pub record LineLacks (asked : RunOrder) (tells rose : Type 0) (seats : List SeatFacts) (written_before written_after : Option (List ℕ)) (seats_after : List SeatFacts) (doors : List DoorFacts) (instead : Option Ending) : Type 0 where
   pub instead_is : instead ≡ Some SinkFault
   pub same : seats_after ≡ seats
   pub fresh : AreFresh tells doors
@@ -58,7 +58,7 @@ pub record LineLacks (asked : Asked) (tells rose : Type 0) (seats : List SeatFac
   pub cause : rose
 
 -- the first line was written, and the doors were served
-pub record DoorsServed (asked : Asked) (tells : Type 0) (desk : DeskFacts) (seats : List SeatFacts) (written_before written_after : Option (List ℕ)) (seats_after : List SeatFacts) (doors_after : List DoorFacts) (instead : Option Ending) : Type 0 where
+pub record DoorsServed (asked : RunOrder) (tells : Type 0) (desk : DeskFacts) (seats : List SeatFacts) (written_before written_after : Option (List ℕ)) (seats_after : List SeatFacts) (doors_after : List DoorFacts) (instead : Option Ending) : Type 0 where
   pub doors : List DoorFacts
   pub fresh : AreFresh tells doors
   pub all : length doors ≡ asked.workers
@@ -66,7 +66,7 @@ pub record DoorsServed (asked : Asked) (tells : Type 0) (desk : DeskFacts) (seat
   pub served : HasServed desk asked.sessions seats doors seats_after doors_after instead
 
 -- one of the three
-abbrev pub StreetServed : Asked → Type 0 → Type 0 → Type 0 → DeskFacts → List SeatFacts → Option (List ℕ) → Option (List ℕ) → List SeatFacts → List DoorFacts → Option Ending → Type 0
+abbrev pub StreetServed : RunOrder → Type 0 → Type 0 → Type 0 → DeskFacts → List SeatFacts → Option (List ℕ) → Option (List ℕ) → List SeatFacts → List DoorFacts → Option Ending → Type 0
 StreetServed asked tells street_rose sink_rose desk seats written_before written_after seats_after doors instead =
     DoorLacks asked tells street_rose seats written_before written_after seats_after doors instead
     ⊎ LineLacks asked tells sink_rose seats written_before written_after seats_after doors instead
@@ -75,7 +75,7 @@ StreetServed asked tells street_rose sink_rose desk seats written_before written
 -- ---- the book at the end
 
 -- the doors that came home were served from these deeds to those of the book
-pub record OverBook (asked : Asked) (street_before street_after : Option StreetTold) (doors unserved : ℕ) (links : DoorHome → Type 0) (deeds : List Deed) (book : BookFacts) : Type 0 where
+pub record OverBook (asked : RunOrder) (street_before street_after : Option StreetTold) (doors unserved : ℕ) (links : DoorHome → Type 0) (deeds : List Deed) (book : BookFacts) : Type 0 where
   pub grown : IsGrown doors deeds book.deeds
   pub street : (told : StreetTold) → street_before ≡ Some told → AreHome asked told street_after doors unserved links deeds book.deeds book.faults
 
@@ -86,7 +86,7 @@ pub record NothingAsked (untouched : Type 0) (written_before written_after : Opt
   pub unwritten : written_after ≡ written_before
 
 -- what stands where the ending is another than the last line's, or that one
-abbrev pub IsOver : Asked → Type 0 → Type 0 → Type 0 → Option StreetTold → Option StreetTold → Option (List ℕ) → Option (List ℕ) → List Deed → Option Ending → BookFacts → Type 0
+abbrev pub IsOver : RunOrder → Type 0 → Type 0 → Type 0 → Option StreetTold → Option StreetTold → Option (List ℕ) → Option (List ℕ) → List Deed → Option Ending → BookFacts → Type 0
 IsOver asked untouched street_rose sink_rose street_before street_after written_before written_after deeds None book =
     OverBook asked street_before street_after asked.workers 0 (HasAll asked) deeds book × (written_after ≡ append_known written_before (first_line asked.port))
 IsOver asked untouched street_rose sink_rose street_before street_after written_before written_after deeds (Some NoMemory) book =

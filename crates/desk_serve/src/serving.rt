@@ -5,7 +5,7 @@ ghost use Rattle.desk_outside.specs.Cabinets.{CabinetTold, keeper_home};
 ghost use Rattle.desk_outside.specs.Faults.{Rose};
 ghost use Rattle.desk_serve.specs.Lines.{Writes, line_of};
 ghost use Rattle.desk_serve.specs.Refusals.{ending_of};
-ghost use Rattle.desk_serve.specs.Runs.{HasEnded, asked_of};
+ghost use Rattle.desk_serve.specs.Runs.{HasEnded, order_of};
 
 use crate::ending::{Ending, ended};
 use crate::sessions::serve_desk;
@@ -98,7 +98,7 @@ where
     C::K: Send,
     requires some { 0 < asked.now.workers }
     requires few { asked.now.workers ≤ 64 }
-    ensures ended { HasEnded (asked_of asked.now)
+    ensures ended { HasEnded (order_of asked.now)
         (record { written = O.written out.old; street = S.told street.old; cabinet = C.told cabinet.old; sink_faults = O.faults out.old; street_faults = S.faults street.old; cabinet_faults = C.faults cabinet.old })
         (record { written = O.written out.new; street = S.told street.new; cabinet = C.told cabinet.new; sink_faults = O.faults out.new; street_faults = S.faults street.new; cabinet_faults = C.faults cabinet.new })
         (street.new ≡ street.old) result }

@@ -5,7 +5,7 @@ ghost use Rattle.desk_outside.specs.Faults.{Rose};
 ghost use Rattle.desk_outside.specs.Streets.{StreetTold};
 ghost use Rattle.desk_serve.specs.Doors.{with_doors_out};
 ghost use Rattle.desk_serve.specs.StreetEnd.{StreetServed, IsOver, IsOpened, opened_deeds};
-ghost use Rattle.desk_serve.specs.Runs.{asked_of};
+ghost use Rattle.desk_serve.specs.Runs.{order_of};
 ghost use Rattle.desk_serve.specs.Work.{HasServed, instead_of};
 
 use crate::doors::{hand_back, take_doors};
@@ -88,7 +88,7 @@ where
     requires room { room.count ≡ asked.now.workers }
     requires all { length seats.items ≡ asked.now.workers }
     requires seats { All (λ seat. seat.desk ≡ desk.now) seats.items }
-    ensures served { StreetServed (asked_of asked.now) ((told : StreetTold) × (S.told street.old ≡ Some told)) (Rose (S.faults street.old) (S.faults street.new)) (Rose (O.faults out.old) (O.faults out.new))
+    ensures served { StreetServed (order_of asked.now) ((told : StreetTold) × (S.told street.old ≡ Some told)) (Rose (S.faults street.old) (S.faults street.new)) (Rose (O.faults out.old) (O.faults out.new))
         desk.now seats.items (O.written out.old) (O.written out.new) result.seats.items (map (λ door. record { told = S.D.told door; faults = S.D.faults door }) result.doors.items) result.instead }
     ensures out { (told : StreetTold) → S.told street.old ≡ Some told → S.told street.new ≡ Some (with_doors_out told asked.now.port (length result.doors.items)) }
     ensures silent { S.told street.old ≡ None → S.told street.new ≡ None }
@@ -137,7 +137,7 @@ where
     S::D: Send,
     requires some { 0 < asked.now.workers }
     requires opened { IsOpened asked.now.workers desk seats }
-    ensures over { IsOver (asked_of asked.now) (street.new ≡ street.old) (Rose (S.faults street.old) (S.faults street.new)) (Rose (O.faults out.old) (O.faults out.new))
+    ensures over { IsOver (order_of asked.now) (street.new ≡ street.old) (Rose (S.faults street.old) (S.faults street.new)) (Rose (O.faults out.old) (O.faults out.new))
         (S.told street.old) (S.told street.new) (O.written out.old) (O.written out.new) (opened_deeds seats) result.1 result.0 }
     ensures rows { desk.tells ≡ true → result.0.rows ≡ Some result.0.deeds }
     ensures street_later { S.faults street.old ≤ S.faults street.new }

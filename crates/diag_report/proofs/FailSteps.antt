@@ -16,7 +16,7 @@ use Rattle.scan_model.specs.Coverage.{bit_of}
 use Rattle.scan_model.specs.ReportText.{bit_line}
 use Rattle.fault_universe.specs.BitRows.{row_bits}
 use Rattle.fault_universe.proofs.BitSteps.{range_more}
-use Rattle.packed_sim.specs.Belongs.{AreFails}
+use Rattle.packed_sim.specs.PackedParts.{AreFails}
 use Rattle.diag_report.specs.declared.draft.Draft.{Draft}
 use Rattle.diag_report.specs.LineEnds.{AddsLines}
 use Rattle.diag_report.specs.PredictedLog.{fail_lines}

@@ -8,7 +8,7 @@ ghost use Rattle.scan_model.specs.Coverage.{bit_of, bits_of};
 ghost use Rattle.scan_model.specs.Words.{is_tag};
 ghost use Rattle.scan_model.specs.LogText.{log_frame, log_reading};
 ghost use Rattle.scan_model.specs.ReportText as text_of;
-ghost use Rattle.packed_sim.specs.Belongs.{BelongsTo, AreFails};
+ghost use Rattle.packed_sim.specs.PackedParts.{BelongsTo, AreFails};
 ghost use Rattle.diag_report.specs.LineEnds.{AddsLines};
 ghost use Rattle.diag_report.specs.PredictedLog as log;
 ghost use Rattle.diag_report.specs.WordFails.{points_with_fails, word_bits};

@@ -11,7 +11,7 @@ use Rattle.scan_model.specs.LogText.{log_frame, log_reading}
 use Rattle.scan_model.specs.DieReport.{die_report, logs_of_texts}
 use Rattle.scan_model.specs.ReportText.{report_lines}
 use Rattle.packed_sim.specs.declared.good.PackedGood.{PackedGood}
-use Rattle.packed_sim.specs.Belongs.{BelongsTo}
+use Rattle.packed_sim.specs.PackedParts.{BelongsTo}
 use Rattle.diagnosis.specs.declared.put.Put.{Put}
 use Rattle.diagnosis.specs.declared.put.Put.TheVariants.{Created, Same}
 use Rattle.diagnosis.specs.Designs.{ReadLogFacts, ViewFacts, StandsOver, texts_of}

@@ -9,7 +9,7 @@ ghost use Rattle.scan_model.specs.MatchCounts.{candidates};
 ghost use Rattle.scan_model.specs.Ranking.{ranked};
 ghost use Rattle.scan_model.specs.ReportText as text_of;
 ghost use Rattle.diag_report.specs.PredictedLog.{HasWordNames, fault_of, predicted_facts, predicted_log};
-ghost use Rattle.packed_sim.specs.Belongs.{BelongsTo};
+ghost use Rattle.packed_sim.specs.PackedParts.{BelongsTo};
 ghost use Rattle.text_parts.specs.ReadResults.{Fails, Gives};
 ghost use Rattle.diagnosis.specs.Designs.{HaveSameTexts, facts_of, texts_of};
 ghost use Rattle.diagnosis.specs.Cases.{IsLogOver, AddedAmong, IsTextAdded, with_logs, case_lines, case_report};

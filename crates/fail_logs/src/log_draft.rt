@@ -16,7 +16,7 @@ use crate::line::LogLine;
 use crate::number::number;
 use crate::rules::{Headers, later_rule};
 use crate::target::LineTarget;
-use crate::tested::Tested;
+use crate::tested::TestedRanges;
 use scan_model::{CutGroup, LogForm, LogVersion, Range, rules};
 use std::alloc::{AllocError, Global};
 use text_parts::{fill_words, has_refused_byte};
@@ -146,7 +146,7 @@ impl LogDraft {
                 die: false,
                 design: false,
                 begun: false,
-                tested: Tested::new(alloc),
+                tested: TestedRanges::new(alloc),
             },
             fails: Vec::new(alloc),
             cuts: Vec::new(alloc),

@@ -11,7 +11,7 @@ use crate::frame::Frame;
 use crate::line::LogLine;
 use crate::number::number;
 use crate::target::LineTarget;
-use crate::tested::Tested;
+use crate::tested::TestedRanges;
 use scan_model::{LogVersion, rules};
 
 /// What the headers so far say: whether a `die` and a `design` line came, whether a fail or cut line came, and the tested
@@ -21,7 +21,7 @@ pub struct Headers {
     pub die: bool,
     pub design: bool,
     pub begun: bool,
-    pub tested: Tested,
+    pub tested: TestedRanges,
 }
 
 fn is_other(line: LogLine<'_>) -> bool
@@ -61,7 +61,7 @@ fn has_bad_range(frame: &Frame<'_>, line: LogLine<'_>) -> bool
     }
 }
 
-fn is_untested(tested: &Tested, pattern: Option<u32>) -> bool
+fn is_untested(tested: &TestedRanges, pattern: Option<u32>) -> bool
     ensures { result ≡ is_untested tested.now pattern }
 {
     match pattern {

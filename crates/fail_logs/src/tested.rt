@@ -10,12 +10,12 @@ use std::marker::Model;
 
 /// Ranges of patterns in the order of their lines, with a mark for each of the at most 4,096 patterns that a range holds.
 #[derive(Drop)]
-pub struct Tested {
+pub struct TestedRanges {
     ranges: Vec<Range>,
     marks: [u64; 64],
 }
 
-impl Model for Tested {
+impl Model for TestedRanges {
     ghost use Rattle.std.specs.Prelude.{◌≡◌, List, length};
     ghost use Rattle.scan_model.specs.declared.logs.Range.{Range};
     ghost use Rattle.fail_logs.specs.TestedMarks.{AreMarked};
@@ -27,11 +27,11 @@ impl Model for Tested {
     ghost invariant = { λ t. (length t.marks ≡ 64) × AreMarked t.marks t.ranges.items };
 }
 
-impl Tested {
+impl TestedRanges {
     pub fn new(alloc: Global) -> Self
         ensures { result ≡ [] }
     {
-        Tested {
+        TestedRanges {
             ranges: Vec::new(alloc),
             marks: [0; 64],
         }
@@ -63,7 +63,7 @@ impl Tested {
     pub fn into_rows(self) -> Rows<Range>
         ensures { result ≡ self }
     {
-        let Tested { ranges, .. } = self;
+        let TestedRanges { ranges, .. } = self;
         Rows::from_vec(ranges)
     }
 }

@@ -10,7 +10,7 @@ use Rattle.scan_model.specs.ScanTest.{ScanTest, points_of}
 use Rattle.scan_model.proofs.Orders.{filter_range_all}
 use Rattle.packed_sim.specs.declared.good.PackedGood.{PackedGood}
 use Rattle.packed_sim.specs.declared.scratch.Scratch.{Scratch}
-use Rattle.packed_sim.specs.Belongs.{IsBuiltFor, BelongsTo, IsScratchIn, observed_at, has_own_row, points_of_net}
+use Rattle.packed_sim.specs.PackedParts.{IsBuiltFor, BelongsTo, IsScratchIn, observed_at, has_own_row, points_of_net}
 
 -- what a filter keeps of the first numbers is one of them and passes
 pub filtered : (p : ℕ → Bool) (a n : ℕ) → All (λ x. (x < a + n) × (p x ≡ true)) (filter p (range_with_len a n))

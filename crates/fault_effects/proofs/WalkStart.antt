@@ -15,7 +15,7 @@ use Rattle.scan_model.proofs.counting.Shown.{point_at-IsPoint, observed_good}
 use Rattle.lane_rows.specs.GoodRows.{pattern_of, same_kind}
 use Rattle.packed_sim.specs.declared.good.PackedGood.{PackedGood}
 use Rattle.packed_sim.specs.declared.scratch.Scratch.{Scratch}
-use Rattle.packed_sim.specs.Belongs.{BelongsTo, captures, has_own_row, observed_at}
+use Rattle.packed_sim.specs.PackedParts.{BelongsTo, captures, has_own_row, observed_at}
 use Rattle.packed_sim.specs.ChainLoads.{IsLoaded}
 use Rattle.packed_sim.proofs.Belonging.{good_is, observed_in_range, observed_live, own_no_row}
 use Rattle.packed_sim.proofs.FaultBits.{kinds}

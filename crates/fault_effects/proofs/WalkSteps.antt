@@ -22,7 +22,7 @@ use Rattle.place_sets.specs.Places.{has_place, room}
 use Rattle.packed_sim.specs.declared.good.PackedGood.{PackedGood}
 use Rattle.packed_sim.specs.declared.scratch.Scratch.{Scratch}
 use Rattle.packed_sim.specs.Propagation.{HasMoved, lane_now}
-use Rattle.packed_sim.specs.Belongs.{BelongsTo, block_at, captures, observed_at}
+use Rattle.packed_sim.specs.PackedParts.{BelongsTo, block_at, captures, observed_at}
 use Rattle.packed_sim.specs.ChainLoads.{IsLoaded}
 use Rattle.packed_sim.proofs.Belonging.{observed_live, observed_in_range}
 use Rattle.packed_sim.proofs.CellPlaces.{point_of_cell}

@@ -2,7 +2,7 @@
 use Rattle.std.specs.Prelude.{◌≡◌, ℕ}
 use Rattle.scan_model.specs.ScanTest.{ScanTest}
 use Rattle.packed_sim.specs.declared.good.PackedGood.{PackedGood}
-use Rattle.packed_sim.specs.Belongs.{BelongsTo}
+use Rattle.packed_sim.specs.PackedParts.{BelongsTo}
 use Rattle.fault_effects.specs.declared.block_work.BlockWork.{BlockWork}
 use Rattle.fault_effects.specs.FaultModel.{FaultModel, IsChainModel}
 

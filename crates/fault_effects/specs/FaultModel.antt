@@ -10,7 +10,7 @@ use Rattle.scan_model.specs.Coverage.{bit_of}
 use Rattle.scan_model.specs.Response.{observed, predicts_fail}
 use Rattle.scan_model.specs.Masks.{mask, flip_shows, straight, touched_nets, IsLogic}
 use Rattle.lane_rows.specs.GoodRows.{pattern_of}
-use Rattle.packed_sim.specs.Belongs.{captures}
+use Rattle.packed_sim.specs.PackedParts.{captures}
 use Rattle.fault_effects.specs.declared.readers.SoleReader.{SoleReader}
 use Rattle.fault_effects.specs.Readers.{IsSoleReader}
 

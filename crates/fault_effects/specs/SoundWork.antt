@@ -3,7 +3,7 @@ use Rattle.std.specs.Prelude.{◌≡◌, ℕ, List, All, Contains}
 use Rattle.scan_model.specs.declared.fault.Fault.{Fault}
 use Rattle.scan_model.specs.ScanTest.{ScanTest}
 use Rattle.packed_sim.specs.declared.scratch.Scratch.{Scratch}
-use Rattle.packed_sim.specs.Belongs.{IsScratchOf}
+use Rattle.packed_sim.specs.PackedParts.{IsScratchOf}
 use Rattle.fault_effects.specs.declared.block_work.BlockWork.{BlockWork}
 use Rattle.fault_effects.specs.FaultModel.{FaultModel, IsFaultModel}
 use Rattle.fault_effects.specs.Owners.{IsSuspectOf, AreOwners}

@@ -9,7 +9,7 @@ use Rattle.scan_model.specs.Suspect.{observed_net}
 use Rattle.place_sets.specs.Places.{has_place}
 use Rattle.packed_sim.specs.declared.good.PackedGood.{PackedGood}
 use Rattle.packed_sim.specs.declared.scratch.Scratch.{Scratch}
-use Rattle.packed_sim.specs.Belongs.{observed_at, IsScratchIn}
+use Rattle.packed_sim.specs.PackedParts.{observed_at, IsScratchIn}
 use Rattle.packed_sim.specs.ChainLoads.{IsLoaded}
 use Rattle.fault_effects.specs.declared.notes.Notes.{Notes}
 use Rattle.fault_effects.specs.FaultModel.{FaultModel, Table, fails_in}

@@ -1,6 +1,6 @@
 //! What faults of shift paths come to in a block: for each kind a walk goes down each chain once.
 ghost use Rattle.std.specs.Prelude.{◌≡◌, ◌+◌, ◌<◌, [], All, length, IfOk, OnOk};
-ghost use Rattle.packed_sim.specs.Belongs.{IsScratchIn};
+ghost use Rattle.packed_sim.specs.PackedParts.{IsScratchIn};
 ghost use Rattle.fault_effects.specs.declared.work_kind.WorkKind.TheVariants as kinds;
 ghost use Rattle.fault_effects.specs.Owners.{IsOwned, suspect_at};
 ghost use Rattle.fault_effects.specs.Shares.{Shares, IsAmong};

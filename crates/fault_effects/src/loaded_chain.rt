@@ -6,7 +6,7 @@ ghost use Rattle.scan_model.specs.ScanTest.{points_of, point_at, chain_at};
 ghost use Rattle.scan_model.specs.Loads.{cell};
 ghost use Rattle.scan_model.specs.Suspect.{observed_net};
 ghost use Rattle.place_sets.specs.Places.{has_place};
-ghost use Rattle.packed_sim.specs.Belongs.{has_own_row};
+ghost use Rattle.packed_sim.specs.PackedParts.{has_own_row};
 ghost use Rattle.packed_sim.specs.ChainLoads.{IsLoaded};
 ghost use Rattle.fault_effects.specs.Notes.{AreNotes};
 ghost use Rattle.fault_effects.specs.ChainWork.{IsChainWork};

@@ -2,7 +2,7 @@
 ghost use Rattle.std.specs.Prelude.{◌≡◌, ◌+◌, ◌<◌, ◌≤◌, Some, None, true, length, IfSome, OnOk};
 ghost use Rattle.scan_model.specs.ScanTest.{chain_at};
 ghost use Rattle.place_sets.specs.Places.{has_place, room};
-ghost use Rattle.packed_sim.specs.Belongs.{IsScratchOf, IsScratchIn};
+ghost use Rattle.packed_sim.specs.PackedParts.{IsScratchOf, IsScratchIn};
 ghost use Rattle.packed_sim.specs.ChainLoads.{IsLoaded};
 ghost use Rattle.fault_effects.specs.Walks.{IsWalk, IsWalkAt, IsStepNoted};
 ghost use Rattle.fault_effects.specs.Notes.{AreNotes};

@@ -10,7 +10,7 @@ use Rattle.desk_replies.specs.declared.status.Status.TheVariants as status
 use Rattle.desk_replies.specs.Bodies.{keeper_fault_body, no_memory_body}
 use Rattle.desk_replies.specs.Replies.{reply_text}
 use Rattle.desk_replies.specs.Answers.{Answer}
-use Rattle.desk_answers.specs.Answering.{Answered}
+use Rattle.desk_answers.specs.BookAnswers.{Answered}
 use Rattle.desk_answers.specs.Seats.{SeatFacts}
 use Rattle.final_replies.specs.declared.ends.SessionEnd.{SessionEnd}
 use Rattle.final_replies.specs.declared.ends.SessionEnd.TheVariants.{Closed, LinkFault}

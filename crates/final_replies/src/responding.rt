@@ -4,7 +4,7 @@ ghost use Rattle.std.specs.Str.{IsAscii};
 ghost use Rattle.desk_outside.specs.declared.deed.Deed.{Deed};
 ghost use Rattle.desk_outside.specs.Faults.{Rose};
 ghost use Rattle.report_cache.specs.Truth.{IsTrueFor};
-ghost use Rattle.desk_answers.specs.Answering.{IsAnswer};
+ghost use Rattle.desk_answers.specs.BookAnswers.{IsAnswer};
 ghost use Rattle.desk_answers.specs.Seats.{IsPrefix};
 ghost use Rattle.final_replies.specs.declared.ends.SessionEnd.{SessionEnd};
 ghost use Rattle.final_replies.specs.FinalReplies.{Responds};

@@ -13,7 +13,7 @@ use Rattle.lane_rows.specs.Lanes.{lane, count_lanes}
 use Rattle.lane_rows.proofs.LaneCounts.{same_lanes}
 use Rattle.packed_sim.specs.declared.good.PackedGood.{PackedGood}
 use Rattle.packed_sim.specs.declared.scratch.Scratch.{Scratch}
-use Rattle.packed_sim.specs.Belongs.{block_at, good_at, now_at, observed_at, has_own_row, points_of_net}
+use Rattle.packed_sim.specs.PackedParts.{block_at, good_at, now_at, observed_at, has_own_row, points_of_net}
 use Rattle.packed_sim.proofs.Belonging.{own_no_row}
 use Rattle.log_rows.specs.declared.point_row.PointRow.{PointRow}
 use Rattle.log_rows.specs.declared.side.Side.{Side}

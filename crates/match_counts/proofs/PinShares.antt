@@ -9,7 +9,7 @@ use Rattle.scan_model.specs.Masks.{place_is_point, point_pin}
 use Rattle.scan_model.proofs.counting.Shown.{place_is_point-is, point_pin-net, point_at-IsPoint}
 use Rattle.lane_rows.specs.Lanes.{lane, count_lanes}
 use Rattle.lane_rows.proofs.LaneCounts.{same_lanes}
-use Rattle.packed_sim.specs.Belongs.{observed_at, points_of_net}
+use Rattle.packed_sim.specs.PackedParts.{observed_at, points_of_net}
 use Rattle.log_rows.specs.declared.point_row.PointRow.{PointRow}
 use Rattle.log_rows.specs.declared.side.Side.{Side}
 use Rattle.fault_effects.specs.FaultModel.{Table}

@@ -17,7 +17,7 @@ use Rattle.lane_rows.proofs.LaneCounts.{count_lanes_is, same_lanes}
 use Rattle.lane_rows.specs.Stimuli.{Stimuli}
 use Rattle.packed_sim.specs.declared.good.PackedGood.{PackedGood}
 use Rattle.packed_sim.specs.declared.scratch.Scratch.{Scratch}
-use Rattle.packed_sim.specs.Belongs.{block_at, observed_at}
+use Rattle.packed_sim.specs.PackedParts.{block_at, observed_at}
 use Rattle.log_rows.specs.declared.point_row.PointRow.{PointRow}
 use Rattle.fault_effects.specs.declared.share.Share.{Share}
 use Rattle.fault_effects.specs.declared.suspect.Suspect.{Suspect}

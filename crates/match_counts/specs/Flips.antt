@@ -8,7 +8,7 @@ use Rattle.scan_model.specs.Masks.{place_is_point}
 use Rattle.lane_rows.specs.Lanes.{lane, count_lanes}
 use Rattle.packed_sim.specs.declared.good.PackedGood.{PackedGood}
 use Rattle.packed_sim.specs.declared.scratch.Scratch.{Scratch}
-use Rattle.packed_sim.specs.Belongs.{block_at, good_at, now_at, observed_at}
+use Rattle.packed_sim.specs.PackedParts.{block_at, good_at, now_at, observed_at}
 use Rattle.log_rows.specs.declared.point_row.PointRow.{PointRow}
 use Rattle.log_rows.specs.declared.side.Side.{Side}
 use Rattle.log_rows.specs.declared.side.Side.TheVariants.{Failing, Passing}

@@ -7,7 +7,7 @@ use Rattle.scan_model.specs.Masks.{flip_shows_from, place_is_point}
 use Rattle.lane_rows.specs.Lanes.{lane, count_lanes}
 use Rattle.lane_rows.specs.GoodRows.{pattern_of}
 use Rattle.lane_rows.specs.Stimuli.{Stimuli}
-use Rattle.packed_sim.specs.Belongs.{observed_at}
+use Rattle.packed_sim.specs.PackedParts.{observed_at}
 use Rattle.log_rows.specs.declared.point_row.PointRow.{PointRow}
 use Rattle.log_rows.specs.declared.side.Side.{Side}
 use Rattle.fault_effects.specs.FaultModel.{Table}

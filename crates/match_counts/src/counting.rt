@@ -4,7 +4,7 @@ ghost use Rattle.scan_model.specs.declared.logs.LogFacts.{LogFacts};
 ghost use Rattle.scan_model.specs.ScanTest.{points_of};
 ghost use Rattle.scan_model.specs.Response.{expected_rows};
 ghost use Rattle.log_join.specs.Joining.{StandsFor, IsJoinedOf};
-ghost use Rattle.packed_sim.specs.Belongs.{BelongsTo};
+ghost use Rattle.packed_sim.specs.PackedParts.{BelongsTo};
 ghost use Rattle.fault_effects.specs.Owners.{IsSuspectOf, AreOwners};
 ghost use Rattle.match_counts.specs.Totals.{AreTestTotals};
 

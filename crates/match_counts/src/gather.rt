@@ -1,7 +1,7 @@
 //! The rows of lanes in which a flip shows at Failing and at Passing bits, and what a mask has of them.
 ghost use Rattle.std.specs.Prelude.{◌≡◌, ℕ, ◌+◌, ◌^◌, ◌<◌, ◌&&◌, Bool, All, [], length, sum_by, OnOk};
 ghost use Rattle.lane_rows.specs.Lanes.{lane, count_lanes};
-ghost use Rattle.packed_sim.specs.Belongs.{IsBuiltFor, IsScratchIn};
+ghost use Rattle.packed_sim.specs.PackedParts.{IsBuiltFor, IsScratchIn};
 ghost use Rattle.log_rows.specs.declared.side.Side.{Side};
 ghost use Rattle.match_counts.specs.declared.block_count.BlockCount.{BlockCount};
 ghost use Rattle.log_rows.specs.declared.side.Side.TheVariants as side;

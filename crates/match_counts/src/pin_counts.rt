@@ -3,7 +3,7 @@ ghost use Rattle.std.specs.Prelude.{◌≡◌, ◌+◌, ◌*◌, ◌^◌, ◌<�
 ghost use Rattle.scan_model.specs.ScanTest.{points_of, IsPoint};
 ghost use Rattle.scan_model.specs.Masks as masks;
 ghost use Rattle.fault_universe.specs.LineWords.{IsPlaceOf};
-ghost use Rattle.packed_sim.specs.Belongs.{IsBuiltFor};
+ghost use Rattle.packed_sim.specs.PackedParts.{IsBuiltFor};
 ghost use Rattle.lane_rows.specs.Lanes.{lane, count_lanes};
 ghost use Rattle.log_rows.specs.declared.side.Side.{Side};
 ghost use Rattle.match_counts.specs.Flips.{count_on, row_on, pin_lanes};

@@ -4,7 +4,7 @@ ghost use Rattle.scan_model.specs.ScanTest.{points_of};
 ghost use Rattle.lane_rows.specs.Lanes.{lane};
 ghost use Rattle.lane_rows.specs.GoodRows.{pattern_of};
 ghost use Rattle.lane_rows.specs.Stimuli.{Stimuli, AreRowsOf};
-ghost use Rattle.packed_sim.specs.Belongs.{IsBuiltFor, IsScratchOf};
+ghost use Rattle.packed_sim.specs.PackedParts.{IsBuiltFor, IsScratchOf};
 ghost use Rattle.fault_effects.specs.PinFlips.{pin_flips_from};
 ghost use Rattle.fault_effects.specs.Readers.{IsPinOf};
 ghost use Rattle.match_counts.specs.Tables.{HasTable, shown_under};

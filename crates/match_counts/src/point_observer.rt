@@ -1,7 +1,7 @@
 //! Flips over the points of a block, and what faults come to: two sums.
 ghost use Rattle.std.specs.Prelude.{◌≡◌, ℕ, ◌+◌, ◌<◌};
 ghost use Rattle.scan_model.specs.declared.fault.Fault.TheVariants as fault;
-ghost use Rattle.packed_sim.specs.Belongs.{IsScratchOf};
+ghost use Rattle.packed_sim.specs.PackedParts.{IsScratchOf};
 ghost use Rattle.fault_effects.specs.FaultModel.{point_model, straight_in};
 ghost use Rattle.match_counts.specs.Tables.{IsCount};
 
@@ -18,7 +18,7 @@ use std::sync::ledger::Ledger;
 impl Observer for PointCounts<'_> {
     ghost use Rattle.std.specs.Prelude.{length};
     ghost use Rattle.scan_model.specs.ScanTest.{points_of};
-    ghost use Rattle.packed_sim.specs.Belongs.{BelongsTo, IsScratchOf};
+    ghost use Rattle.packed_sim.specs.PackedParts.{BelongsTo, IsScratchOf};
     ghost use Rattle.fault_effects.specs.FaultModel.{point_model};
     ghost use Rattle.match_counts.specs.Tables.{HasTable, IsCount};
     ghost use Rattle.match_counts.specs.SameTables.{count_same};

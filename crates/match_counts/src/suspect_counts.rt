@@ -6,7 +6,7 @@ ghost use Rattle.scan_model.specs.Response.{expected_rows};
 ghost use Rattle.scan_model.specs.Universe.{universe};
 ghost use Rattle.scan_model.specs.MatchCounts.{candidates};
 ghost use Rattle.log_join.specs.Joining.{StandsFor, IsJoinedOf};
-ghost use Rattle.packed_sim.specs.Belongs.{BelongsTo};
+ghost use Rattle.packed_sim.specs.PackedParts.{BelongsTo};
 ghost use Rattle.fault_effects.specs.Owners.{IsSuspectOf, AreOwners, places_of};
 ghost use Rattle.match_counts.specs.Totals.{candidates_at};
 

@@ -25,7 +25,7 @@ use Rattle.packed_sim.specs.declared.good.PackedGood.{PackedGood}
 use Rattle.packed_sim.specs.declared.scratch.Scratch.{Scratch}
 use Rattle.packed_sim.specs.Rows.{no_row}
 use Rattle.packed_sim.specs.Propagation.{FitsScratch, IsForced, AreGood, is_downstream}
-use Rattle.packed_sim.specs.Belongs.{IsBuiltFor, BelongsTo, IsScratchIn, block_at, good_at, now_at, observed_at, captures, has_own_row, gates_downstream}
+use Rattle.packed_sim.specs.PackedParts.{IsBuiltFor, BelongsTo, IsScratchIn, block_at, good_at, now_at, observed_at, captures, has_own_row, gates_downstream}
 
 module _ (t : ScanTest) (sound : IsScanTest t) (g : PackedGood) (built : IsBuiltFor t g) where
   pub fits_of : (b : ℕ) (s : Scratch) → b < length g.rows → IsScratchIn g s → FitsScratch t.netlist g.wiring.order.items (block_at g b).values s

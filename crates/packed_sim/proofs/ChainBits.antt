@@ -22,7 +22,7 @@ use Rattle.scan_model.proofs.counting.ChainSteps.{IsOutside, outside_shows_net, 
 use Rattle.lane_rows.specs.GoodRows.{pattern_of, same_kind}
 use Rattle.packed_sim.specs.declared.good.PackedGood.{PackedGood}
 use Rattle.packed_sim.specs.declared.scratch.Scratch.{Scratch}
-use Rattle.packed_sim.specs.Belongs.{BelongsTo, good_at, now_at, observed_at, captures}
+use Rattle.packed_sim.specs.PackedParts.{BelongsTo, good_at, now_at, observed_at, captures}
 use Rattle.packed_sim.specs.ChainLoads.{IsLoaded}
 use Rattle.packed_sim.proofs.Belonging.{good_is, observed_in_range, observed_live}
 use Rattle.packed_sim.proofs.Loading.{good_load}

@@ -38,7 +38,7 @@ use Rattle.lane_rows.specs.GoodRows.{pattern_of, same_kind}
 use Rattle.lane_rows.proofs.RowsOfTest.{captures_kind}
 use Rattle.packed_sim.specs.declared.good.PackedGood.{PackedGood}
 use Rattle.packed_sim.specs.Propagation.{AreApart}
-use Rattle.packed_sim.specs.Belongs.{BelongsTo, good_at, observed_at, captures}
+use Rattle.packed_sim.specs.PackedParts.{BelongsTo, good_at, observed_at, captures}
 use Rattle.packed_sim.proofs.Belonging.{good_is, observed_in_range}
 use Rattle.packed_sim.proofs.Forcing.{two_of}
 

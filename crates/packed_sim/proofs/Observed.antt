@@ -9,7 +9,7 @@ use Rattle.scan_model.specs.Suspect.{observed_net}
 use Rattle.scan_model.proofs.PointCount.{points_few}
 use Rattle.scan_model.proofs.counting.Shown.{observed_net-in_range, point_at-IsPoint}
 use Rattle.lane_rows.specs.Groups.{members}
-use Rattle.packed_sim.specs.Belongs.{AreObserved, observed_at, points_of_net}
+use Rattle.packed_sim.specs.PackedParts.{AreObserved, observed_at, points_of_net}
 
 pub are_observed : (t : ScanTest) → IsScanTest t → (nets : List ℕ) → nets ≡ map (observed_net t) (points_of t) → AreObserved t nets
 are_observed t sound nets is =

@@ -23,7 +23,7 @@ use Rattle.scan_model.proofs.counting.BranchPins.{branch_flips_from}
 use Rattle.lane_rows.specs.GoodRows.{pattern_of}
 use Rattle.lane_rows.specs.Stimuli.{Stimuli, AreRowsOf}
 use Rattle.packed_sim.specs.declared.good.PackedGood.{PackedGood}
-use Rattle.packed_sim.specs.Belongs.{IsBuiltFor, block_at, good_at}
+use Rattle.packed_sim.specs.PackedParts.{IsBuiltFor, block_at, good_at}
 use Rattle.packed_sim.specs.OperandValues.{read_values, senses_of}
 
 same_map : (f : ℕ → Tri) (h : ℕ → ℕ) (k : ℕ → Tri) (a n : ℕ) → ((p : ℕ) → a ≤ p → p < a + n → k p ≡ f (h p)) → map k (range_with_len a n) ≡ map f (map h (range_with_len a n))

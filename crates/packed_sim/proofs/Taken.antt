@@ -11,7 +11,7 @@ use Rattle.scan_model.specs.Cone.{in_fan_in}
 use Rattle.scan_model.specs.ScanTest.{ScanTest}
 use Rattle.scan_model.specs.Force.{force, force_taken}
 use Rattle.scan_model.proofs.counting.OneSite.{force_two}
-use Rattle.packed_sim.specs.Belongs.{gates_downstream}
+use Rattle.packed_sim.specs.PackedParts.{gates_downstream}
 
 pub both_forced : (kind : BridgeKind) (a b : ℕ) (v : Tri) → takes kind true false ≡ true → force_two a b v ≡ force_taken kind a b v
 both_forced Dominant a b v both = refl

@@ -15,7 +15,7 @@ use Rattle.lane_rows.specs.Wiring.{Covers, LeadsUp}
 use Rattle.packed_sim.specs.declared.good.PackedGood.{PackedGood}
 use Rattle.packed_sim.specs.declared.scratch.Scratch.{Scratch}
 use Rattle.packed_sim.specs.Propagation.{FitsScratch, IsOpen}
-use Rattle.packed_sim.specs.Belongs.{IsScratchIn, block_at, now_at, captures}
+use Rattle.packed_sim.specs.PackedParts.{IsScratchIn, block_at, now_at, captures}
 
 -- each cell holds what the fault after position c loads, in both kinds of pattern
 abbrev pub HoldLoads : ScanTest → PackedGood → ℕ → ℕ → ℕ → CellKind → Scratch → Type 0

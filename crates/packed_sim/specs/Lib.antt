@@ -1,7 +1,7 @@
 -- The specs of simulation by rows.
 pub mod Rows
 pub mod Propagation
-pub mod Belongs
+pub mod PackedParts
 pub mod OperandValues
 pub mod ChainLoads
 pub mod Changes

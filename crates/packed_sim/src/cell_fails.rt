@@ -12,7 +12,7 @@ ghost use Rattle.scan_model.proofs.counting.ChainSteps.{IsOutside};
 ghost use Rattle.lane_rows.specs.Lanes.{lane};
 ghost use Rattle.lane_rows.specs.Planes.{held};
 ghost use Rattle.lane_rows.specs.GoodRows.{pattern_of};
-ghost use Rattle.packed_sim.specs.Belongs.{BelongsTo, IsScratchIn, IsScratchOf, block_at, cone_gates, AreFails};
+ghost use Rattle.packed_sim.specs.PackedParts.{BelongsTo, IsScratchIn, IsScratchOf, block_at, cone_gates, AreFails};
 ghost use Rattle.packed_sim.specs.ChainLoads.{IsLoaded};
 ghost use Rattle.packed_sim.specs.Changes.{IsSameShown, IsShownChange};
 

@@ -14,7 +14,7 @@ ghost use Rattle.lane_rows.specs.Planes.{held};
 ghost use Rattle.lane_rows.specs.GoodRows.{pattern_of};
 ghost use Rattle.place_sets.specs.Places.{room};
 ghost use Rattle.packed_sim.specs.Propagation.{HasMoved, IsWithin, is_downstream};
-ghost use Rattle.packed_sim.specs.Belongs.{IsBuiltFor, BelongsTo, IsScratchIn, IsScratchOf, block_at, good_at, now_at, gates_downstream};
+ghost use Rattle.packed_sim.specs.PackedParts.{IsBuiltFor, BelongsTo, IsScratchIn, IsScratchOf, block_at, good_at, now_at, gates_downstream};
 ghost use Rattle.packed_sim.specs.ChainLoads.{IsOpenLoad, IsLoaded, passed_value};
 
 use crate::good::PackedGood;

@@ -12,7 +12,7 @@ ghost use Rattle.scan_model.specs.Universe.{universe};
 ghost use Rattle.scan_model.specs.Masks.{place_is_point};
 ghost use Rattle.scan_model.specs.Suspect.{is_cell, is_output};
 ghost use Rattle.packed_sim.specs.OperandValues.{IsGateOfPin};
-ghost use Rattle.packed_sim.specs.Belongs.{BelongsTo, IsScratchIn, IsScratchOf, good_at, now_at, observed_at, captures, cone_gates, AreFails};
+ghost use Rattle.packed_sim.specs.PackedParts.{BelongsTo, IsScratchIn, IsScratchOf, good_at, now_at, observed_at, captures, cone_gates, AreFails};
 
 use crate::good::PackedGood;
 use crate::made::point_of;

@@ -13,7 +13,7 @@ ghost use Rattle.lane_rows.specs.GoodRows.{pattern_of};
 ghost use Rattle.lane_rows.specs.Stimuli.{Stimuli, AreRowsOf};
 ghost use Rattle.packed_sim.specs.Rows.{no_row};
 ghost use Rattle.packed_sim.specs.Propagation.{AreApart, lane_now};
-ghost use Rattle.packed_sim.specs.Belongs.{IsBuiltFor, BelongsTo, IsScratchIn, IsScratchOf, block_at, good_at, now_at, observed_at, captures, has_own_row, gates_downstream};
+ghost use Rattle.packed_sim.specs.PackedParts.{IsBuiltFor, BelongsTo, IsScratchIn, IsScratchOf, block_at, good_at, now_at, observed_at, captures, has_own_row, gates_downstream};
 
 use crate::good::PackedGood;
 use crate::scratch::Scratch;

@@ -4,7 +4,7 @@ ghost use Rattle.scan_model.specs.ScanTest.{IsPoint, points_of, point_at};
 ghost use Rattle.scan_model.specs.declared.parts.Point.TheVariants as point;
 ghost use Rattle.scan_model.specs.Suspect as suspect;
 ghost use Rattle.lane_rows.specs.Stimuli.{HaveRows};
-ghost use Rattle.packed_sim.specs.Belongs.{IsBuiltFor, BelongsTo, IsScratchOf, AreObserved, points_of_net};
+ghost use Rattle.packed_sim.specs.PackedParts.{IsBuiltFor, BelongsTo, IsScratchOf, AreObserved, points_of_net};
 
 use crate::good::PackedGood;
 use crate::overlay::Overlay;

@@ -15,7 +15,7 @@ ghost use Rattle.lane_rows.specs.Planes.{held};
 ghost use Rattle.packed_sim.specs.Rows.{no_row};
 ghost use Rattle.lane_rows.specs.GoodRows.{pattern_of};
 ghost use Rattle.lane_rows.specs.Stimuli.{Stimuli, AreRowsOf};
-ghost use Rattle.packed_sim.specs.Belongs.{IsBuiltFor, BelongsTo, captures, good_at};
+ghost use Rattle.packed_sim.specs.PackedParts.{IsBuiltFor, BelongsTo, captures, good_at};
 ghost use Rattle.packed_sim.specs.OperandValues.{read_values, senses_of, IsGateOfPin};
 
 use crate::good::PackedGood;

@@ -3,7 +3,7 @@ use Rattle.std.proofs.Common.{◌≡◌, ℕ, zero, suc, ◌+◌, ◌*◌, ◌<�
 use Rattle.std.specs.List.{list_any}
 use Rattle.std.proofs.Math.Nat.{mul_assoc}
 use Rattle.lane_rows.specs.Lanes.{lane, differ}
-use Rattle.pattern_fits.specs.Sliced.{value, weight, one}
+use Rattle.pattern_fits.specs.LaneNumbers.{value, weight, one}
 
 -- one slice replaced
 pub value_set : (xs : List (List ℕ)) (i : ℕ) (x d : List ℕ) (j : ℕ) → i < length xs → value (set xs i x) j + weight i * one (lane (get_or xs i d) j) ≡ value xs j + weight i * one (lane x j)

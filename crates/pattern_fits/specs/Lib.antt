@@ -1,3 +1,3 @@
 -- The specs of the patterns of a block that a fault fits.
-pub mod Sliced
+pub mod LaneNumbers
 pub mod FitPlaces

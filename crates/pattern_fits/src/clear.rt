@@ -1,7 +1,7 @@
 //! The lanes in which no bit is against what a fault shows.
 ghost use Rattle.std.specs.Prelude.{◌≡◌, ℕ, ◌+◌, ◌^◌, ◌<◌, ◌≤◌, ◌&&◌, ◌==◌, IfOk};
 ghost use Rattle.lane_rows.specs.Lanes.{lane};
-ghost use Rattle.pattern_fits.specs.Sliced.{value, rows_with};
+ghost use Rattle.pattern_fits.specs.LaneNumbers.{value, rows_with};
 
 use crate::lane_counter::LaneCounter;
 use lane_rows::Row;

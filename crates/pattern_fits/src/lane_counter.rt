@@ -1,7 +1,7 @@
 //! A number in each of 512 lanes.
 ghost use Rattle.std.specs.Prelude.{◌≡◌, ℕ, ◌+◌, ◌*◌, ◌^◌, ◌<◌, ◌≤◌, ◌==◌, true, length, IfOk};
 ghost use Rattle.lane_rows.specs.Lanes.{lane};
-ghost use Rattle.pattern_fits.specs.Sliced.{value, weight, one, rows_with};
+ghost use Rattle.pattern_fits.specs.LaneNumbers.{value, weight, one, rows_with};
 
 use lane_rows::Row;
 use scan_model::NoMemory;

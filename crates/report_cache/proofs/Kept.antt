@@ -22,7 +22,7 @@ use Rattle.diagnosis.specs.Designs.{ViewFacts, ReadLogFacts, IsView, view_lines,
 use Rattle.diagnosis.proofs.Cases.{texts_stand}
 use Rattle.diagnosis.proofs.Views.{view_is_case}
 use Rattle.slat_view.specs.declared.whole.WholeSlat.{WholeSlat}
-use Rattle.slat_view.specs.Whole.{IsWholeOf}
+use Rattle.slat_view.specs.WholeCounts.{IsWholeOf}
 use Rattle.book.specs.Deeds.{design_test, test_of_text, test_of_reading, die_logs}
 use Rattle.book.specs.Changes.{IsViewIn}
 use Rattle.report_cache.specs.declared.findings.Findings.{Findings}

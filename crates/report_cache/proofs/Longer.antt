@@ -9,7 +9,7 @@ use Rattle.scan_model.specs.ReportText.{report_lines}
 use Rattle.desk_outside.specs.declared.deed.Deed.{Deed}
 use Rattle.book.specs.Deeds.{design_text, design_test, test_of_text, die_logs}
 use Rattle.book.proofs.Longer.{text_stays, logs-append}
-use Rattle.slat_view.specs.Whole.{IsWholeOf}
+use Rattle.slat_view.specs.WholeCounts.{IsWholeOf}
 use Rattle.report_cache.specs.Truth.{CacheFacts, KeptReport, HoldsOf, AreLinesIn, IsSlatIn, IsReportIn, IsTrueFor}
 
 text_there : (known : Option (List ℕ)) (test : ScanTest) → test_of_text known ≡ Some test → (text : List ℕ) × (known ≡ Some text)

@@ -9,7 +9,7 @@ use Rattle.scan_model.specs.ReportText.{report_lines}
 use Rattle.desk_outside.specs.declared.deed.Deed.{Deed}
 use Rattle.diagnosis.specs.Designs.{ViewFacts}
 use Rattle.slat_view.specs.declared.whole.WholeSlat.{WholeSlat}
-use Rattle.slat_view.specs.Whole.{IsWholeOf}
+use Rattle.slat_view.specs.WholeCounts.{IsWholeOf}
 use Rattle.book.specs.Deeds.{design_test, die_logs}
 use Rattle.report_cache.specs.declared.findings.Findings.{Findings}
 use Rattle.report_cache.specs.declared.key.ReportKey.{ReportKey}

@@ -3,7 +3,7 @@ ghost use Rattle.std.specs.Prelude.{◌≡◌, ◌≤◌, List, IfOk};
 ghost use Rattle.std.specs.Arc.{arc_value};
 ghost use Rattle.desk_outside.specs.declared.deed.Deed.{Deed};
 ghost use Rattle.diagnosis.specs.Designs.{view_lines, facts_of};
-ghost use Rattle.slat_view.specs.Whole.{IsWholeOf};
+ghost use Rattle.slat_view.specs.WholeCounts.{IsWholeOf};
 ghost use Rattle.book.specs.Changes.{IsViewIn};
 ghost use Rattle.report_cache.specs.Truth.{IsTrueFor, IsReportIn, fresh_cache, report_for};
 

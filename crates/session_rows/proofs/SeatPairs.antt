@@ -2,7 +2,7 @@
 use Rattle.std.proofs.Common.{◌≡◌, ◌∙◌, ℕ, List, [], ◌∷◌, length, slice_index_or, refl, ap, arith}
 use Rattle.std.specs.Prelude.{remove}
 use Rattle.shared_desk.specs.Seats.{DeskFacts, SeatFacts}
-use Rattle.shared_desk.specs.Starting.{AreAllSeats}
+use Rattle.shared_desk.specs.StartAndEnd.{AreAllSeats}
 
 module _ (desk : DeskFacts) where
   -- the first of all seats, and the first of those behind it, are of the desk

@@ -14,7 +14,7 @@ use Rattle.shared_desk.specs.Entries.{mine_of, failed_of}
 use Rattle.shared_desk.specs.OpenBooks.{OpenBookFacts, AreCounted}
 use Rattle.shared_desk.specs.Turns.{HasSeen, IsLast, AllNoted, IsJoined}
 use Rattle.shared_desk.specs.Seats.{DeskFacts, SeatFacts, seat_of, desk_facts, seat_note, failed, IsSeatView}
-use Rattle.shared_desk.specs.Starting.{AreAllSeats, IsFinished}
+use Rattle.shared_desk.specs.StartAndEnd.{AreAllSeats, IsFinished}
 use Rattle.shared_desk.proofs.Longest.{prefix_on}
 
 -- ---- the faults of all seats

@@ -9,7 +9,7 @@ use Rattle.shared_desk.specs.declared.turns.SeatView.{SeatView}
 use Rattle.shared_desk.specs.OpenBooks.{OpenBookFacts}
 use Rattle.shared_desk.specs.Turns.{Slot, terms_of, fresh_view}
 use Rattle.shared_desk.specs.Seats.{DeskFacts, SeatFacts, desk_facts}
-use Rattle.shared_desk.specs.Starting.{fresh_seat, IsStarted}
+use Rattle.shared_desk.specs.StartAndEnd.{fresh_seat, IsStarted}
 
 pub started : (told : Option (List Deed)) (limit count faults : ℕ) (book : BookFacts) (b : OpenBookFacts) (place : TableId) (laid desk : DeskFacts) (me : Me Slot SeatView) (list : List SeatFacts)
     → book.limit ≡ limit → IsBook book → faults ≤ book.faults → book.rows ≡ told → b ≡ record { book = book; faults = []; opened = book.faults }

@@ -3,7 +3,7 @@ ghost use Rattle.std.specs.Prelude.{◌≡◌, All, Contains};
 ghost use Rattle.shared_desk.specs.Turns.{IsJoined, AllNoted, IsLast};
 ghost use Rattle.shared_desk.specs.Stages.{IsAt, IsIdle};
 ghost use Rattle.shared_desk.specs.Seats.{seat_note};
-ghost use Rattle.shared_desk.specs.Starting.{AreAllSeats, IsFinished};
+ghost use Rattle.shared_desk.specs.StartAndEnd.{AreAllSeats, IsFinished};
 
 use crate::desk::Desk;
 use crate::open_book::OpenBook;

@@ -7,7 +7,7 @@ ghost use Rattle.book.specs.LegalDeeds.{is_legal, spoiled_row};
 ghost use Rattle.shared_desk.specs.Turns.{terms_of, fresh_view};
 ghost use Rattle.shared_desk.specs.Stages.{IsAt};
 ghost use Rattle.shared_desk.specs.Seats.{SeatFacts, desk_facts, IsOpening};
-ghost use Rattle.shared_desk.specs.Starting.{fresh_seat, IsStarted};
+ghost use Rattle.shared_desk.specs.StartAndEnd.{fresh_seat, IsStarted};
 
 use crate::desk::Desk;
 use crate::open_book::OpenBook;

@@ -58,45 +58,45 @@ impl<K: Keeper> TableRule<Option<OpenBook<K>>, SeatView, OpenedBook<K>> for Turn
 }
 
 /// A ticket was drawn.
-pub struct Drawn;
+pub struct TicketDraw;
 
-impl<K: Keeper> Play<Option<OpenBook<K>>, SeatView> for Drawn {
+impl<K: Keeper> Play<Option<OpenBook<K>>, SeatView> for TicketDraw {
     ghost use Rattle.shared_desk.specs.Turns.{Draws};
 
     ghost then = { λ _ v n w. Draws v n w };
 }
 
 /// The served word was read.
-pub struct Asked;
+pub struct ServedRead;
 
-impl<K: Keeper> Play<Option<OpenBook<K>>, SeatView> for Asked {
+impl<K: Keeper> Play<Option<OpenBook<K>>, SeatView> for ServedRead {
     ghost use Rattle.shared_desk.specs.Turns.{Asks};
 
     ghost then = { λ _ v n w. Asks v n w };
 }
 
 /// A deed or a fault counts.
-pub struct Counted;
+pub struct EntryCount;
 
-impl<K: Keeper> Play<Option<OpenBook<K>>, SeatView> for Counted {
+impl<K: Keeper> Play<Option<OpenBook<K>>, SeatView> for EntryCount {
     ghost use Rattle.shared_desk.specs.Turns.{Counts};
 
     ghost then = { λ _ v n w. Counts v n w };
 }
 
 /// The turn was given up.
-pub struct Left;
+pub struct TurnRelease;
 
-impl<K: Keeper> Play<Option<OpenBook<K>>, SeatView> for Left {
+impl<K: Keeper> Play<Option<OpenBook<K>>, SeatView> for TurnRelease {
     ghost use Rattle.shared_desk.specs.Turns.{Leaves};
 
     ghost then = { λ _ v n w. Leaves v n w };
 }
 
 /// A seat of the next number was made.
-pub struct Given;
+pub struct SeatSplit;
 
-impl Split<SeatView> for Given {
+impl Split<SeatView> for SeatSplit {
     ghost use Rattle.shared_desk.specs.Turns.{with_given, next_view};
 
     ghost left = { with_given };
@@ -105,9 +105,9 @@ impl Split<SeatView> for Given {
 }
 
 /// A seat was joined into the first.
-pub struct Joined;
+pub struct SeatJoin;
 
-impl Join<SeatView> for Joined {
+impl Join<SeatView> for SeatJoin {
     ghost use Rattle.shared_desk.specs.Turns.{with_note, spent_view};
 
     ghost both = { with_note };

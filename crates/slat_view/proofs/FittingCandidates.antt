@@ -11,7 +11,7 @@ use Rattle.scan_model.specs.MatchCounts.{is_candidate, scored, candidates}
 use Rattle.scan_model.specs.Marks.{is_marked}
 use Rattle.scan_model.proofs.Orders.{filter_range_at, filter_range_all}
 use Rattle.diag_report.specs.PredictedLog.{fault_of}
-use Rattle.slat_view.specs.Narrowed.{HaveFitsUpTo}
+use Rattle.slat_view.specs.FitMarks.{HaveFitsUpTo}
 use Rattle.slat_view.specs.Slat.{fits, fitting_places}
 use Rattle.slat_view.specs.Tests.{HaveAllFits}
 use Rattle.slat_view.proofs.Fitting.{fits_counts}

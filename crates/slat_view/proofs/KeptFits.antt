@@ -8,11 +8,11 @@ use Rattle.std.proofs.lemmas.List.Sums.{sum_by-append}
 use Rattle.scan_model.specs.declared.logs.LogFacts.{LogFacts}
 use Rattle.scan_model.specs.ScanTest.{ScanTest}
 use Rattle.pattern_fits.specs.declared.fit.Fit.{Fit}
-use Rattle.slat_view.specs.declared.tested.BlockFits.{BlockFits}
+use Rattle.slat_view.specs.declared.die_trials.BlockFits.{BlockFits}
 use Rattle.slat_view.specs.Slat.{fitting_places}
 use Rattle.slat_view.specs.Tests.{IsBlockOf, HaveAllFits, fitting_among}
 use Rattle.pattern_fits.specs.FitPlaces.{places_in}
-use Rattle.slat_view.specs.Whole.{places_at, HavePlacesUpTo, fits_in}
+use Rattle.slat_view.specs.WholeCounts.{places_at, HavePlacesUpTo, fits_in}
 
 abbrev pub with_fits : List Fit → List (List Fit) → List (List Fit)
 with_fits fits before = before ++ fits ∷ []

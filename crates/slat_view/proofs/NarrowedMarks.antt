@@ -18,12 +18,12 @@ use Rattle.scan_model.proofs.counting.Suspects.{predicted_explained}
 use Rattle.lane_rows.specs.GoodRows.{pattern_of}
 use Rattle.log_rows.specs.declared.point_row.PointRow.{PointRow}
 use Rattle.log_rows.specs.PointRows.{ArePointRows}
-use Rattle.back_trace.specs.Both.{AreBothMarked}
+use Rattle.back_trace.specs.CommonPatterns.{AreBothMarked}
 use Rattle.back_trace.specs.Fails.{fails_at, explains_in, IsWithin}
 use Rattle.back_trace.proofs.Ranges.{any_at}
 use Rattle.diag_report.specs.PredictedLog.{fault_of}
 use Rattle.slat_view.specs.Ends.{is_failing_at, any_before, any_from, AreFirsts, AreLasts}
-use Rattle.slat_view.specs.Narrowed.{HaveFitsUpTo, AreFitsMarked}
+use Rattle.slat_view.specs.FitMarks.{HaveFitsUpTo, AreFitsMarked}
 use Rattle.slat_view.specs.Slat.{pattern_bits, is_failing_pattern, is_against, fits}
 use Rattle.slat_view.specs.Trials.{any_failing}
 use Rattle.slat_view.proofs.Disagreeing.{none_found}

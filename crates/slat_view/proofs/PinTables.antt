@@ -16,7 +16,7 @@ use Rattle.lane_rows.specs.Lanes.{lane, count_lanes}
 use Rattle.lane_rows.specs.GoodRows.{pattern_of, AreBlockRows}
 use Rattle.lane_rows.proofs.LaneCounts.{same_lanes}
 use Rattle.packed_sim.specs.declared.good.PackedGood.{PackedGood}
-use Rattle.packed_sim.specs.Belongs.{captures, block_at, observed_at, points_of_net}
+use Rattle.packed_sim.specs.PackedParts.{captures, block_at, observed_at, points_of_net}
 use Rattle.log_rows.specs.declared.point_row.PointRow.{PointRow}
 use Rattle.log_rows.specs.declared.side.Side.{Side}
 use Rattle.fault_effects.specs.FaultModel.{Table, point_model, straight_in}
@@ -24,7 +24,7 @@ use Rattle.match_counts.specs.Flips.{row_on, point_row_at}
 use Rattle.match_counts.specs.Tables.{lanes_of, sum_of_table}
 use Rattle.match_counts.proofs.LaneSums.{no_lanes}
 use Rattle.match_counts.proofs.FlipSums.{sum_where, sum_agree_where}
-use Rattle.slat_view.specs.Straight.{shown_at}
+use Rattle.slat_view.specs.StraightPins.{shown_at}
 
 pin_bits : (k s r m c a o : Bool) → k ≡ c → a ≡ true → (c ≡ true → s ≡ o) → (((s && k) && r) && m) ≡ (((c && (a && o)) && m) && r)
 pin_bits k s r m false a o is here same = rw is (off s r m)

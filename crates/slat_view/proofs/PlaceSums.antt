@@ -8,7 +8,7 @@ use Rattle.std.proofs.lemmas.List.Sums.{sum_by-cons, sum_by-le, sum_by-append}
 use Rattle.fault_universe.proofs.BitSteps.{range_more}
 use Rattle.lane_rows.specs.Lanes.{lane, count_lanes}
 use Rattle.lane_rows.proofs.LaneCounts.{count_lanes_is}
-use Rattle.pattern_fits.specs.Sliced.{one}
+use Rattle.pattern_fits.specs.LaneNumbers.{one}
 use Rattle.slat_view.specs.Places.{bad}
 
 -- none passes where their number is 0

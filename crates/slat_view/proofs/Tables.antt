@@ -15,7 +15,7 @@ use Rattle.match_counts.specs.Flips.{row_on, point_row_at, list_on}
 use Rattle.match_counts.specs.Tables.{HasTable}
 use Rattle.match_counts.proofs.Sums.{sum_agree}
 use Rattle.slat_view.specs.Places.{bad}
-use Rattle.pattern_fits.specs.Sliced.{one, rows_with}
+use Rattle.pattern_fits.specs.LaneNumbers.{one, rows_with}
 use Rattle.slat_view.specs.Trials.{any_failing, is_against_at, any_against, bad_in, agrees_in}
 use Rattle.pattern_fits.proofs.Shown.{none_against}
 use Rattle.slat_view.proofs.PlaceSums.{none_passes, same_sum, one_lane, one_lane_both, told, told_less, few_places, one_changed, one_less}

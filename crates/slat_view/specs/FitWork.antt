@@ -3,7 +3,7 @@ use Rattle.std.specs.Prelude.{ℕ, List}
 use Rattle.scan_model.specs.ScanTest.{ScanTest}
 use Rattle.packed_sim.specs.declared.good.PackedGood.{PackedGood}
 use Rattle.packed_sim.specs.declared.scratch.Scratch.{Scratch}
-use Rattle.packed_sim.specs.Belongs.{BelongsTo, IsScratchOf}
+use Rattle.packed_sim.specs.PackedParts.{BelongsTo, IsScratchOf}
 use Rattle.fault_effects.specs.declared.block_work.BlockWork.{BlockWork}
 use Rattle.fault_effects.specs.declared.share.Share.{Share}
 use Rattle.fault_effects.specs.FaultModel.{FaultModel, point_model}

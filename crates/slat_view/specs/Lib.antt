@@ -2,11 +2,11 @@
 pub mod Slat
 pub mod Places
 pub mod Trials
-pub mod Straight
+pub mod StraightPins
 pub mod FitWork
 pub mod SameTables
 pub mod Tests
 pub mod SlatText
-pub mod Whole
+pub mod WholeCounts
 pub mod Ends
-pub mod Narrowed
+pub mod FitMarks

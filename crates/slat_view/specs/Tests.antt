@@ -7,19 +7,19 @@ use Rattle.scan_model.specs.Response.{expected_rows}
 use Rattle.lane_rows.specs.Lanes.{lane}
 use Rattle.lane_rows.specs.GoodRows.{pattern_of}
 use Rattle.log_join.specs.Joining.{IsJoinedOf}
-use Rattle.packed_sim.specs.Belongs.{BelongsTo}
+use Rattle.packed_sim.specs.PackedParts.{BelongsTo}
 use Rattle.fault_effects.specs.Owners.{IsSuspectOf, AreOwners, owner, suspect_at}
 use Rattle.fault_effects.specs.Readers.{AreReads}
 use Rattle.diag_report.specs.PredictedLog.{fault_of}
-use Rattle.slat_view.specs.declared.prepared.Prepared.{Prepared}
+use Rattle.slat_view.specs.declared.die_suspects.DieSuspects.{DieSuspects}
 use Rattle.slat_view.specs.declared.slat.Slat.{Slat}
-use Rattle.slat_view.specs.declared.tested.Tested.{Tested}
-use Rattle.slat_view.specs.declared.tested.BlockFits.{BlockFits}
+use Rattle.slat_view.specs.declared.die_trials.DieTrials.{DieTrials}
+use Rattle.slat_view.specs.declared.die_trials.BlockFits.{BlockFits}
 use Rattle.slat_view.specs.Slat.{is_failing_pattern, is_explained, fits, fitting_places, slat_count}
 use Rattle.pattern_fits.specs.FitPlaces.{places_in}
 
 -- rows and joined logs are of the test, the suspects are faults of it, each in the group of its owner, and each net that owns one is listed
-pub record IsPrepared (t : ScanTest) (x : Prepared) : Type 0 where
+pub record AreDieSuspects (t : ScanTest) (x : DieSuspects) : Type 0 where
   pub good : BelongsTo t x.good
   pub joined : IsJoinedOf (length t.patterns) (length (points_of t)) x.joined
   pub suspects : All (IsSuspectOf t) x.suspects
@@ -30,9 +30,9 @@ pub record IsPrepared (t : ScanTest) (x : Prepared) : Type 0 where
   pub listed : (i : ℕ) → i < length x.suspects → owner t (suspect_at x.suspects i).fault < length t.netlist.nets → Contains x.nets.items (owner t (suspect_at x.suspects i).fault)
 
 -- the expected values are those of the parts, and the die is prepared for them
-pub record IsTested (x : Tested) : Type 0 where
+pub record AreTrials (x : DieTrials) : Type 0 where
   pub expected : x.expected.now ≡ expected_rows x.parts.now
-  pub die : IsPrepared x.parts.now x.die.now
+  pub die : AreDieSuspects x.parts.now x.die.now
 
 -- of some places, those whose faults fit a pattern
 abbrev pub fitting_among : ScanTest → List LogFacts → ℕ → List ℕ → List ℕ

@@ -11,7 +11,7 @@ use Rattle.fault_effects.specs.FaultModel.{Table, point_model, fails_in}
 use Rattle.match_counts.specs.Flips.{point_row_at}
 use Rattle.diag_report.specs.PredictedLog.{fault_of}
 use Rattle.pattern_fits.specs.declared.fit.Fit.{Fit}
-use Rattle.pattern_fits.specs.Sliced.{value}
+use Rattle.pattern_fits.specs.LaneNumbers.{value}
 use Rattle.pattern_fits.specs.FitPlaces.{places_in}
 use Rattle.slat_view.specs.Places.{bad}
 

@@ -3,12 +3,12 @@ ghost use Rattle.std.specs.Prelude.{◌≡◌, ◌+◌, ◌*◌, ◌^◌, ◌<�
 ghost use Rattle.scan_model.specs.declared.logs.LogFacts.{LogFacts};
 ghost use Rattle.log_join.specs.Joining.{StandsFor};
 ghost use Rattle.fault_effects.specs.Owners.{places_of};
-ghost use Rattle.slat_view.specs.Tests.{IsTested, IsBlockOf, IsSlatUpTo, HaveAllFits};
-ghost use Rattle.slat_view.specs.Whole.{IsWholeOf, kept_fits};
+ghost use Rattle.slat_view.specs.Tests.{AreTrials, IsBlockOf, IsSlatUpTo, HaveAllFits};
+ghost use Rattle.slat_view.specs.WholeCounts.{IsWholeOf, kept_fits};
 
+use crate::die_trials::{BlockFits, DieTrials};
 use crate::kept_fits::{MOST_FITS, with_block};
 use crate::slat::{Slat, SlatCount};
-use crate::tested::{BlockFits, Tested};
 use crate::whole::WholeSlat;
 use fault_universe::universe_len;
 use pattern_fits::count_with;
@@ -63,13 +63,13 @@ fn add_block(
 pub(crate) fn whole_of<R: Threads>(
     rt: &R,
     alloc: Global,
-    tested: &Tested<'_>,
+    trials: &DieTrials<'_>,
 ) -> Result<WholeSlat, NoMemory>
-    requires { IsTested tested.now }
-    ensures whole { (logs : List LogFacts) → StandsFor logs tested.now.die.now.joined → HaveAllFits tested.now.parts.now logs (places_of tested.now.die.now.suspects) → IfOk result (IsWholeOf tested.now.parts.now logs) }
+    requires { AreTrials trials.now }
+    ensures whole { (logs : List LogFacts) → StandsFor logs trials.now.die.now.joined → HaveAllFits trials.now.parts.now logs (places_of trials.now.die.now.suspects) → IfOk result (IsWholeOf trials.now.parts.now logs) }
     ensures few { IfOk result (λ whole. kept_fits whole ≤ MOST_FITS) }
 {
-    let patterns = tested.parts.patterns().len() as u32;
+    let patterns = trials.parts.patterns().len() as u32;
     let mut slat = Slat {
         failing: 0,
         rows: Rows::new(alloc),
@@ -77,9 +77,9 @@ pub(crate) fn whole_of<R: Threads>(
     let mut blocks = Some(Rows::new(alloc));
     let mut count: usize = 0;
     for block in 0..patterns.div_ceil(512) {
-        let tried = tested.block(rt, alloc, block)?;
+        let tried = trials.block(rt, alloc, block)?;
         let end = (512 * block + 512).min(patterns);
-        add_block(&mut slat, tested.parts, block, end, &tried)?;
+        add_block(&mut slat, trials.parts, block, end, &tried)?;
         let BlockFits { fits, .. } = tried;
         count = count.saturating_add(fits.len());
         blocks = with_block(blocks, fits, count);

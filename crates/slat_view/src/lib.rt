@@ -3,6 +3,8 @@
 
 mod chain_observer;
 mod counts;
+mod die_suspects;
+mod die_trials;
 mod ends;
 mod failing;
 mod fits;
@@ -10,11 +12,9 @@ mod kept_fits;
 mod laws;
 mod narrowing;
 mod observer;
-mod prepared;
 mod shares;
 mod slat;
 mod straight;
-mod tested;
 mod text;
 mod views;
 mod whole;

@@ -6,7 +6,7 @@ ghost use Rattle.scan_model.specs.Response.{expected_rows};
 ghost use Rattle.scan_model.specs.Universe.{universe};
 ghost use Rattle.log_join.specs.Joining.{StandsFor, IsJoinedOf};
 ghost use Rattle.lane_rows.specs.GoodRows.{AreBlockRows, AreGoodRows};
-ghost use Rattle.slat_view.specs.Narrowed.{AreFitsMarked};
+ghost use Rattle.slat_view.specs.FitMarks.{AreFitsMarked};
 ghost use Rattle.slat_view.specs.Tests.{HaveAllFits};
 
 use crate::ends::{first_failing, last_failing};

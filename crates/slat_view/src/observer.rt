@@ -12,7 +12,7 @@ use std::alloc::Global;
 use std::sync::ledger::Ledger;
 
 impl Observer for Fits<'_> {
-    ghost use Rattle.packed_sim.specs.Belongs.{BelongsTo, IsScratchOf};
+    ghost use Rattle.packed_sim.specs.PackedParts.{BelongsTo, IsScratchOf};
     ghost use Rattle.fault_effects.specs.FaultModel.{point_model};
     ghost use Rattle.match_counts.specs.Tables.{HasTable};
     ghost use Rattle.slat_view.specs.Trials.{AreClear, AreFitting};

@@ -4,12 +4,12 @@ ghost use Rattle.scan_model.specs.declared.fault.Fault.TheVariants as fault;
 ghost use Rattle.scan_model.specs.ScanTest.{points_of};
 ghost use Rattle.scan_model.specs.Netlist.{pin_at};
 ghost use Rattle.lane_rows.specs.Lanes.{lane, count_lanes};
-ghost use Rattle.packed_sim.specs.Belongs.{BelongsTo};
+ghost use Rattle.packed_sim.specs.PackedParts.{BelongsTo};
 ghost use Rattle.log_rows.specs.declared.side.Side.{Side};
 ghost use Rattle.fault_effects.specs.FaultModel.{point_model, straight_in};
 ghost use Rattle.match_counts.specs.Flips.{tallied, row_on, list_on};
 ghost use Rattle.match_counts.specs.Tables.{HasTable};
-ghost use Rattle.slat_view.specs.Straight.{shown_at};
+ghost use Rattle.slat_view.specs.StraightPins.{shown_at};
 
 use lane_rows::Row;
 use log_rows::PointRow;

@@ -3,12 +3,12 @@ ghost use Rattle.std.specs.Prelude.{◌≡◌, ◌^◌, ◌<◌, ◌≤◌, All,
 ghost use Rattle.scan_model.specs.MatchCounts.{candidates};
 ghost use Rattle.diagnosis.specs.Designs.{facts_of};
 ghost use Rattle.slat_view.specs.Slat.{failing_patterns, slat_rows, fitting_places};
-ghost use Rattle.slat_view.specs.Whole.{IsWholeOf, kept_fits};
+ghost use Rattle.slat_view.specs.WholeCounts.{IsWholeOf, kept_fits};
 
 use crate::counts::whole_of;
-use crate::prepared::Prepared;
+use crate::die_suspects::DieSuspects;
+use crate::die_trials::DieTrials;
 use crate::slat::Slat;
-use crate::tested::Tested;
 use crate::whole::WholeSlat;
 use diagnosis::{DieView, joined_of};
 use pattern_fits::places_with;
@@ -31,13 +31,13 @@ pub fn whole_slat<R: Threads + Sync>(
     let parts = design.parts();
     let expected = design.expected();
     let joined = joined_of(alloc, parts, view.logs().as_slice())?;
-    let die = Prepared::make(alloc, parts, expected, joined)?;
-    let tested = Tested {
+    let die = DieSuspects::make(alloc, parts, expected, joined)?;
+    let trials = DieTrials {
         parts,
         expected,
         die: &die,
     };
-    whole_of(rt, alloc, &tested)
+    whole_of(rt, alloc, &trials)
 }
 
 /// How many patterns of a die are failing, and which of them single faults explain, each with the number of faults that fit.
@@ -70,12 +70,12 @@ pub fn slat_places<R: Threads + Sync>(
     let _ = parts.patterns();
     let expected = design.expected();
     let joined = joined_of(alloc, parts, view.logs().as_slice())?;
-    let die = Prepared::make(alloc, parts, expected, joined)?;
-    let tested = Tested {
+    let die = DieSuspects::make(alloc, parts, expected, joined)?;
+    let trials = DieTrials {
         parts,
         expected,
         die: &die,
     };
-    let tried = tested.block(rt, alloc, pattern / 512)?;
+    let tried = trials.block(rt, alloc, pattern / 512)?;
     places_with(alloc, tried.fits.as_slice(), pattern % 512)
 }

@@ -3,7 +3,7 @@ ghost use Rattle.std.specs.Prelude.{◌≡◌, ◌<◌, All, Contains, length, m
 ghost use Rattle.scan_model.specs.MatchCounts.{candidates};
 ghost use Rattle.diagnosis.specs.Designs.{facts_of};
 ghost use Rattle.slat_view.specs.Slat.{fitting_places};
-ghost use Rattle.slat_view.specs.Whole.{places_at, IsWholeOf};
+ghost use Rattle.slat_view.specs.WholeCounts.{places_at, IsWholeOf};
 
 use crate::slat::Slat;
 use crate::views::slat_places;

@@ -12,7 +12,7 @@ use Rattle.lane_rows.specs.Planes.{Planes}
 use Rattle.lane_rows.specs.Sources.{lane_values}
 use Rattle.lane_rows.specs.GoodRows.{pattern_of, no_block}
 use Rattle.lane_rows.specs.Stimuli.{AreRowsOf, captures}
-use Rattle.packed_sim.specs.Belongs.{observed_at}
+use Rattle.packed_sim.specs.PackedParts.{observed_at}
 use Rattle.frame_rows.specs.Frames.{second_source}
 use Rattle.frame_rows.specs.SecondRows.{second_stimuli}
 use Rattle.two_frame.specs.FrameRows.{AllCapture}

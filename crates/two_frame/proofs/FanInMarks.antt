@@ -35,7 +35,7 @@ use Rattle.scan_model.proofs.Sites.{site_of}
 use Rattle.scan_model.proofs.FanSweeps.{is_read, in_own, read_of_in}
 use Rattle.scan_model.proofs.counting.OneSite.{force_outside}
 use Rattle.scan_model.proofs.counting.Shown.{not_opposite_itself, point_at-IsPoint, point_pin-net, observed_net-in_range, place_is_point-is}
-use Rattle.packed_sim.specs.Belongs.{observed_at}
+use Rattle.packed_sim.specs.PackedParts.{observed_at}
 use Rattle.match_counts.specs.Totals.{fault_in, candidates_in}
 use Rattle.match_counts.proofs.CandidateRows.{all_candidates}
 use Rattle.match_counts.proofs.Sums.{sum_agree_in, sum_zero, sum_of_map, sum_of_flat_map}

@@ -26,7 +26,7 @@ use Rattle.scan_model.specs.Universe.{universe, bridges, cells}
 use Rattle.scan_model.specs.Masks.{flip_shows_from, mask_from, operand_is_point, place_is_point, place_nets, touched_nets, IsLogic}
 use Rattle.scan_model.proofs.Sites.{site_of}
 use Rattle.scan_model.proofs.counting.Shown.{point_at-IsPoint}
-use Rattle.packed_sim.specs.Belongs.{observed_at}
+use Rattle.packed_sim.specs.PackedParts.{observed_at}
 use Rattle.fault_effects.specs.FaultModel.{FaultModel, IsFaultModel}
 use Rattle.fault_effects.proofs.SoleReader.{sole_from}
 use Rattle.fault_effects.proofs.Owned.{touched_pin, gate_kind}

@@ -20,7 +20,7 @@ use Rattle.scan_model.specs.Coverage.{bit_of}
 use Rattle.scan_model.specs.Masks.{flip_shows_from, mask_from, is_operand_of, place_is_point}
 use Rattle.scan_model.proofs.counting.Branches.{force_pin}
 use Rattle.scan_model.proofs.counting.Shown.{point_at-IsPoint}
-use Rattle.packed_sim.specs.Belongs.{observed_at}
+use Rattle.packed_sim.specs.PackedParts.{observed_at}
 use Rattle.frame_rows.specs.Frames.{second_source, net_changes}
 use Rattle.frame_rows.proofs.SecondValues.{changes_is}
 use Rattle.two_frame.specs.TwoFrame.{frame_fails, makes_transition}

@@ -10,7 +10,7 @@ use Rattle.scan_model.specs.Marks.{is_marked}
 use Rattle.scan_model.specs.ScanTest.{ScanTest, points_of}
 use Rattle.scan_model.specs.Coverage.{bit_of}
 use Rattle.scan_model.specs.Classes.{is_failing, class_with}
-use Rattle.packed_sim.specs.Belongs.{observed_at}
+use Rattle.packed_sim.specs.PackedParts.{observed_at}
 use Rattle.two_frame.specs.TwoFrame.{frame_class}
 
 -- where point k fails in pattern w, its net has a mark

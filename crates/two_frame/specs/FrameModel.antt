@@ -7,7 +7,7 @@ use Rattle.scan_model.specs.Netlist.{pin_at}
 use Rattle.scan_model.specs.ScanTest.{ScanTest, points_of, point_at}
 use Rattle.scan_model.specs.Coverage.{bit_of}
 use Rattle.scan_model.specs.Masks.{flip_shows_from, mask_from, place_is_point}
-use Rattle.packed_sim.specs.Belongs.{captures, observed_at}
+use Rattle.packed_sim.specs.PackedParts.{captures, observed_at}
 use Rattle.fault_effects.specs.FaultModel.{FaultModel}
 use Rattle.fault_effects.specs.PinFlips.{pin_flips_from}
 use Rattle.frame_rows.specs.Frames.{second_source}

@@ -7,7 +7,7 @@ use Rattle.scan_model.specs.Coverage.{bit_of}
 use Rattle.scan_model.specs.ReportText.{no_fault}
 use Rattle.lane_rows.specs.GoodRows.{AreGoodRows}
 use Rattle.lane_rows.specs.Stimuli.{AreRowsOf}
-use Rattle.packed_sim.specs.Belongs.{IsBuiltFor, IsScratchOf}
+use Rattle.packed_sim.specs.PackedParts.{IsBuiltFor, IsScratchOf}
 use Rattle.frame_rows.specs.SecondRows.{second_stimuli}
 use Rattle.two_frame.specs.declared.frame_good.FrameGood.{FrameGood}
 use Rattle.two_frame.specs.declared.frame_good.FrameScratch.{FrameScratch}

@@ -8,7 +8,7 @@ ghost use Rattle.scan_model.specs.ScanTest.{points_of, point_at};
 ghost use Rattle.scan_model.specs.Masks.{flip_shows_from, place_is_point};
 ghost use Rattle.lane_rows.specs.Lanes.{lane};
 ghost use Rattle.packed_sim.specs.OperandValues.{IsGateOfPin};
-ghost use Rattle.packed_sim.specs.Belongs.{observed_at, gates_downstream, cone_gates, IsScratchIn, good_at, now_at};
+ghost use Rattle.packed_sim.specs.PackedParts.{observed_at, gates_downstream, cone_gates, IsScratchIn, good_at, now_at};
 ghost use Rattle.frame_rows.specs.Frames.{net_changes, second_source};
 ghost use Rattle.two_frame.specs.TwoFrame.{transitions, makes_transition};
 ghost use Rattle.two_frame.specs.FrameRows.{IsFrameGood, IsFrameScratch, AllCapture, AreFrameFails, transition_at};

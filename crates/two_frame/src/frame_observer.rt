@@ -4,7 +4,7 @@ ghost use Rattle.scan_model.specs.declared.fault.Fault.TheVariants as fault;
 ghost use Rattle.scan_model.specs.Netlist.{pin_at};
 ghost use Rattle.lane_rows.specs.Lanes.{lane};
 ghost use Rattle.lane_rows.specs.GoodRows.{pattern_of};
-ghost use Rattle.packed_sim.specs.Belongs.{captures, IsScratchOf};
+ghost use Rattle.packed_sim.specs.PackedParts.{captures, IsScratchOf};
 ghost use Rattle.fault_effects.specs.FaultModel.{straight_in};
 ghost use Rattle.match_counts.specs.Tables.{IsCount};
 ghost use Rattle.frame_rows.specs.Frames.{net_changes};
@@ -46,7 +46,7 @@ impl FrameCounts<'_> {
 impl Observer for FrameCounts<'_> {
     ghost use Rattle.std.specs.Prelude.{length};
     ghost use Rattle.scan_model.specs.ScanTest.{points_of};
-    ghost use Rattle.packed_sim.specs.Belongs.{IsScratchOf};
+    ghost use Rattle.packed_sim.specs.PackedParts.{IsScratchOf};
     ghost use Rattle.match_counts.specs.Tables.{HasTable, IsCount};
     ghost use Rattle.match_counts.specs.SameTables.{count_same};
     ghost use Rattle.two_frame.specs.FrameRows.{IsFrameGood};

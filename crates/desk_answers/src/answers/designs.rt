@@ -3,7 +3,7 @@ ghost use Rattle.std.specs.Prelude.{◌≡◌, [], true, IfOk};
 ghost use Rattle.scan_model.specs.Words.{is_tag};
 ghost use Rattle.desk_answers.specs.RouteAnswers.{design_put, design_get, fails_get, predicted};
 ghost use Rattle.desk_answers.specs.Seats.{Did};
-ghost use Rattle.desk_answers.specs.Answering.{AnsweredBy};
+ghost use Rattle.desk_answers.specs.BookAnswers.{AnsweredBy};
 ghost use Rattle.desk_replies.specs.Responses.{response_of};
 
 use crate::seat::SeatAt;

@@ -5,7 +5,7 @@ ghost use Rattle.report_cache.specs.Truth.{IsTrueFor};
 ghost use Rattle.desk_answers.specs.RouteAnswers.{log_post, report_get, page_get, page_of_lines};
 ghost use Rattle.desk_outside.specs.declared.deed.Deed.{Deed};
 ghost use Rattle.desk_answers.specs.Seats.{IsPrefix, Did};
-ghost use Rattle.desk_answers.specs.Answering.{AnsweredBy};
+ghost use Rattle.desk_answers.specs.BookAnswers.{AnsweredBy};
 ghost use Rattle.desk_replies.specs.Responses.{response_of};
 
 use crate::seat::SeatAt;

@@ -6,7 +6,7 @@ ghost use Rattle.scan_model.specs.Words.{is_tag};
 ghost use Rattle.die_entries.specs.declared.sign.Sign.{Sign};
 ghost use Rattle.desk_answers.specs.RouteAnswers.{sign_post, sign_get};
 ghost use Rattle.desk_answers.specs.Seats.{IsPrefix, Did};
-ghost use Rattle.desk_answers.specs.Answering.{Answered, AnsweredBy, ReadsSign};
+ghost use Rattle.desk_answers.specs.BookAnswers.{Answered, AnsweredBy, ReadsSign};
 ghost use Rattle.desk_replies.specs.Responses.{response_of};
 
 use crate::answers::signoff::{BodyFault, sign_body};

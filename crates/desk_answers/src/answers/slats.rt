@@ -4,7 +4,7 @@ ghost use Rattle.desk_outside.specs.declared.deed.Deed.{Deed};
 ghost use Rattle.diagnosis.specs.Designs.{facts_of};
 ghost use Rattle.slat_view.specs.Slat.{fitting_places};
 ghost use Rattle.slat_view.specs.Trials.{ArePlaces};
-ghost use Rattle.slat_view.specs.Whole.{IsWholeOf};
+ghost use Rattle.slat_view.specs.WholeCounts.{IsWholeOf};
 ghost use Rattle.report_cache.specs.Truth.{IsTrueFor};
 ghost use Rattle.desk_answers.specs.RouteAnswers.{slat_get, slat_pattern_get, pattern_page};
 ghost use Rattle.desk_answers.specs.Seats.{IsPrefix, Did};

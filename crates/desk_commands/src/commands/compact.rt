@@ -4,7 +4,7 @@ ghost use Rattle.desk_outside.specs.declared.shelf.File.{File};
 ghost use Rattle.desk_outside.specs.Faults.{Rose};
 ghost use Rattle.scan_model.specs.declared.logs.LogFacts.{LogFacts};
 ghost use Rattle.log_join.specs.Joining.{StandsFor, IsJoinedOf};
-ghost use Rattle.packed_sim.specs.Belongs.{BelongsTo};
+ghost use Rattle.packed_sim.specs.PackedParts.{BelongsTo};
 ghost use Rattle.compact_points.specs.Channels.{IsCompactorOf};
 ghost use Rattle.compact_points.specs.Compaction.{compact_rows};
 ghost use Rattle.chain_compactor.specs.ChannelText.{channel_reading};

@@ -10,7 +10,7 @@ ghost use Rattle.desk_heads.specs.SeenHeads.{Sees, IsHeadIn};
 ghost use Rattle.desk_heads.specs.Items.{item_limit};
 ghost use Rattle.httparse.specs.Spans.{span_bytes};
 ghost use Rattle.desk_heads.specs.declared.head.HeadSeen.TheVariants as seen;
-ghost use Rattle.desk_answers.specs.Answering.{IsAnswer};
+ghost use Rattle.desk_answers.specs.BookAnswers.{IsAnswer};
 ghost use Rattle.desk_answers.specs.Seats.{IsPrefix};
 ghost use Rattle.final_replies.specs.declared.ends.SessionEnd.{SessionEnd};
 ghost use Rattle.final_replies.specs.FinalReplies.{Responds};

@@ -1,6 +1,6 @@
 //! Desks with one seat or two.
 ghost use Rattle.std.specs.Prelude.{◌≡◌};
-ghost use Rattle.shared_desk.specs.Starting.{AreAllSeats};
+ghost use Rattle.shared_desk.specs.StartAndEnd.{AreAllSeats};
 
 use book::Book;
 use desk_outside::MemKeeper;

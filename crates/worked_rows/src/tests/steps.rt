@@ -4,7 +4,7 @@ ghost use Rattle.std.specs.Prelude.{◌≡◌, ◌+◌, ◌*◌, ◌<◌, ◌≤
 ghost use Rattle.scan_model.specs.ScanTest.{points_of};
 ghost use Rattle.scan_model.specs.Universe.{universe};
 ghost use Rattle.scan_model.specs.Masks.{touched_nets};
-ghost use Rattle.packed_sim.specs.Belongs.{cone_gates};
+ghost use Rattle.packed_sim.specs.PackedParts.{cone_gates};
 
 use super::designs::c17_over;
 use fault_universe::fault_at;

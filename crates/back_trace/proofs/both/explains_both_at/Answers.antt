@@ -2,7 +2,7 @@ use Rattle.std.proofs.Common.{◌∙◌, sym, ap}
 use Rattle.std.proofs.lemmas.Option.{get_or_from_slice_get}
 use Rattle.scan_model.specs.declared.fault.Fault.{Fault}
 use Rattle.scan_model.specs.Universe.{universe}
-use Rattle.back_trace.specs.Both as both
+use Rattle.back_trace.specs.CommonPatterns as both
 use Rattle.back_trace.specs.Traces.{no_fault}
 use Rattle.back_trace.proofs.both.explains_both_at.Goals as goal
 

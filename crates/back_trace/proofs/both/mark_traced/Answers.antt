@@ -1,6 +1,6 @@
 use Rattle.std.proofs.Common.{◌≡◌, ℕ, length, subst, arith}
 use Rattle.scan_model.specs.Universe.{universe}
-use Rattle.back_trace.specs.Both.{AreBothMarked}
+use Rattle.back_trace.specs.CommonPatterns.{AreBothMarked}
 use Rattle.back_trace.proofs.BothMarks.{both_begin, both_more, both_kept}
 use Rattle.back_trace.proofs.both.mark_traced.Goals as goal
 use Rattle.back_trace.proofs.both.mark_traced.Goals.{then-not-marks-place, else-not-marks-place}

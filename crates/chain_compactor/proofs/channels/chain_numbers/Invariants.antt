@@ -3,7 +3,7 @@ use Rattle.std.specs.Prelude.{vec_len, vec_capacity}
 use Rattle.std.specs.List.{list_any}
 use Rattle.scan_model.specs.Words.{has_word}
 use Rattle.text_parts.specs.Views.{nows}
-use Rattle.chain_compactor.specs.AfterChannels.{numbers_in}
+use Rattle.chain_compactor.specs.ChannelReading.{numbers_in}
 use Rattle.chain_compactor.proofs.channels.chain_numbers.Given as goal
 
 abbrev pub invariant-loop-chain : goal.invariant-loop-chain

@@ -1,6 +1,6 @@
 use Rattle.std.proofs.Common.{◌≡◌, max, map, drop}
 use Rattle.compact_points.specs.Channels.{greatest}
-use Rattle.chain_compactor.specs.AfterChannels.{length_in}
+use Rattle.chain_compactor.specs.ChannelReading.{length_in}
 use Rattle.chain_compactor.proofs.channels.greatest_length.Given as goal
 
 abbrev pub invariant-loop-number : goal.invariant-loop-number

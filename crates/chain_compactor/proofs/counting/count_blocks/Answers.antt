@@ -13,7 +13,7 @@ use Rattle.log_join.specs.Joining.{FitsExpected}
 use Rattle.lane_rows.specs.declared.block.Block.{Block}
 use Rattle.lane_rows.specs.Planes.{Planes}
 use Rattle.lane_rows.specs.GoodRows.{no_block, AreBlockRows}
-use Rattle.packed_sim.specs.Belongs.{block_at}
+use Rattle.packed_sim.specs.PackedParts.{block_at}
 use Rattle.log_rows.specs.declared.point_row.PointRow.{PointRow}
 use Rattle.fault_effects.specs.declared.share.Share.{Share}
 use Rattle.log_rows.specs.PlaceRows.{ArePlaceRows}

@@ -1,7 +1,7 @@
 use Rattle.std.proofs.Common.{◌≡◌, ◌≤◌, ◌+◌, ◌-◌, length, map, take}
 use Rattle.std.specs.Prelude.{vec_len, vec_capacity}
 use Rattle.compact_points.specs.Channels.{greatest}
-use Rattle.chain_compactor.specs.AfterChannels.{length_in}
+use Rattle.chain_compactor.specs.ChannelReading.{length_in}
 use Rattle.chain_compactor.proofs.logs.channel_cycles.Given as goal
 
 abbrev pub invariant-loop-channel : goal.invariant-loop-channel

@@ -4,7 +4,7 @@ use Rattle.scan_model.specs.declared.parts.Chain.{Chain}
 use Rattle.scan_model.specs.ScanTest.{ScanTest}
 use Rattle.compact_points.specs.declared.compactor.Channel.{Channel}
 use Rattle.compact_points.specs.Channels.{greatest, cycles_of, compact_points}
-use Rattle.chain_compactor.specs.AfterChannels.{length_in}
+use Rattle.chain_compactor.specs.ChannelReading.{length_in}
 use Rattle.chain_compactor.proofs.CompactOrder.{points_are}
 use Rattle.chain_compactor.proofs.logs.frame_of.Goals as goal
 

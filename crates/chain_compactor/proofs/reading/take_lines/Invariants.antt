@@ -2,7 +2,7 @@ use Rattle.std.proofs.Common.{◌≡◌, ◌-◌, length}
 use Rattle.scan_model.specs.TextFaults.{fault_from, first_fault}
 use Rattle.text_parts.specs.Views.{nows}
 use Rattle.chain_compactor.specs.ChannelText.{channel_rule, channels_before}
-use Rattle.chain_compactor.specs.AfterChannels.{IsAfter}
+use Rattle.chain_compactor.specs.ChannelReading.{IsAfter}
 use Rattle.chain_compactor.proofs.Sound.{AreSound}
 use Rattle.chain_compactor.proofs.reading.take_lines.Given as goal
 

@@ -3,7 +3,7 @@ use Rattle.desk_replies.specs.Methods.{allows}
 use Rattle.desk_replies.specs.Answers.{other_method}
 use Rattle.desk_replies.specs.Responses.{response_of}
 use Rattle.desk_answers.specs.Resources.{methods_of}
-use Rattle.desk_answers.specs.Answering.{IsAnswer, IsAnswerAt}
+use Rattle.desk_answers.specs.BookAnswers.{IsAnswer, IsAnswerAt}
 use Rattle.desk_answers.proofs.SeatSteps.{did_nothing}
 use Rattle.desk_answers.proofs.ResourceTags.{resource_tags}
 use Rattle.desk_answers.proofs.Answered.{asked_as, looked_only, other_method_is, method_is, got_at}

@@ -2,7 +2,7 @@ use Rattle.std.proofs.Common.{◌≡◌, ◌∙◌, None, refl}
 use Rattle.desk_replies.specs.declared.bodies.Refusal.TheVariants as refusal
 use Rattle.desk_replies.specs.Answers.{refused}
 use Rattle.desk_answers.specs.Resources.{resource_of}
-use Rattle.desk_answers.specs.Answering.{IsAnswer}
+use Rattle.desk_answers.specs.BookAnswers.{IsAnswer}
 use Rattle.desk_answers.proofs.SeatSteps.{did_nothing}
 use Rattle.desk_answers.proofs.Answered.{looked_only, no_route_is}
 use Rattle.desk_answers.proofs.answers.answer_found.Goals as goal

@@ -4,7 +4,7 @@ use Rattle.desk_answers.specs.declared.routes.resource.Resource.{Resource}
 use Rattle.desk_answers.specs.declared.routes.resource.Resource.TheVariants as resource
 use Rattle.desk_answers.specs.Resources.{methods_of}
 use Rattle.desk_answers.specs.RouteAnswers.{design_put, log_post}
-use Rattle.desk_answers.specs.Answering.{Answered, AnsweredBy, IsAnswerAt}
+use Rattle.desk_answers.specs.BookAnswers.{Answered, AnsweredBy, IsAnswerAt}
 use Rattle.desk_answers.proofs.Answered.{at_resource, at_signs, design_is_put, none_changed}
 use Rattle.desk_answers.proofs.answers.change_at.Goals as goal
 

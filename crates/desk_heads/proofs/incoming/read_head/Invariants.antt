@@ -1,7 +1,7 @@
 use Rattle.std.proofs.Common.{◌≡◌, ◌-◌, ◌<◌, ◌≤◌, length}
 use Rattle.std.specs.Io.KnownBytes.{prepend_known}
 use Rattle.desk_heads.specs.Heads.{head_limit}
-use Rattle.desk_heads.specs.Incoming.{Grows, HasHead, EndsInPiece}
+use Rattle.desk_heads.specs.InboxReads.{Grows, HasHead, EndsInPiece}
 use Rattle.desk_heads.proofs.incoming.read_head.Given as goal
 
 abbrev pub invariant-loop-fault : goal.invariant-loop-fault

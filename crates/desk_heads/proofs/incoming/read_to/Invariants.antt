@@ -1,6 +1,6 @@
 use Rattle.std.proofs.Common.{◌≡◌, ◌+◌, ◌-◌, ◌<◌, ◌≤◌, length}
 use Rattle.std.specs.Io.KnownBytes.{prepend_known}
-use Rattle.desk_heads.specs.Incoming.{Grows}
+use Rattle.desk_heads.specs.InboxReads.{Grows}
 use Rattle.desk_heads.proofs.incoming.read_to.Given as goal
 
 abbrev pub invariant-loop-inbox : goal.invariant-loop-inbox

@@ -2,7 +2,7 @@ use Rattle.std.proofs.Common.{◌≡◌, ◌∙◌, map, string_bytes, refl, ap,
 use Rattle.command_words.specs.Invocations.{asked}
 use Rattle.command_words.specs.CommandViews.{shown_service}
 use Rattle.desk_serve.specs.declared.ending.Ending.TheVariants.{NoMemory}
-use Rattle.desk_serve.specs.Runs.{Asked, HasEnded}
+use Rattle.desk_serve.specs.Runs.{RunOrder, HasEnded}
 use Rattle.desk_serve.proofs.Closing.{no_keeper}
 use Rattle.desk_run.specs.Words.{run_for}
 use Rattle.desk_run.proofs.Served.{same_service}
@@ -19,7 +19,7 @@ returns-in-Ok-clause-served g c = λ service is.
     let same = same_service (asked (map string_bytes c.args.words.now)) (shown_service c.in-Ok.service) service c.in-Ok.ensures.taken is in (
       c.serve.result,
       c.status.ensures,
-      subst (λ (a : Asked). HasEnded a
+      subst (λ (a : RunOrder). HasEnded a
           (record { written = g.O.Sink.written c.args.out.now; street = g.S.Street.told c.args.street.now; cabinet = g.C.Cabinet.told c.args.cabinet.now; sink_faults = g.O.Sink.faults c.args.out.now; street_faults = g.S.Street.faults c.args.street.now; cabinet_faults = g.C.Cabinet.faults c.args.cabinet.now })
           (record { written = g.O.Sink.written c.serve.new.out; street = g.S.Street.told c.serve.new.street; cabinet = g.C.Cabinet.told c.serve.new.cabinet; sink_faults = g.O.Sink.faults c.serve.new.out; street_faults = g.S.Street.faults c.serve.new.street; cabinet_faults = g.C.Cabinet.faults c.serve.new.cabinet })
           (c.serve.new.street ≡ c.args.street.now) c.serve.result) (c.serving_of.ensures.asked ∙ ap run_for same) c.serve.ensures.ended,

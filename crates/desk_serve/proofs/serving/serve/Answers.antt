@@ -4,7 +4,7 @@ use Rattle.desk_outside.specs.Faults.{Rose}
 use Rattle.desk_outside.specs.Cabinets.{keeper_handed, keeper_home}
 use Rattle.desk_serve.specs.declared.ending.Ending.{Ending}
 use Rattle.desk_serve.specs.declared.ending.Ending.TheVariants.{Done}
-use Rattle.desk_serve.specs.Runs.{asked_of}
+use Rattle.desk_serve.specs.Runs.{order_of}
 use Rattle.desk_serve.proofs.Closing.{no_keeper, not_opened, surely_home, keeper_rose, opened_ended}
 use Rattle.desk_serve.proofs.ComingHome.{rose_still, rose_later}
 use Rattle.desk_serve.specs.Lines.{Writes, line_of}
@@ -15,7 +15,7 @@ use Rattle.desk_serve.proofs.serving.serve.Goals as goal
 
 pub returns-in-Err-clause-ended : goal.returns-in-Err-clause-ended
 returns-in-Err-clause-ended g c =
-    no_keeper (asked_of c.args.asked.now)
+    no_keeper (order_of c.args.asked.now)
     (record { written = g.O.Sink.written c.args.out.now; street = g.S.Street.told c.args.street.now; cabinet = g.C.Cabinet.told c.args.cabinet.now; sink_faults = g.O.Sink.faults c.args.out.now; street_faults = g.S.Street.faults c.args.street.now; cabinet_faults = g.C.Cabinet.faults c.args.cabinet.now })
     (record { written = g.O.Sink.written c.ended.new.out; street = g.S.Street.told c.args.street.now; cabinet = g.C.Cabinet.told c.keeper.new.self; sink_faults = g.O.Sink.faults c.ended.new.out; street_faults = g.S.Street.faults c.args.street.now; cabinet_faults = g.C.Cabinet.faults c.keeper.new.self })
     (c.args.street.now ≡ c.args.street.now) c.refusal.result c.ended.result refl (λ told is. inl (c.in-Err.ensures.same ∙ is)) c.refusal.ensures.one_of
@@ -28,7 +28,7 @@ returns-in-Err-start-clause-ended g c =
     let mid = g.C.Cabinet.told c.keeper.new.self in
     let new = g.C.Cabinet.told c.turned_away.new.cabinet in
     let rows = g.C.K.Keeper.rows keeper in
-    not_opened (asked_of c.args.asked.now)
+    not_opened (order_of c.args.asked.now)
     (record { written = g.O.Sink.written c.args.out.now; street = g.S.Street.told c.args.street.now; cabinet = g.C.Cabinet.told c.args.cabinet.now; sink_faults = g.O.Sink.faults c.args.out.now; street_faults = g.S.Street.faults c.args.street.now; cabinet_faults = g.C.Cabinet.faults c.args.cabinet.now })
     (record { written = g.O.Sink.written c.turned_away.new.out; street = g.S.Street.told c.args.street.now; cabinet = g.C.Cabinet.told c.turned_away.new.cabinet; sink_faults = g.O.Sink.faults c.turned_away.new.out; street_faults = g.S.Street.faults c.args.street.now; cabinet_faults = g.C.Cabinet.faults c.turned_away.new.cabinet })
     (c.args.street.now ≡ c.args.street.now) refused.fault c.turned_away.result refl
@@ -63,7 +63,7 @@ returns-clause-ended g c =
     let store = c.args.asked.now.store.now in
     let last : Ending = Done (c.args.asked.now.workers * c.args.asked.now.sessions) (length book.deeds) in
     let due : c.unwrap_or.result ≡ unwrap_or instead last = search rules in
-    opened_ended (asked_of c.args.asked.now)
+    opened_ended (order_of c.args.asked.now)
     (record { written = g.O.Sink.written c.args.out.now; street = g.S.Street.told c.args.street.now; cabinet = g.C.Cabinet.told c.args.cabinet.now; sink_faults = g.O.Sink.faults c.args.out.now; street_faults = g.S.Street.faults c.args.street.now; cabinet_faults = g.C.Cabinet.faults c.args.cabinet.now })
     (record { written = g.O.Sink.written c.ended-2.new.out; street = g.S.Street.told c.serve_desk-book.new.street; cabinet = g.C.Cabinet.told c.back.new.self; sink_faults = g.O.Sink.faults c.ended-2.new.out; street_faults = g.S.Street.faults c.serve_desk-book.new.street; cabinet_faults = g.C.Cabinet.faults c.back.new.self })
     (c.serve_desk-book.new.street ≡ c.args.street.now) deeds book

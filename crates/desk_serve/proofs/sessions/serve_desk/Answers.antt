@@ -4,10 +4,10 @@ use Rattle.std.proofs.lemmas.List.{length-map}
 use Rattle.desk_outside.specs.Faults.{Rose}
 use Rattle.desk_outside.specs.Streets.{StreetTold}
 use Rattle.shared_desk.specs.Seats.{SeatFacts}
-use Rattle.shared_desk.specs.Starting.{AreAllSeats, IsFinished}
+use Rattle.shared_desk.specs.StartAndEnd.{AreAllSeats, IsFinished}
 use Rattle.desk_serve.specs.Doors.{DoorFacts, Tells, with_doors_out, with_doors_home}
 use Rattle.desk_serve.specs.StreetEnd.{StreetServed}
-use Rattle.desk_serve.specs.Runs.{asked_of}
+use Rattle.desk_serve.specs.Runs.{order_of}
 use Rattle.desk_serve.proofs.Lists.{all_of_map}
 use Rattle.desk_serve.proofs.ComingHome.{are_out, rose_still, rose_later}
 use Rattle.desk_serve.proofs.Seats.{seats_of_desk, same_deeds}
@@ -46,7 +46,7 @@ hand_back-requires-clause-telling g c κs within told is =
 pub returns-clause-over : goal.returns-clause-over
 returns-clause-over g c =
     let facts : g.row.S-D.Denot → DoorFacts = λ x. record { told = g.S.D.Door.told x; faults = g.S.D.Door.faults x } in
-    let asked = asked_of c.args.asked.now in
+    let asked = order_of c.args.asked.now in
     let desk = c.args.desk in
     let doors = c.serve_street-over.result.doors.items in
     let after = c.serve_street-over.result.seats.items in

@@ -1,7 +1,7 @@
 use Rattle.std.proofs.Common.{◌≡◌, ◌*◌, length}
 use Rattle.std.specs.Prelude.{min}
 use Rattle.scan_model.specs.ScanTest.{points_of}
-use Rattle.packed_sim.specs.Belongs.{IsScratchOf}
+use Rattle.packed_sim.specs.PackedParts.{IsScratchOf}
 use Rattle.fault_universe.specs.BitRows.{bits_upto}
 use Rattle.diag_report.specs.LineEnds.{AddsLines}
 use Rattle.diag_report.specs.PredictedLog.{fail_lines}

@@ -2,7 +2,7 @@ use Rattle.std.proofs.Common.{◌≡◌, ℕ, List, Some, Result, Err, ap, subst
 use Rattle.desk_replies.specs.declared.response.Response.{Response}
 use Rattle.desk_replies.specs.declared.response.AnswerFault.{AnswerFault}
 use Rattle.desk_replies.specs.declared.response.AnswerFault.TheVariants as failed
-use Rattle.desk_answers.specs.Answering.{IsAnswer, Answered}
+use Rattle.desk_answers.specs.BookAnswers.{IsAnswer, Answered}
 use Rattle.final_replies.specs.FinalReplies.{Replied}
 use Rattle.final_replies.proofs.responding.respond.Goals as goal
 

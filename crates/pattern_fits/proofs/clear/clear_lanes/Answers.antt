@@ -1,5 +1,5 @@
 use Rattle.std.proofs.Common.{◌≡◌, ℕ, ◌+◌, List, ap, ◌∙◌, arith}
-use Rattle.pattern_fits.specs.Sliced.{value, rows_with}
+use Rattle.pattern_fits.specs.LaneNumbers.{value, rows_with}
 use Rattle.pattern_fits.proofs.Shown.{none_against}
 use Rattle.pattern_fits.proofs.clear.clear_lanes.Goals as goal
 

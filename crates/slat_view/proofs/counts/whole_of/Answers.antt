@@ -3,20 +3,20 @@ use Rattle.std.specs.Prelude.{min, IfSome, OnSome}
 use Rattle.pattern_fits.specs.declared.fit.Fit.{Fit}
 use Rattle.fault_effects.specs.Owners.{places_of}
 use Rattle.slat_view.specs.Tests.{IsSlatUpTo, IsBlockOf, HaveAllFits}
-use Rattle.slat_view.specs.Whole.{HavePlacesUpTo, fits_in}
+use Rattle.slat_view.specs.WholeCounts.{HavePlacesUpTo, fits_in}
 use Rattle.slat_view.proofs.KeptFits.{one_more, both_kept, many_more, few_more, places_more}
 use Rattle.slat_view.proofs.counts.whole_of.Goals as goal
 
 pub loop-block-preserved : goal.loop-block-preserved
 loop-block-preserved g c =
-    let t = c.args.tested.now.parts.now in
+    let t = c.args.trials.now.parts.now in
     let k = c.loop-block.block in
     let n = length t.patterns in
     let old = c.loop-block.blocks in
     let new = c.with_block-blocks.result in
     let tried = c.in_ok-tried.tried in
     let behind = c.with_block-blocks.ensures.behind in
-    let places = places_of c.args.tested.now.die.now.suspects in
+    let places = places_of c.args.trials.now.die.now.suspects in
     let many : c.len-patterns.result ≡ n = c.len-patterns.ensures ∙ ap length c.patterns.ensures.value in
     let start : min (512 * k) n ≡ 512 * k = omega (arith, many, c.loop-block-test.true, c.div_ceil-block-end.ensures, c.loop-block.auto.block-end) in
     let end : c.min-end.result ≡ min (512 * (k + 1)) n = omega (arith, many, c.min-end.ensures) in

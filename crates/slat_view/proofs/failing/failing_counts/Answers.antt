@@ -7,7 +7,7 @@ use Rattle.log_rows.specs.declared.point_row.PointRow.{PointRow}
 use Rattle.log_rows.specs.PointRows.{no_point_row}
 use Rattle.match_counts.specs.Flips.{point_row_at}
 use Rattle.slat_view.specs.Places.{bad}
-use Rattle.pattern_fits.specs.Sliced.{one}
+use Rattle.pattern_fits.specs.LaneNumbers.{one}
 use Rattle.slat_view.proofs.PlaceSums.{few_places, one_most, one_more, none_told, same_sum}
 use Rattle.slat_view.proofs.failing.failing_counts.Goals as goal
 

@@ -9,7 +9,7 @@ use Rattle.scan_model.specs.Marks.{is_marked}
 use Rattle.scan_model.specs.Universe.{universe}
 use Rattle.scan_model.proofs.Orders.{filter_range_at}
 use Rattle.lane_rows.specs.GoodRows.{AreBlockRows, no_block}
-use Rattle.slat_view.specs.Narrowed.{HaveFitsUpTo}
+use Rattle.slat_view.specs.FitMarks.{HaveFitsUpTo}
 use Rattle.slat_view.specs.Tests.{HaveAllFits}
 use Rattle.slat_view.proofs.NarrowedMarks.{fits_none, fits_more}
 use Rattle.slat_view.proofs.FittingCandidates.{marked_fits}

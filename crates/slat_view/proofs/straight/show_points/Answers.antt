@@ -10,7 +10,7 @@ use Rattle.log_rows.specs.declared.point_row.PointRow.{PointRow}
 use Rattle.log_rows.specs.PointRows.{no_point_row}
 use Rattle.match_counts.specs.Flips.{tallied, list_on, row_on, point_row_at}
 use Rattle.match_counts.proofs.Sums.{sum_step}
-use Rattle.slat_view.specs.Straight.{shown_at}
+use Rattle.slat_view.specs.StraightPins.{shown_at}
 use Rattle.slat_view.proofs.straight.show_points.Goals as goal
 
 pub loop-point-preserved : goal.loop-point-preserved

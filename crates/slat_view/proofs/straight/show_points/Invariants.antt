@@ -3,7 +3,7 @@ use Rattle.std.specs.Prelude.{sum_by}
 use Rattle.scan_model.specs.Netlist.{pin_at}
 use Rattle.log_rows.specs.declared.side.Side.{Side}
 use Rattle.match_counts.specs.Flips.{tallied, list_on}
-use Rattle.slat_view.specs.Straight.{shown_at}
+use Rattle.slat_view.specs.StraightPins.{shown_at}
 use Rattle.slat_view.proofs.straight.show_points.Given as goal
 
 abbrev pub invariant-loop-point : goal.invariant-loop-point

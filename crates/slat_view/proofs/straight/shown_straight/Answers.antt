@@ -10,13 +10,13 @@ use Rattle.scan_model.specs.NetValue.{good_value}
 use Rattle.lane_rows.specs.declared.block.Block.{Block}
 use Rattle.lane_rows.specs.Lanes.{lane}
 use Rattle.lane_rows.specs.GoodRows.{no_block, pattern_of}
-use Rattle.packed_sim.specs.Belongs.{block_at, points_of_net, observed_at}
+use Rattle.packed_sim.specs.PackedParts.{block_at, points_of_net, observed_at}
 use Rattle.fault_effects.proofs.NetPoints.{filtered}
 use Rattle.log_rows.specs.declared.side.Side.{Side}
 use Rattle.log_rows.specs.declared.side.Side.TheVariants.{Failing, Passing}
 use Rattle.match_counts.specs.declared.flip_rows.FlipRows.{FlipRows}
 use Rattle.match_counts.specs.Flips.{tallied, list_on}
-use Rattle.slat_view.specs.Straight.{shown_at}
+use Rattle.slat_view.specs.StraightPins.{shown_at}
 use Rattle.slat_view.proofs.PinTables.{straight_shown}
 use Rattle.slat_view.proofs.straight.shown_straight.Goals as goal
 

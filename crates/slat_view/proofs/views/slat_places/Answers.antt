@@ -36,8 +36,8 @@ joined_of-requires g c =
 pub make-requires-clause-expected : goal.make-requires-clause-expected
 make-requires-clause-expected g c = c.expected-expected.ensures ∙ ap expected_rows (sym c.parts-parts.ensures.value)
 
-pub block-requires-clause-tested : goal.block-requires-clause-tested
-block-requires-clause-tested g c = record { expected = c.expected-expected.ensures ∙ ap expected_rows (sym c.parts-parts.ensures.value); die = c.in_ok-die.ensures.prepared }
+pub block-requires-clause-trials : goal.block-requires-clause-trials
+block-requires-clause-trials g c = record { expected = c.expected-expected.ensures ∙ ap expected_rows (sym c.parts-parts.ensures.value); die = c.in_ok-die.ensures.prepared }
 
 pub block-requires-clause-block : goal.block-requires-clause-block
 block-requires-clause-block g c =

@@ -12,7 +12,7 @@ use Rattle.diagnosis.specs.Designs.{DesignFacts, ReadLogFacts, StandsOver, facts
 use Rattle.diagnosis.specs.Cases.{case_of}
 use Rattle.diagnosis.proofs.Cases.{logs_stand}
 use Rattle.diagnosis.proofs.Views.{view_is_case}
-use Rattle.slat_view.specs.Whole.{IsWholeOf}
+use Rattle.slat_view.specs.WholeCounts.{IsWholeOf}
 use Rattle.slat_view.proofs.views.whole_slat.Goals as goal
 
 pub joined_of-requires : goal.joined_of-requires

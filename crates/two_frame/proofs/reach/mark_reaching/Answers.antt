@@ -9,7 +9,7 @@ use Rattle.scan_model.specs.ScanTest.{points_of, point_at}
 use Rattle.scan_model.specs.Suspect.{observed_net}
 use Rattle.scan_model.specs.Classes.{is_failing}
 use Rattle.scan_model.proofs.counting.Shown.{point_at-IsPoint, observed_net-in_range}
-use Rattle.packed_sim.specs.Belongs.{observed_at}
+use Rattle.packed_sim.specs.PackedParts.{observed_at}
 use Rattle.back_trace.proofs.Ranges.{any_at}
 use Rattle.two_frame.proofs.BlockReads.{net_read}
 use Rattle.two_frame.proofs.FrameResponses.{fits_frames}

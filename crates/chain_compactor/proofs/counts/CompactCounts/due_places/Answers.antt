@@ -5,7 +5,7 @@ use Rattle.scan_model.specs.declared.parts.Point.{Point}
 use Rattle.scan_model.specs.ScanTest.{IsPoint, points_of, point_at}
 use Rattle.scan_model.specs.Suspect.{observed_net}
 use Rattle.place_sets.specs.Places.{has_place}
-use Rattle.packed_sim.specs.Belongs.{observed_at, points_of_net}
+use Rattle.packed_sim.specs.PackedParts.{observed_at, points_of_net}
 use Rattle.packed_sim.proofs.Changes.{point_stands}
 use Rattle.fault_effects.proofs.NetPoints.{filtered, of_net_points}
 use Rattle.chain_compactor.specs.ObservationPoints.{seeing}

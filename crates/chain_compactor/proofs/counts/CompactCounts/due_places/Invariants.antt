@@ -2,7 +2,7 @@ use Rattle.std.proofs.Common.{◌≡◌, ℕ, ◌<◌, ◌≤◌, true, length, 
 use Rattle.std.specs.Prelude.{Contains}
 use Rattle.scan_model.specs.ScanTest.{points_of, point_at}
 use Rattle.place_sets.specs.Places.{has_place, room}
-use Rattle.packed_sim.specs.Belongs.{observed_at}
+use Rattle.packed_sim.specs.PackedParts.{observed_at}
 use Rattle.chain_compactor.specs.ObservationPoints.{seeing}
 use Rattle.chain_compactor.proofs.counts.CompactCounts.due_places.Given as goal
 

@@ -1,6 +1,6 @@
 use Rattle.std.proofs.Common.{◌≡◌, ◌<◌, ℕ, length, sym, subst}
 use Rattle.scan_model.proofs.counting.Shown.{observed_net-in_range}
-use Rattle.packed_sim.specs.Belongs.{good_at, now_at}
+use Rattle.packed_sim.specs.PackedParts.{good_at, now_at}
 use Rattle.packed_sim.proofs.Changes.{outside_same}
 use Rattle.chain_compactor.proofs.shown_changes.CellChangesChanges.change.Goals as goal
 

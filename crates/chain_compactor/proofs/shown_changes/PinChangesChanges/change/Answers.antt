@@ -12,7 +12,7 @@ use Rattle.lane_rows.specs.declared.block.Block.{Block}
 use Rattle.lane_rows.specs.Planes.{Planes, held}
 use Rattle.lane_rows.specs.Sources.{no_planes}
 use Rattle.lane_rows.specs.GoodRows.{pattern_of, no_block}
-use Rattle.packed_sim.specs.Belongs.{block_at, good_at}
+use Rattle.packed_sim.specs.PackedParts.{block_at, good_at}
 use Rattle.packed_sim.proofs.Belonging.{good_is}
 use Rattle.packed_sim.proofs.Changes.{xor_back}
 use Rattle.chain_compactor.proofs.shown_changes.PinChangesChanges.change.Goals as goal

@@ -4,7 +4,7 @@ use Rattle.desk_replies.specs.declared.bodies.TextKind.TheVariants as kind
 use Rattle.die_entries.specs.declared.sign.Sign.{Sign}
 use Rattle.desk_replies.specs.Answers.{unprocessable}
 use Rattle.desk_answers.specs.RouteAnswers.{sign_post}
-use Rattle.desk_answers.specs.Answering.{ReadsSign}
+use Rattle.desk_answers.specs.BookAnswers.{ReadsSign}
 use Rattle.desk_answers.proofs.SeatSteps.{did_nothing}
 use Rattle.desk_answers.proofs.Answered.{asked_as, looked_only}
 use Rattle.desk_answers.proofs.answers.signs.post_sign.Goals as goal

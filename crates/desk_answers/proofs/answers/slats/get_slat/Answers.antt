@@ -5,7 +5,7 @@ use Rattle.scan_model.specs.ReportText.{concatenated}
 use Rattle.diagnosis.specs.Designs.{ReadLogFacts, IsView, facts_of}
 use Rattle.slat_view.specs.declared.slat.SlatCount.{SlatCount}
 use Rattle.slat_view.specs.SlatText.{count_lines, slat_text}
-use Rattle.slat_view.specs.Whole.{IsWholeOf}
+use Rattle.slat_view.specs.WholeCounts.{IsWholeOf}
 use Rattle.report_cache.specs.Truth.{IsTrueFor}
 use Rattle.desk_replies.specs.declared.status.Status.TheVariants as status
 use Rattle.desk_replies.specs.Answers.{plain}

@@ -2,7 +2,7 @@ use Rattle.std.proofs.Common.{◌≡◌, sym, subst, rules}
 use Rattle.std.specs.Arc.{arc_value}
 use Rattle.std.specs.Prelude.{IfOk}
 use Rattle.diagnosis.specs.Designs.{IsView, facts_of}
-use Rattle.slat_view.specs.Whole.{IsWholeOf}
+use Rattle.slat_view.specs.WholeCounts.{IsWholeOf}
 use Rattle.report_cache.specs.Truth.{IsTrueFor}
 use Rattle.desk_replies.specs.Answers.{Answer}
 use Rattle.desk_replies.specs.Responses.{response_of}

@@ -2,7 +2,7 @@ use Rattle.std.proofs.Common.{◌≡◌, ◌+◌, ◌-◌, ℕ, List, take, drop
 use Rattle.std.specs.Str.{IsUtf8}
 use Rattle.std.proofs.lemmas.Str.{IsUtf8-from_ascii}
 use Rattle.httparse.specs.Spans.{span_bytes}
-use Rattle.desk_answers.specs.Answering.{IsAnswer}
+use Rattle.desk_answers.specs.BookAnswers.{IsAnswer}
 use Rattle.final_replies.specs.FinalReplies.{Responds}
 use Rattle.desk_http.proofs.sessions.requests.respond_to_front.Goals as goal
 

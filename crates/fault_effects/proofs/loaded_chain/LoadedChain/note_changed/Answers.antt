@@ -4,7 +4,7 @@ use Rattle.scan_model.specs.declared.fault.Fault.TheVariants as fault
 use Rattle.scan_model.specs.declared.parts.Point.TheVariants.{Cell}
 use Rattle.scan_model.specs.ScanTest.{points_of, point_at}
 use Rattle.scan_model.specs.Suspect.{observed_net}
-use Rattle.packed_sim.specs.Belongs.{observed_at}
+use Rattle.packed_sim.specs.PackedParts.{observed_at}
 use Rattle.fault_effects.specs.Walks.{ArePlacesFresh, AreFreshAt}
 use Rattle.fault_effects.proofs.NetPoints.{filtered, of_net_points}
 use Rattle.fault_effects.proofs.WalkNotes.{net_kept}

@@ -2,7 +2,7 @@ use Rattle.std.proofs.Common.{ℕ, eqb, length, subst, arith}
 use Rattle.std.specs.Prelude.{All}
 use Rattle.scan_model.specs.declared.fault.Fault.TheVariants as fault
 use Rattle.scan_model.specs.ScanTest.{points_of}
-use Rattle.packed_sim.specs.Belongs.{observed_at}
+use Rattle.packed_sim.specs.PackedParts.{observed_at}
 use Rattle.fault_effects.specs.Walks.{ArePlacesFresh}
 use Rattle.fault_effects.proofs.NetPoints.{filtered, of_net_points}
 use Rattle.fault_effects.proofs.loaded_chain.LoadedChain.note_net.Goals as goal

@@ -7,7 +7,7 @@ use Rattle.lane_rows.specs.declared.block.Block.{Block}
 use Rattle.lane_rows.specs.Lanes.{lane, count_lanes}
 use Rattle.lane_rows.specs.GoodRows.{no_block}
 use Rattle.scan_model.specs.ScanTest.{points_of}
-use Rattle.packed_sim.specs.Belongs.{points_of_net, observed_at, block_at, good_at, now_at}
+use Rattle.packed_sim.specs.PackedParts.{points_of_net, observed_at, block_at, good_at, now_at}
 use Rattle.log_rows.specs.declared.side.Side.{Side}
 use Rattle.log_rows.specs.declared.side.Side.TheVariants.{Failing, Passing}
 use Rattle.match_counts.specs.Flips.{tallied, list_on, row_on, point_row_at, caught_lane}

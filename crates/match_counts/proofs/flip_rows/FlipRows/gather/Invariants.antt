@@ -1,7 +1,7 @@
 use Rattle.std.proofs.Common.{◌≡◌, ℕ, ◌&&◌, Bool, take}
 use Rattle.std.specs.Prelude.{sum_by}
 use Rattle.lane_rows.specs.Lanes.{count_lanes}
-use Rattle.packed_sim.specs.Belongs.{points_of_net}
+use Rattle.packed_sim.specs.PackedParts.{points_of_net}
 use Rattle.log_rows.specs.declared.side.Side.{Side}
 use Rattle.match_counts.specs.Flips.{tallied, caught_lane, list_on}
 use Rattle.match_counts.proofs.flip_rows.FlipRows.gather.Given as goal

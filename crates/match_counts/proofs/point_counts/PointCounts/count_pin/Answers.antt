@@ -5,7 +5,7 @@ use Rattle.scan_model.specs.declared.circuit.Pin.{Pin}
 use Rattle.scan_model.specs.declared.circuit.PinPlace.TheVariants as place
 use Rattle.scan_model.specs.ScanTest.{points_of}
 use Rattle.scan_model.specs.Netlist.{Netlist, no_pin, pin_at}
-use Rattle.packed_sim.specs.Belongs.{points_of_net, observed_at}
+use Rattle.packed_sim.specs.PackedParts.{points_of_net, observed_at}
 use Rattle.match_counts.specs.Flips.{pin_lanes}
 use Rattle.fault_effects.proofs.NetPoints.{filtered}
 use Rattle.match_counts.proofs.FlipSums.{points_few}

@@ -1,7 +1,7 @@
 use Rattle.std.proofs.Common.{Bool, ◌&&◌, ap, ◌∙◌}
 use Rattle.scan_model.specs.Masks.{flip_shows_from}
 use Rattle.lane_rows.specs.GoodRows.{pattern_of}
-use Rattle.packed_sim.specs.Belongs.{observed_at}
+use Rattle.packed_sim.specs.PackedParts.{observed_at}
 use Rattle.match_counts.proofs.TableSums.{flip_table}
 use Rattle.match_counts.proofs.point_counts.PointCounts.show.Goals as goal
 

@@ -10,7 +10,7 @@ use Rattle.scan_model.specs.Masks.{place_is_point}
 use Rattle.lane_rows.specs.declared.block.Block.{Block}
 use Rattle.lane_rows.specs.Lanes.{lane}
 use Rattle.lane_rows.specs.GoodRows.{pattern_of, no_block}
-use Rattle.packed_sim.specs.Belongs.{captures, block_at}
+use Rattle.packed_sim.specs.PackedParts.{captures, block_at}
 use Rattle.fault_effects.specs.FaultModel.{point_model, straight_in}
 use Rattle.match_counts.specs.Tables.{seen_in}
 use Rattle.match_counts.specs.SameTables.{count_same}

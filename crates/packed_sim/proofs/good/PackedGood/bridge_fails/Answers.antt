@@ -1,7 +1,7 @@
 use Rattle.std.proofs.Common.{◌+◌, ◌*◌, ◌/◌, ◌%◌, ◌∙◌}
 use Rattle.scan_model.specs.declared.fault.Fault.TheVariants as fault
 use Rattle.scan_model.proofs.Sites.{site_of}
-use Rattle.packed_sim.specs.Belongs.{now_at, observed_at}
+use Rattle.packed_sim.specs.PackedParts.{now_at, observed_at}
 use Rattle.packed_sim.proofs.FaultBits.{lane_inside, block_inside, bridge_bit, bridge_apart}
 use Rattle.packed_sim.proofs.good.PackedGood.bridge_fails.Goals as goal
 

@@ -3,7 +3,7 @@ use Rattle.scan_model.specs.declared.values.Tri.{Tri}
 use Rattle.scan_model.specs.Values.{tri_xor}
 use Rattle.lane_rows.specs.Planes.{Planes, held}
 use Rattle.packed_sim.specs.Rows.{no_row}
-use Rattle.packed_sim.specs.Belongs.{block_at, good_at}
+use Rattle.packed_sim.specs.PackedParts.{block_at, good_at}
 use Rattle.packed_sim.proofs.good.PackedGood.change.Goals as goal
 
 pub returns-in-Some : goal.returns-in-Some

@@ -1,6 +1,6 @@
 use Rattle.std.proofs.Common.{◌+◌, ◌*◌, ◌/◌, ◌%◌, ◌&&◌, ℕ, List, Bool, ap, ◌∙◌}
 use Rattle.lane_rows.specs.Lanes.{lane}
-use Rattle.packed_sim.specs.Belongs.{captures}
+use Rattle.packed_sim.specs.PackedParts.{captures}
 use Rattle.packed_sim.proofs.FaultBits.{pattern_is, lane_inside, block_inside}
 use Rattle.packed_sim.proofs.good.PackedGood.difference_word.Goals as goal
 

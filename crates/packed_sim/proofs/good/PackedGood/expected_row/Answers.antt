@@ -3,7 +3,7 @@ use Rattle.scan_model.specs.declared.parts.Point.TheVariants.{Cell}
 use Rattle.scan_model.specs.Suspect.{observed_net}
 use Rattle.lane_rows.specs.Lanes.{lane}
 use Rattle.lane_rows.specs.Planes.{held}
-use Rattle.packed_sim.specs.Belongs.{good_at}
+use Rattle.packed_sim.specs.PackedParts.{good_at}
 use Rattle.packed_sim.proofs.ChainBits.{expected_is}
 use Rattle.packed_sim.proofs.good.PackedGood.expected_row.Goals as goal
 

@@ -7,7 +7,7 @@ use Rattle.lane_rows.specs.Lanes.{lane}
 use Rattle.lane_rows.specs.Planes.{held}
 use Rattle.lane_rows.specs.GoodRows.{pattern_of}
 use Rattle.lane_rows.specs.Stimuli.{stimuli_of}
-use Rattle.packed_sim.specs.Belongs.{good_at, now_at, observed_at}
+use Rattle.packed_sim.specs.PackedParts.{good_at, now_at, observed_at}
 use Rattle.packed_sim.proofs.Belonging.{own_rows, flip_is}
 use Rattle.packed_sim.proofs.good.PackedGood.flip.Goals as goal
 

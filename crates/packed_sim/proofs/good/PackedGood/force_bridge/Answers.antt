@@ -3,7 +3,7 @@ use Rattle.scan_model.specs.NetValue.{Forced, values_of, source_of}
 use Rattle.lane_rows.specs.GoodRows.{pattern_of}
 use Rattle.lane_rows.specs.Planes.{held}
 use Rattle.lane_rows.specs.Stimuli.{stimuli_of}
-use Rattle.packed_sim.specs.Belongs.{observed_at}
+use Rattle.packed_sim.specs.PackedParts.{observed_at}
 use Rattle.packed_sim.proofs.Belonging.{own_rows}
 use Rattle.packed_sim.proofs.Taken.{both_forced, second_forced, second_within}
 use Rattle.packed_sim.proofs.good.PackedGood.force_bridge.Goals as goal

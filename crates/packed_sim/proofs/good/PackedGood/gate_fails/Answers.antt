@@ -2,7 +2,7 @@ use Rattle.std.proofs.Common.{◌≡◌, true, List, ℕ, ◌+◌, ◌*◌, ◌/
 use Rattle.scan_model.specs.Values.{are_opposite}
 use Rattle.scan_model.specs.Netlist.{is_gate, is_gate_driver}
 use Rattle.lane_rows.specs.Lanes.{lane}
-use Rattle.packed_sim.specs.Belongs.{good_at, now_at, observed_at, gates_downstream}
+use Rattle.packed_sim.specs.PackedParts.{good_at, now_at, observed_at, gates_downstream}
 use Rattle.packed_sim.proofs.FaultBits.{lane_inside, block_inside, gate_bit, gate_nets}
 use Rattle.packed_sim.proofs.good.PackedGood.gate_fails.Goals as goal
 

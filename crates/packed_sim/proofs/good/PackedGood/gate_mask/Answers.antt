@@ -1,7 +1,7 @@
 use Rattle.std.proofs.Common.{ap, ◌∙◌}
 use Rattle.lane_rows.specs.Lanes.{lane}
 use Rattle.lane_rows.specs.Planes.{held}
-use Rattle.packed_sim.specs.Belongs.{good_at}
+use Rattle.packed_sim.specs.PackedParts.{good_at}
 use Rattle.packed_sim.proofs.PinMasks.{gate_mask_is}
 use Rattle.packed_sim.proofs.good.PackedGood.gate_mask.Goals as goal
 

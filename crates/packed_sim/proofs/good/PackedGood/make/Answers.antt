@@ -4,7 +4,7 @@ use Rattle.scan_model.specs.ScanTest.{ScanTest}
 use Rattle.lane_rows.specs.declared.block.Block.{Block}
 use Rattle.lane_rows.specs.GoodRows.{AreGoodRows}
 use Rattle.packed_sim.specs.declared.good.PackedGood.{PackedGood}
-use Rattle.packed_sim.specs.Belongs.{IsBuiltFor, BelongsTo}
+use Rattle.packed_sim.specs.PackedParts.{IsBuiltFor, BelongsTo}
 use Rattle.packed_sim.proofs.good.PackedGood.make.Goals as goal
 
 of_test : (t : ScanTest) (rows : List Block) (made : Result PackedGood NoMemory) → AreGoodRows t rows → IfOk made (IsBuiltFor t) → IfOk made (λ good. good.rows ≡ rows) → IfOk made (BelongsTo t)

@@ -10,7 +10,7 @@ use Rattle.scan_model.proofs.counting.Shown.{point_at-IsPoint, predicts_fail-is}
 use Rattle.scan_model.proofs.counting.ChainSteps.{IsOutside}
 use Rattle.lane_rows.specs.Lanes.{lane}
 use Rattle.lane_rows.specs.GoodRows.{pattern_of}
-use Rattle.packed_sim.specs.Belongs.{captures, good_at, now_at, observed_at}
+use Rattle.packed_sim.specs.PackedParts.{captures, good_at, now_at, observed_at}
 use Rattle.packed_sim.proofs.Belonging.{observed_is, observed_len, observed_in_range}
 use Rattle.packed_sim.proofs.ChainBits.{outside_lane}
 use Rattle.packed_sim.proofs.good.PackedGood.predicted_row.Goals as goal

@@ -1,7 +1,7 @@
 use Rattle.std.proofs.Common.{ap, sym, ◌∙◌, cond, Bool}
 use Rattle.lane_rows.specs.Lanes.{lane}
 use Rattle.lane_rows.specs.Planes.{held}
-use Rattle.packed_sim.specs.Belongs.{block_at}
+use Rattle.packed_sim.specs.PackedParts.{block_at}
 use Rattle.packed_sim.specs.ChainLoads.{passed_value}
 use Rattle.packed_sim.proofs.Loading.{shown_is}
 use Rattle.packed_sim.proofs.good.PackedGood.shown.Goals as goal

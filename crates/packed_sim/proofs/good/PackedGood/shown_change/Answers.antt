@@ -9,7 +9,7 @@ use Rattle.scan_model.specs.Response.{observed}
 use Rattle.lane_rows.specs.Lanes.{lane}
 use Rattle.lane_rows.specs.Planes.{held}
 use Rattle.lane_rows.specs.GoodRows.{pattern_of}
-use Rattle.packed_sim.specs.Belongs.{good_at, now_at}
+use Rattle.packed_sim.specs.PackedParts.{good_at, now_at}
 use Rattle.packed_sim.specs.Changes.{IsShownChange}
 use Rattle.packed_sim.proofs.Changes.{xor_back, outside_change, outside_same}
 use Rattle.packed_sim.proofs.good.PackedGood.shown_change.Goals as goal

@@ -2,7 +2,7 @@ use Rattle.std.proofs.Common.{◌+◌, ◌*◌, ◌/◌, ◌%◌, ◌∙◌}
 use Rattle.scan_model.specs.declared.fault.Fault.TheVariants as fault
 use Rattle.scan_model.proofs.Sites.{site_of}
 use Rattle.lane_rows.specs.Stimuli.{stimuli_of}
-use Rattle.packed_sim.specs.Belongs.{now_at, observed_at}
+use Rattle.packed_sim.specs.PackedParts.{now_at, observed_at}
 use Rattle.packed_sim.proofs.Belonging.{own_rows}
 use Rattle.packed_sim.proofs.FaultBits.{lane_inside, block_inside, stem_bit}
 use Rattle.packed_sim.proofs.good.PackedGood.stem_fails.Goals as goal

@@ -6,7 +6,7 @@ use Rattle.scan_model.specs.Netlist.{pin_at}
 use Rattle.scan_model.specs.ScanTest.{point_at}
 use Rattle.scan_model.specs.NetValue.{good_value}
 use Rattle.scan_model.specs.Masks.{place_is_point}
-use Rattle.packed_sim.specs.Belongs.{captures}
+use Rattle.packed_sim.specs.PackedParts.{captures}
 use Rattle.packed_sim.proofs.good.PackedGood.straight_fails.Given as goal
 
 abbrev pub invariant-loop-k : goal.invariant-loop-k

@@ -3,7 +3,7 @@ use Rattle.scan_model.specs.Values.{are_opposite}
 use Rattle.scan_model.specs.Faults.{stuck_value}
 use Rattle.scan_model.specs.NetValue.{good_value}
 use Rattle.lane_rows.specs.Lanes.{lane}
-use Rattle.packed_sim.specs.Belongs.{captures}
+use Rattle.packed_sim.specs.PackedParts.{captures}
 use Rattle.packed_sim.proofs.FaultBits.{pattern_is, lane_inside, block_inside, and_when}
 use Rattle.packed_sim.proofs.good.PackedGood.stuck_word.Goals as goal
 

@@ -2,7 +2,7 @@ use Rattle.std.proofs.Common.{◌≡◌, ◌&&◌, ℕ, ◌+◌, ◌*◌, ◌/�
 use Rattle.std.proofs.lemmas.List.{get_or_read, length-set}
 use Rattle.scan_model.specs.Values.{are_opposite}
 use Rattle.scan_model.specs.ScanTest.{points_of}
-use Rattle.packed_sim.specs.Belongs.{captures, good_at, now_at, observed_at}
+use Rattle.packed_sim.specs.PackedParts.{captures, good_at, now_at, observed_at}
 use Rattle.packed_sim.proofs.Belonging.{observed_is, observed_len, observed_in_range}
 use Rattle.packed_sim.proofs.FaultBits.{words_more}
 use Rattle.packed_sim.proofs.good.PackedGood.write_differences.Goals as goal

@@ -1,7 +1,7 @@
 use Rattle.std.proofs.Common.{◌≡◌, ◌&&◌, ℕ, ◌+◌, ◌*◌, ◌/◌, ◌%◌, ◌<◌, length, get_or, eqb}
 use Rattle.std.specs.Int.{bit_at}
 use Rattle.scan_model.specs.Values.{are_opposite}
-use Rattle.packed_sim.specs.Belongs.{captures, good_at, now_at, observed_at}
+use Rattle.packed_sim.specs.PackedParts.{captures, good_at, now_at, observed_at}
 use Rattle.packed_sim.proofs.good.PackedGood.write_differences.Given as goal
 
 abbrev pub invariant-loop-k : goal.invariant-loop-k

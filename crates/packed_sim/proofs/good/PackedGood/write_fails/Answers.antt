@@ -1,6 +1,6 @@
 use Rattle.std.proofs.Common.{sym, subst}
 use Rattle.scan_model.specs.declared.fault.Fault.{Fault}
-use Rattle.packed_sim.specs.Belongs.{AreFails}
+use Rattle.packed_sim.specs.PackedParts.{AreFails}
 use Rattle.packed_sim.proofs.good.PackedGood.write_fails.Goals as goal
 
 pub returns-in-Stem-clause-fails : goal.returns-in-Stem-clause-fails

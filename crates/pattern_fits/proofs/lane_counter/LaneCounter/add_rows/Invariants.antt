@@ -1,5 +1,5 @@
 use Rattle.std.proofs.Common.{◌≡◌, ℕ, ◌+◌, ◌<◌, take}
-use Rattle.pattern_fits.specs.Sliced.{value, rows_with}
+use Rattle.pattern_fits.specs.LaneNumbers.{value, rows_with}
 use Rattle.pattern_fits.proofs.lane_counter.LaneCounter.add_rows.Given as goal
 
 abbrev pub invariant-loop-row : goal.invariant-loop-row

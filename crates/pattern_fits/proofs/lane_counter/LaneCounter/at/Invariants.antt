@@ -1,5 +1,5 @@
 use Rattle.std.proofs.Common.{◌≡◌, ◌-◌, drop}
-use Rattle.pattern_fits.specs.Sliced.{value}
+use Rattle.pattern_fits.specs.LaneNumbers.{value}
 use Rattle.pattern_fits.proofs.lane_counter.LaneCounter.at.Given as goal
 
 abbrev pub invariant-loop-k : goal.invariant-loop-k

@@ -2,7 +2,7 @@ use Rattle.std.proofs.Common.{rules, ◌≡◌, ◌<◌, ◌∷◌, length, sym,
 use Rattle.shared_desk.specs.declared.turns.SeatView.{SeatView}
 use Rattle.shared_desk.specs.Seats.{seat_facts}
 use Rattle.shared_desk.specs.Turns.{AllNoted, IsLast}
-use Rattle.shared_desk.specs.Starting.{IsFinished}
+use Rattle.shared_desk.specs.StartAndEnd.{IsFinished}
 use Rattle.shared_desk.proofs.Calling.{sits_of}
 use Rattle.shared_desk.proofs.Finishing.{first_removed, all_noted, finished}
 use Rattle.shared_desk.proofs.desk.Desk.finish.Goals as goal

@@ -5,7 +5,7 @@ use Rattle.log_rows.specs.declared.point_row.PointRow.{PointRow}
 use Rattle.log_rows.specs.PointRows.{no_point_row}
 use Rattle.fault_effects.specs.Tables.{put_row}
 use Rattle.match_counts.specs.Flips.{point_row_at}
-use Rattle.pattern_fits.specs.Sliced.{value, one}
+use Rattle.pattern_fits.specs.LaneNumbers.{value, one}
 use Rattle.slat_view.specs.Trials.{bad_in}
 use Rattle.slat_view.proofs.PlaceSums.{one_most}
 use Rattle.slat_view.proofs.Tables.{against_row, lanes_less, few_bad, down_there, bad_put}

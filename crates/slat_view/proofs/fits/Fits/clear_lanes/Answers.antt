@@ -3,7 +3,7 @@ use Rattle.std.proofs.lemmas.Result.{IfOk-weaker}
 use Rattle.lane_rows.specs.Lanes.{lane}
 use Rattle.fault_effects.specs.FaultModel.{Table, no_places}
 use Rattle.match_counts.specs.Tables.{HasTable}
-use Rattle.pattern_fits.specs.Sliced.{value, rows_with}
+use Rattle.pattern_fits.specs.LaneNumbers.{value, rows_with}
 use Rattle.slat_view.specs.Trials.{AreClear}
 use Rattle.slat_view.proofs.Tables.{few_bad, failing_less, passing_few, clear_shown}
 use Rattle.slat_view.proofs.fits.Fits.clear_lanes.Goals as goal

@@ -6,7 +6,7 @@ use Rattle.scan_model.specs.MatchCounts.{candidates}
 use Rattle.diagnosis.specs.Designs.{facts_of}
 use Rattle.pattern_fits.specs.declared.fit.Fit.{Fit}
 use Rattle.slat_view.specs.Slat.{fitting_places}
-use Rattle.slat_view.specs.Whole.{places_at, HavePlacesUpTo}
+use Rattle.slat_view.specs.WholeCounts.{places_at, HavePlacesUpTo}
 use Rattle.slat_view.proofs.FittingCandidates.{fitting_listed}
 use Rattle.slat_view.proofs.whole.WholeSlat.places.Goals as goal
 

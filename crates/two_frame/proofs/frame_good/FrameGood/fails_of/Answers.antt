@@ -3,7 +3,7 @@ use Rattle.scan_model.specs.declared.fault.Fault.{Fault}
 use Rattle.scan_model.specs.declared.fault.Fault.TheVariants as fault
 use Rattle.scan_model.specs.ScanTest.{HasSite}
 use Rattle.scan_model.specs.Coverage.{bit_of}
-use Rattle.packed_sim.specs.Belongs.{cone_gates}
+use Rattle.packed_sim.specs.PackedParts.{cone_gates}
 use Rattle.two_frame.specs.TwoFrame.{frame_fails, makes_transition}
 use Rattle.two_frame.specs.FrameRows.{transition_at}
 use Rattle.two_frame.proofs.TransitionPlaces.{transition_is, not_past, no_bridge, no_cell}

@@ -3,7 +3,7 @@ use Rattle.scan_model.specs.Masks.{flip_shows_from}
 use Rattle.lane_rows.specs.Lanes.{lane}
 use Rattle.lane_rows.specs.GoodRows.{pattern_of}
 use Rattle.lane_rows.specs.Stimuli.{captures}
-use Rattle.packed_sim.specs.Belongs.{observed_at}
+use Rattle.packed_sim.specs.PackedParts.{observed_at}
 use Rattle.frame_rows.specs.Frames.{second_source}
 use Rattle.frame_rows.specs.SecondRows.{second_stimuli}
 use Rattle.two_frame.proofs.Captures.{captured}

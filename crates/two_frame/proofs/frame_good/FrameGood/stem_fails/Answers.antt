@@ -1,7 +1,7 @@
 use Rattle.std.proofs.Common.{◌%◌, ◌==◌, Bool, ◌&&◌, refl, sym, ap, ◌∙◌, arith}
 use Rattle.std.proofs.lemmas.Bool.{eq-eqb}
 use Rattle.scan_model.specs.Masks.{flip_shows_from}
-use Rattle.packed_sim.specs.Belongs.{observed_at}
+use Rattle.packed_sim.specs.PackedParts.{observed_at}
 use Rattle.frame_rows.specs.Frames.{second_source}
 use Rattle.two_frame.proofs.ShownFails.{and_same, stem_fails-is}
 use Rattle.two_frame.proofs.frame_good.FrameGood.stem_fails.Goals as goal

@@ -3,7 +3,7 @@ use Rattle.std.proofs.lemmas.List.{length-set, length-map}
 use Rattle.scan_model.specs.Values.{are_opposite}
 use Rattle.scan_model.specs.ScanTest.{points_of}
 use Rattle.scan_model.specs.Suspect.{observed_net}
-use Rattle.packed_sim.specs.Belongs.{good_at, now_at, observed_at}
+use Rattle.packed_sim.specs.PackedParts.{good_at, now_at, observed_at}
 use Rattle.two_frame.proofs.BlockReads.{bits_more, net_read}
 use Rattle.two_frame.proofs.frame_good.FrameGood.write_differences.Goals as goal
 

@@ -1,6 +1,6 @@
 use Rattle.std.proofs.Common.{◌≡◌, ℕ, ◌/◌, ◌%◌, ◌<◌, false, length, get_or}
 use Rattle.scan_model.specs.Values.{are_opposite}
-use Rattle.packed_sim.specs.Belongs.{good_at, now_at, observed_at}
+use Rattle.packed_sim.specs.PackedParts.{good_at, now_at, observed_at}
 use Rattle.two_frame.proofs.frame_good.FrameGood.write_differences.Given as goal
 
 abbrev pub invariant-loop-k : goal.invariant-loop-k

@@ -1,7 +1,7 @@
 use Rattle.std.proofs.Common.{sym, subst}
 use Rattle.lane_rows.specs.Stimuli.{AreRowsOf}
 use Rattle.packed_sim.specs.declared.good.PackedGood.{PackedGood}
-use Rattle.packed_sim.specs.Belongs.{IsBuiltFor}
+use Rattle.packed_sim.specs.PackedParts.{IsBuiltFor}
 use Rattle.frame_rows.specs.SecondRows.{second_stimuli}
 use Rattle.two_frame.proofs.frame_observer.FrameCountsObserver.downstream.Goals as goal
 

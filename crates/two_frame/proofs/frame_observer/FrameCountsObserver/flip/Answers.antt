@@ -2,7 +2,7 @@ use Rattle.std.proofs.Common.{sym, subst}
 use Rattle.std.proofs.lemmas.Result.{on_ok_weaker}
 use Rattle.lane_rows.specs.Stimuli.{AreRowsOf}
 use Rattle.packed_sim.specs.declared.good.PackedGood.{PackedGood}
-use Rattle.packed_sim.specs.Belongs.{IsBuiltFor, IsScratchOf}
+use Rattle.packed_sim.specs.PackedParts.{IsBuiltFor, IsScratchOf}
 use Rattle.frame_rows.specs.SecondRows.{second_stimuli}
 use Rattle.two_frame.proofs.frame_observer.FrameCountsObserver.flip.Goals as goal
 

@@ -9,7 +9,7 @@ use Rattle.lane_rows.specs.Lanes.{lane}
 use Rattle.lane_rows.specs.GoodRows.{pattern_of, no_block}
 use Rattle.lane_rows.specs.Stimuli.{AreRowsOf}
 use Rattle.packed_sim.specs.declared.good.PackedGood.{PackedGood}
-use Rattle.packed_sim.specs.Belongs.{captures, block_at}
+use Rattle.packed_sim.specs.PackedParts.{captures, block_at}
 use Rattle.fault_effects.specs.FaultModel.{straight_in}
 use Rattle.match_counts.specs.Tables.{seen_in}
 use Rattle.match_counts.specs.SameTables.{count_same}

@@ -1,7 +1,7 @@
 use Rattle.std.proofs.Common.{◌≡◌, ◌+◌, ◌≤◌, ℕ, List, [], ◌∷◌, length, ap, ◌∙◌, subst, arith}
 use Rattle.scan_model.specs.Netlist.{Netlist, is_gate, net_numbers}
 use Rattle.scan_model.specs.Cone.{in_fan_in, fan_out}
-use Rattle.packed_sim.specs.Belongs.{gates_downstream}
+use Rattle.packed_sim.specs.PackedParts.{gates_downstream}
 use Rattle.worked_rows.proofs.Counted.{fewer_pass_both}
 use Rattle.worked_rows.proofs.tests.steps.stem_fails.Goals as goal
 

@@ -1,6 +1,6 @@
 use Rattle.std.proofs.Common.{rules, ◌≡◌, length, sym, subst}
 use Rattle.desk_heads.specs.Heads.{HasNoEndWithin}
-use Rattle.desk_heads.specs.Incoming.{IsUnended}
+use Rattle.desk_heads.specs.InboxReads.{IsUnended}
 use Rattle.desk_heads.proofs.SoughtSteps.{in_unended}
 use Rattle.desk_heads.proofs.incoming.inbox.Inbox.head.Goals as goal
 

@@ -4,7 +4,7 @@ use Rattle.scan_model.specs.Universe.{universe}
 use Rattle.fault_effects.specs.declared.suspect.Suspect.{Suspect}
 use Rattle.fault_effects.specs.Owners.{AreOwners, places_of, owner, suspect_at}
 use Rattle.slat_view.specs.Tests.{HaveAllFits}
-use Rattle.slat_view.proofs.prepared.Prepared.make.Goals as goal
+use Rattle.slat_view.proofs.die_suspects.DieSuspects.make.Goals as goal
 
 pub owners_of-requires-clause-few : goal.owners_of-requires-clause-few
 owners_of-requires-clause-few c = omega (arith, ap length c.as_slice-2.ensures, c.in_ok-suspects.ensures.few, ap length c.as_slice.ensures, c.in_ok-places.ensures.few, c.universe_len.ensures)

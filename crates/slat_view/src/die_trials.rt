@@ -5,12 +5,12 @@ ghost use Rattle.scan_model.specs.ScanTest.{points_of};
 ghost use Rattle.lane_rows.specs.Lanes.{lane};
 ghost use Rattle.log_join.specs.Joining.{StandsFor};
 ghost use Rattle.fault_effects.specs.Owners.{places_of};
-ghost use Rattle.slat_view.specs.Tests.{IsPrepared, IsTested, IsBlockOf};
+ghost use Rattle.slat_view.specs.Tests.{AreDieSuspects, AreTrials, IsBlockOf};
 ghost use Rattle.slat_view.specs.Trials.{any_failing, AreFits};
 
+use crate::die_suspects::DieSuspects;
 use crate::failing::{failing_counts, failing_lanes};
 use crate::fits::Fits;
-use crate::prepared::Prepared;
 use crate::shares::list_fits;
 use crate::whole_block::block_parts;
 use fault_effects::BlockWork;
@@ -24,10 +24,10 @@ use std::thread::Threads;
 
 /// A die with logs: the parts of its design with their fault-free responses, and what is made for its suspects.
 #[derive(Clone, Copy)]
-pub(crate) struct Tested<'a> {
+pub(crate) struct DieTrials<'a> {
     pub parts: &'a Parts,
     pub expected: &'a Expected,
-    pub die: &'a Prepared,
+    pub die: &'a DieSuspects,
 }
 
 /// The lanes of the failing patterns of a block, and what the suspects fit in it.
@@ -42,12 +42,12 @@ fn fits_by<'a, R: Threads>(
     rt: &R,
     alloc: Global,
     parts: &'a Parts,
-    die: &'a Prepared,
+    die: &'a DieSuspects,
     block: usize,
     rows: &'a [PointRow],
     failing: Row,
 ) -> Result<Rows<Fit>, NoMemory>
-    requires die { IsPrepared parts.now die.now }
+    requires die { AreDieSuspects parts.now die.now }
     requires block { block < length die.now.good.rows }
     requires rows { length rows.now ≡ length (points_of parts.now) }
     requires failing { (j : ℕ) → j < 512 → lane failing j ≡ any_failing rows.now j }
@@ -83,7 +83,7 @@ fn fits_by<'a, R: Threads>(
     list_fits(alloc, suspects, shares.as_slice())
 }
 
-impl Tested<'_> {
+impl DieTrials<'_> {
     /// Tries the suspects in a block of 512 patterns. Where no pattern is failing that costs the reading of the logs alone.
     pub(crate) fn block<R: Threads>(
         &self,
@@ -91,7 +91,7 @@ impl Tested<'_> {
         alloc: Global,
         block: u32,
     ) -> Result<BlockFits, NoMemory>
-        requires tested { IsTested self.now }
+        requires trials { AreTrials self.now }
         requires block { block < length self.now.die.now.good.rows }
         requires small { block < 2 ^ 16 }
         ensures { (logs : List LogFacts) → StandsFor logs self.now.die.now.joined → IfOk result (IsBlockOf self.now.parts.now logs block (places_of self.now.die.now.suspects)) }

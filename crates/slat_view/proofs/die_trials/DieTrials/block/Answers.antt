@@ -11,7 +11,7 @@ use Rattle.slat_view.specs.Tests.{fitting_among}
 use Rattle.pattern_fits.specs.FitPlaces.{places_in}
 use Rattle.slat_view.specs.Trials.{any_failing, fits_in}
 use Rattle.slat_view.proofs.Trying.{failing_lane, fits_there, same_chosen, none_fit}
-use Rattle.slat_view.proofs.tested.Tested.block.Goals as goal
+use Rattle.slat_view.proofs.die_trials.DieTrials.block.Goals as goal
 
 pub fits_by-requires-clause-failing : goal.fits_by-requires-clause-failing
 fits_by-requires-clause-failing g c = λ j lt. rw c.as_slice-rows.ensures (rw c.as_slice.ensures at c.failing_lanes-failing.ensures j lt)

@@ -19,7 +19,7 @@ use Rattle.pattern_fits.specs.declared.fit.Fit.{Fit}
 use Rattle.pattern_fits.specs.FitPlaces.{places_in}
 use Rattle.slat_view.specs.Trials.{fits_in, AreFits}
 use Rattle.slat_view.proofs.BlockFits.{group_there}
-use Rattle.slat_view.proofs.tested.fits_by.Goals as goal
+use Rattle.slat_view.proofs.die_trials.fits_by.Goals as goal
 
 pub block_parts-requires-clause-work : goal.block_parts-requires-clause-work
 block_parts-requires-clause-work g c =

@@ -5,7 +5,7 @@ ghost use Rattle.scan_model.specs.ScanTest.{points_of};
 ghost use Rattle.scan_model.specs.Response.{expected_rows};
 ghost use Rattle.log_join.specs.Joining.{StandsFor, IsJoinedOf};
 ghost use Rattle.fault_effects.specs.Owners.{places_of};
-ghost use Rattle.slat_view.specs.Tests.{IsPrepared, HaveAllFits};
+ghost use Rattle.slat_view.specs.Tests.{AreDieSuspects, HaveAllFits};
 
 use crate::narrowing::narrowed_places;
 use fault_effects::{Reads, Suspect, owned_nets, owners_of, reads_of, suspects_at};
@@ -18,7 +18,7 @@ use std::alloc::Global;
 
 /// The fault-free rows of a design, the logs of a die, joined, its suspects in groups by owner, and the nets that own one.
 #[derive(Drop)]
-pub(crate) struct Prepared {
+pub(crate) struct DieSuspects {
     pub good: PackedGood,
     pub joined: Joined,
     pub suspects: Rows<Suspect>,
@@ -27,17 +27,17 @@ pub(crate) struct Prepared {
     pub nets: Vec<u32>,
 }
 
-impl Prepared {
+impl DieSuspects {
     /// Makes it from the joined logs of a die.
     pub(crate) fn make(
         alloc: Global,
         parts: &Parts,
         expected: &Expected,
         joined: Joined,
-    ) -> Result<Prepared, NoMemory>
+    ) -> Result<DieSuspects, NoMemory>
         requires expected { expected.now ≡ expected_rows parts.now }
         requires joined { IsJoinedOf (length parts.now.patterns) (length (points_of parts.now)) joined }
-        ensures prepared { IfOk result (IsPrepared parts.now) }
+        ensures prepared { IfOk result (AreDieSuspects parts.now) }
         ensures joined { IfOk result (λ die. die.joined ≡ joined) }
         ensures fits { (logs : List LogFacts) → StandsFor logs joined → IfOk result (λ die. HaveAllFits parts.now logs (places_of die.suspects)) }
     {
@@ -48,7 +48,7 @@ impl Prepared {
         let owners = owners_of(alloc, parts, suspects.as_slice())?;
         let reads = reads_of(alloc, parts)?;
         let nets = owned_nets(alloc, parts, &reads, &owners)?;
-        Ok(Prepared {
+        Ok(DieSuspects {
             good,
             joined,
             suspects,
