@@ -60,12 +60,12 @@ fn add_block(
 }
 
 /// The counts of all patterns, with the fits of each block.
-pub(crate) fn whole_of<R: Threads>(
+pub(crate) fn whole_of<R: Threads + Sync>(
     rt: &R,
     alloc: Global,
     trials: &DieTrials<'_>,
 ) -> Result<WholeSlat, NoMemory>
-    requires { AreTrials trials.now }
+    requires trials { AreTrials trials.now }
     ensures whole { (logs : List LogFacts) → StandsFor logs trials.now.die.now.joined → HaveAllFits trials.now.parts.now logs (places_of trials.now.die.now.suspects) → IfOk result (IsWholeOf trials.now.parts.now logs) }
     ensures few { IfOk result (λ whole. kept_fits whole ≤ MOST_FITS) }
 {

@@ -38,7 +38,7 @@ pub(crate) struct BlockFits {
 }
 
 /// What the suspects fit in a block, by the rows of its points.
-fn fits_by<'a, R: Threads>(
+fn fits_by<'a, R: Threads + Sync>(
     rt: &R,
     alloc: Global,
     parts: &'a Parts,
@@ -85,7 +85,7 @@ fn fits_by<'a, R: Threads>(
 
 impl DieTrials<'_> {
     /// Tries the suspects in a block of 512 patterns. Where no pattern is failing that costs the reading of the logs alone.
-    pub(crate) fn block<R: Threads>(
+    pub(crate) fn block<R: Threads + Sync>(
         &self,
         rt: &R,
         alloc: Global,

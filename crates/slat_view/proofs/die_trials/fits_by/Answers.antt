@@ -22,7 +22,7 @@ use Rattle.slat_view.proofs.BlockFits.{group_there}
 use Rattle.slat_view.proofs.die_trials.fits_by.Goals as goal
 
 pub block_parts-requires-clause-work : goal.block_parts-requires-clause-work
-block_parts-requires-clause-work g c =
+block_parts-requires-clause-work g c κs within =
     let t = c.args.parts.now in
     let Ordered : Netlist → Type 0 = λ n. IsEvaluationOrder n c.order.result.now in
     let Owners : List Suspect → Type 0 = λ ss. AreOwners t ss c.args.die.now.owners in
@@ -40,7 +40,7 @@ block_parts-requires-clause-work g c =
     }
 
 pub block_parts-requires-clause-chains : goal.block_parts-requires-clause-chains
-block_parts-requires-clause-chains g c = record {
+block_parts-requires-clause-chains g c κs within = record {
   test = refl;
   good = refl;
   block = refl;

@@ -37,10 +37,10 @@ pub make-requires-clause-expected : goal.make-requires-clause-expected
 make-requires-clause-expected g c = c.expected-expected.ensures ∙ ap expected_rows (sym c.parts-parts.ensures.value)
 
 pub block-requires-clause-trials : goal.block-requires-clause-trials
-block-requires-clause-trials g c = record { expected = c.expected-expected.ensures ∙ ap expected_rows (sym c.parts-parts.ensures.value); die = c.in_ok-die.ensures.prepared }
+block-requires-clause-trials g c κs within = record { expected = c.expected-expected.ensures ∙ ap expected_rows (sym c.parts-parts.ensures.value); die = c.in_ok-die.ensures.prepared }
 
 pub block-requires-clause-block : goal.block-requires-clause-block
-block-requires-clause-block g c =
+block-requires-clause-block g c κs within =
     let v = c.args.view.now in
     let d = c.design-design.result.now in
     let t = c.parts-parts.result.now in

@@ -30,8 +30,8 @@ joined_of-requires g c =
 pub make-requires-clause-expected : goal.make-requires-clause-expected
 make-requires-clause-expected g c = c.expected-expected.ensures ∙ ap expected_rows (sym c.parts-parts.ensures.value)
 
-pub whole_of-requires : goal.whole_of-requires
-whole_of-requires g c = record { expected = c.expected-expected.ensures ∙ ap expected_rows (sym c.parts-parts.ensures.value); die = c.in_ok-die.ensures.prepared }
+pub whole_of-requires-clause-trials : goal.whole_of-requires-clause-trials
+whole_of-requires-clause-trials g c κs within = record { expected = c.expected-expected.ensures ∙ ap expected_rows (sym c.parts-parts.ensures.value); die = c.in_ok-die.ensures.prepared }
 
 pub returns-clause-whole : goal.returns-clause-whole
 returns-clause-whole g c =

@@ -14,7 +14,7 @@ use Rattle.slat_view.proofs.Trying.{failing_lane, fits_there, same_chosen, none_
 use Rattle.slat_view.proofs.die_trials.DieTrials.block.Goals as goal
 
 pub fits_by-requires-clause-failing : goal.fits_by-requires-clause-failing
-fits_by-requires-clause-failing g c = λ j lt. rw c.as_slice-rows.ensures (rw c.as_slice.ensures at c.failing_lanes-failing.ensures j lt)
+fits_by-requires-clause-failing g c κs within = λ j lt. rw c.as_slice-rows.ensures (rw c.as_slice.ensures at c.failing_lanes-failing.ensures j lt)
 
 pub returns-then-is_empty : goal.returns-then-is_empty
 returns-then-is_empty g c = λ logs stands.
