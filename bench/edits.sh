@@ -1,27 +1,28 @@
 #!/bin/sh
-# Tries wrong bodies: the edits edits/CRATE/*.edit and crates/CRATE/must-fail/*.edit, each of which the
-# prover must refuse.
+# Tries wrong bodies: the edits edits/CRATE/*.edit and crates/CRATE/must-fail/*.edit, each of which the prover must
+# refuse.
 #     bench/edits.sh [-j N] [CRATE..]
-# Without CRATE those of all crates. The repository is copied to a scratch folder, with the work that
-# `rt lib` or `rt check` kept of all that stands below the crates asked for, and nothing below is tried again.
-# Each edit is tried twice at most: first the functions that it changes are checked alone (`rt check --only`),
-# which takes seconds, and a function that isn't proved then is a crate that isn't. Where they are proved, or no
-# function is changed, the whole crate is tried by `rt must-fail`. At most N provers run at once, or RT_JOBS, or
-# one for each core, and never more than there are cores.
-# Each edit that isn't refused is named, also one that doesn't apply, compile or read; and each that is
-# refused only because a proof names what it took away, since that says little of a contract.
+# Without CRATE those of all crates. What stands below the crates asked for is built in a scratch folder by `rt ci`,
+# which proves nothing again that the kit kept. Each edit is tried by the functions that it changes, or that name the
+# constant that it changes, together with others of its crate that change other functions: the libraries below are
+# read once for all of them, and a function that isn't proved is a crate that isn't. Where its functions are proved,
+# or it changes none, the whole crate is checked. At most N provers run at once, or RT_JOBS, or one for each core, and
+# never more than there are cores.
+# Each edit that isn't refused is named, also one that doesn't apply, compile or read; and each that is refused only
+# because a proof names what it took away, since that says little of a contract.
 # The last line is `N refused, M let through`, and the status is 0 only where M is 0.
 top=$(CDPATH='' cd -- "$(dirname -- "$0")/.." && pwd) || exit 1
 scratch=$(mktemp -d "${TMPDIR:-/tmp}/scandesk-edits-XXXXXX") || exit 1
 trap 'rm -rf "$scratch"' EXIT
 trap 'exit 1' HUP INT TERM
 python3 - "$top" "$scratch" "$@" <<'PY'
-import argparse, os, re, shutil, subprocess, sys, time
-from concurrent.futures import FIRST_COMPLETED, ThreadPoolExecutor, wait
+import argparse, os, re, shutil, subprocess, sys, tempfile
+from concurrent.futures import ThreadPoolExecutor
 from pathlib import Path
 
 TOP, SCRATCH = Path(sys.argv[1]), Path(sys.argv[2])
 CORES = len(os.sched_getaffinity(0))
+KIT = Path(os.path.realpath(shutil.which('rt') or sys.exit('edits.sh: no rt'))).parent.parent
 
 
 def asked():
@@ -34,17 +35,15 @@ def asked():
 
 
 def crates():
-    """Each crate of crates.txt with those of the repository that it names."""
-    named = {}
-    for line in (TOP / 'crates.txt').read_text().splitlines():
-        name, _, words = line.partition('#')[0].partition(':')
-        if name.strip():
-            named[name.split()[0]] = words.split()
-    return {name: [word for word in words if word in named] for name, words in named.items()}
+    """Each crate of crates.txt with the libraries that it names."""
+    lines = (line.partition('#')[0].partition(':') for line in (TOP / 'crates.txt').read_text().splitlines())
+    return {name.split()[0]: words.split() for name, _, words in lines if name.strip()}
 
 
-def all_below(uses, name):
-    return {name}.union(*(all_below(uses, low) for low in uses[name]))
+def below(uses, name):
+    """The crates of the repository that stand below one."""
+    own = [word for word in uses[name] if word in uses]
+    return set(own).union(*(below(uses, low) for low in own))
 
 
 def edits_of(name):
@@ -57,32 +56,49 @@ def edits_of(name):
     return {edit.name: edit for edit in sorted(found)}
 
 
-def copy(uses, tried):
-    """The repository, with the kept work of what stands below the crates whose edits are tried."""
-    below = set().union(*(all_below(uses, name) - {name} for name in tried))
-    shutil.copytree(TOP, SCRATCH, dirs_exist_ok=True, symlinks=True, ignore=shutil.ignore_patterns('.git', 'out', 'edits', 'must-fail'))
-    for name in below:
-        kept = TOP / 'crates' / name / 'out'
-        if kept.is_dir():
-            subprocess.run(['cp', '-a', kept, SCRATCH / 'crates' / name], check=True)
-    return below
+def build(uses, names):
+    """The libraries of some crates, by the gate over these alone."""
+    for name in names:
+        shutil.copytree(TOP / 'crates' / name, SCRATCH / 'crates' / name, ignore=shutil.ignore_patterns('out', 'must-fail'))
+    shutil.copy(TOP / 'HANDLES', SCRATCH)
+    (SCRATCH / 'crates.txt').write_text(''.join(f'{name}: {" ".join(uses[name])}\n' for name in names))
+    if names and subprocess.run(['rt', 'ci'], cwd=SCRATCH, stdin=subprocess.DEVNULL, stdout=sys.stderr, check=False).returncode:
+        sys.exit('edits.sh: what stands below is not proved')
 
 
-def rt(folder, *words):
-    ran = subprocess.run(['rt', *words], cwd=folder, stdin=subprocess.DEVNULL, stdout=subprocess.PIPE, stderr=subprocess.STDOUT, text=True, errors='replace', check=False)
-    return ran.returncode, ran.stdout
+def libraries(uses, name):
+    """The flags by which the prover finds what a crate uses."""
+    built, kit = (lambda low: SCRATCH / 'crates' / low / 'out' / 'rlib'), KIT / 'rlibs'
+    flags = ['--extern', f'std={kit}/std.rlib']
+    for word in uses[name]:
+        flags += ['--extern', f'{word}={built(word) if word in uses else kit}/{word}.rlib']
+    for folder in [*map(built, sorted(below(uses, name))), kit]:
+        flags += ['-L', f'dependency={folder}']
+    return flags
 
 
-def build(name):
-    status, said = rt(SCRATCH / 'crates' / name, 'lib', '--jobs', '1')
-    if status:
-        print(f'{name}: not built, so nothing above it is tried:\n{said[-2000:]}', flush=True)
-    return 0, 0
+def check(uses, name, texts, functions):
+    """What the prover says of a crate with some texts changed: of some functions, or of the whole. None where it didn't come to a verdict, or refuses the text itself."""
+    with tempfile.TemporaryDirectory(dir=SCRATCH) as folder:
+        for part in ('src', 'specs', 'proofs'):
+            if (TOP / 'crates' / name / part).is_dir():
+                shutil.copytree(TOP / 'crates' / name / part, Path(folder, part))
+        for file, text in texts.items():
+            Path(folder, file).write_text(text)
+        ran = subprocess.run([KIT / 'bin' / 'rattle', 'check', '--crate-name', name, 'src/lib.rt', *libraries(uses, name), '--jobs', '1',
+                              '--antt-project', KIT / 'rattle' / 'logic' / 'antt-project.json', '--logic-built', KIT / 'logic_built',
+                              *(word for function in functions for word in ('--only', function))],
+                             cwd=folder, stdin=subprocess.DEVNULL, stdout=subprocess.PIPE, stderr=subprocess.STDOUT, text=True, errors='replace', check=False)
+    if ran.returncode not in (0, 1) or re.search(r'^(\./)?(src|specs)/\S+: error', ran.stdout, re.M):
+        return None
+    return ran.stdout
 
 
 FUNCTION = re.compile(r'( *)(?:pub(?:\([^)]*\))? )?(?:const )?fn (\w+)')
 OWNER = re.compile(r"impl(?:<.*?>)? (?:(?P<trait>\w+)(?:<.*?>)? for )?(?P<type>\w+)|(?:pub(?:\([^)]*\))? )?trait (?P<own>\w+)")
+CONSTANT = re.compile(r'(?:pub(?:\([^)]*\))? )?const (\w+):')
 NAMES_ALONE = re.compile(r'(note: )?(\./)?proofs/.*(has no field|is not in scope|has no `|was not admitted)')
+ONLY_NAMES = 'refused, but only because a proof names what it took away'
 
 
 def function_at(name, file, lines, at):
@@ -100,100 +116,105 @@ def function_at(name, file, lines, at):
     return '::'.join([*parts, function])
 
 
-def changes_of(name, edit):
-    """The files that an edit changes, with their new texts, and the functions that have the changed lines; None where it can't be applied."""
-    texts, functions, file, old = {}, [], None, ''
-    for line in edit.read_text().splitlines():
-        word, _, rest = line.partition(': ')
-        if word == 'file':
-            file = rest.strip()
-            texts[file] = (TOP / 'crates' / name / file).read_text()
-        elif word == 'old':
-            old = rest
-            if texts[file].count(old) != 1:
-                return None
-            before = texts[file].partition(old)[0].count('\n')
-            functions.append(function_at(name, file, texts[file].split('\n'), before))
-        elif word == 'new':
-            texts[file] = texts[file].replace(old, rest)
-    return texts, functions
+def users_of(name, lines, at):
+    """The functions of a crate that name the constant whose value has a line of a file."""
+    begins = next((n for n in range(at, -1, -1) if lines[n][:1] not in ('', ' ', ']', '}')), at)
+    constant = CONSTANT.match(lines[begins])
+    users = set()
+    for file in (TOP / 'crates' / name).glob('src/**/*.rt') if constant else []:
+        text = file.read_text().split('\n')
+        path = str(file.relative_to(TOP / 'crates' / name))
+        users |= {function_at(name, path, text, n) for n, line in enumerate(text) if re.search(rf'\b{constant[1]}\b', line)}
+    return users - {None}
 
 
-def try_alone(name, edit):
-    """Checks the functions that an edit changes, and says whether one isn't proved: for its meaning, or only since a proof names what was taken away. None: it doesn't show."""
-    changes = changes_of(name, edit)
-    if changes is None or None in changes[1]:
-        return None
-    folder = SCRATCH / 'crates' / name
-    kept = {file: (folder / file).read_text() for file in changes[0]}
-    try:
-        for file, text in changes[0].items():
-            (folder / file).write_text(text)
-        status, said = rt(folder, 'check', '--jobs', '1', *(word for function in changes[1] for word in ('--only', function)))
-    finally:
-        for file, text in kept.items():
-            (folder / file).write_text(text)
-    if status != 1 or not re.search(r'^fn .*: (not proved|no proof)', said, re.M) or re.search(r'^(\./)?(src|specs)/\S+: error', said, re.M):
-        return None
-    told = [line for line in said.split('\n') if re.match(r'(note: )?\S+:\d+:\d+:', line)]
-    told = [line for line in told if ': error' in line or line.startswith('note: ')] or told
-    return 'names' if told and all(NAMES_ALONE.match(line) for line in told) else 'meaning'
+class Change:
+    """The texts of a crate's files with an edit, on top of some that are changed already; the functions that have the lines that it changes; those that name what else it changes. `fits` is whether each of its lines is there once."""
+
+    def __init__(self, name, edit, texts=()):
+        self.texts, self.own, self.users, self.fits = dict(texts), set(), set(), True
+        file = old = ''
+        for line in edit.read_text().splitlines():
+            word, _, rest = line.partition(': ')
+            if word == 'file':
+                file = rest.strip()
+                self.texts.setdefault(file, (TOP / 'crates' / name / file).read_text())
+            elif word == 'old':
+                old = rest
+                self.fits = self.fits and self.texts[file].count(old) == 1
+                self.place(name, file, self.texts[file].partition(old)[0].count('\n'))
+            elif word == 'new':
+                self.texts[file] = self.texts[file].replace(old, rest)
+
+    def place(self, name, file, at):
+        if not file.startswith('src/'):
+            return
+        lines = self.texts[file].split('\n')
+        function = function_at(name, file, lines, at)
+        if function:
+            self.own.add(function)
+        else:
+            self.users |= users_of(name, lines, at)
+
+    def functions(self):
+        return self.own | self.users
 
 
-def try_whole(name, edits):
-    """Tries edits over the whole crate, and returns how many were let through."""
-    folder = SCRATCH / 'crates' / name / 'must-fail'
-    folder.mkdir()
-    for edit in edits.values():
-        shutil.copy(edit, folder)
-    _, said = rt(SCRATCH, 'must-fail', name)
-    passed = 0
-    for edit in edits:
-        label = re.escape(f'must-fail {name}/{edit}: ')
-        found = re.search(f'^rt: {label}(.*(?:\n(?!rt: ).*)*)', said, re.M)
-        what = found[1] if found else f'not tried: {said[-400:]}'
-        if not what.startswith('refused, as it must be'):
-            passed += 1
-            print(f'{name}/{edit}: {what}', flush=True)
-        elif 'says little of the contract' in what:
-            print(f'{name}/{edit}: {ONLY_NAMES}', flush=True)
-    return passed
-
-
-ONLY_NAMES = 'refused, but only because a proof names what it took away'
-
-
-def try_edits(name, edits):
-    """Tries the edits of a crate, and returns how many were refused and how many weren't."""
-    begun = time.monotonic()
-    left = {}
+def groups_of(name, edits):
+    """The edits that change functions alone, in groups in which no two change the same one: of each group the changed texts, and the functions by edit. An edit of something else has a group of its own."""
+    groups = []
     for edit, file in edits.items():
-        shown = try_alone(name, file)
-        if shown is None:
-            left[edit] = file
-        elif shown == 'names':
-            print(f'{name}/{edit}: {ONLY_NAMES}', flush=True)
-    passed = try_whole(name, left) if left else 0
-    print(f'{name}: {len(edits) - passed} refused, {passed} let through, {len(left)} of them tried over the whole crate, {time.monotonic() - begun:.0f} s', flush=True)
-    return len(edits) - passed, passed
+        alone = Change(name, file)
+        if not alone.fits or not alone.functions():
+            continue
+        for group in groups if not alone.users else []:
+            both = Change(name, file, group['texts'])
+            if group['open'] and both.fits and both.own == alone.own and not alone.own & set().union(*group['edits'].values()):
+                group['texts'], group['edits'][edit] = both.texts, alone.own
+                break
+        else:
+            groups.append({'texts': alone.texts, 'edits': {edit: alone.functions()}, 'open': not alone.users})
+    return groups
 
 
-def run(tasks, jobs):
-    """Runs tasks, each a call with the names of those that it waits for, so many at once, the longest first."""
-    left, running, done = dict(tasks), {}, {}
-    with ThreadPoolExecutor(jobs) as pool:
-        while left or running:
-            for key in [it for it in left if len(running) < jobs and all(low in done for low in left[it][0])]:
-                if len(running) < jobs:
-                    running[pool.submit(left.pop(key)[1])] = key
-            for it in wait(running, return_when=FIRST_COMPLETED).done:
-                done[running.pop(it)] = it.result()
-    return done.values()
+def why(functions, said):
+    """Why functions aren't proved, by the lines that name files of their proofs: for their meaning, or only since a proof names what was taken away."""
+    own = [f"/{function.rpartition('::')[2]}/" for function in functions]
+    told = [line for line in said.split('\n') if re.match(r'(note: )?\S+:\d+:\d+:', line) and any(part in line for part in own)]
+    told = [line for line in told if ': error' in line or line.startswith('note: ')] or told
+    return ONLY_NAMES if told and all(NAMES_ALONE.match(line) for line in told) else 'refused'
 
 
-def lines_of(name):
-    files = [*(TOP / 'crates' / name).glob('src/**/*.rt'), *(TOP / 'crates' / name).glob('[sp][pr]*/**/*.antt')]
-    return sum(file.read_bytes().count(b'\n') for file in files)
+def try_group(uses, name, texts, edits):
+    """Of each edit whose function isn't proved it says why. The others don't show."""
+    functions = sorted(set().union(*edits.values()))
+    said = check(uses, name, texts, functions)
+    if said is None and len(edits) > 1:
+        each = [try_group(uses, name, Change(name, edits_of(name)[edit]).texts, {edit: changed}) for edit, changed in edits.items()]
+        return {edit: reason for shown in each for edit, reason in shown.items()}
+    refused = [f'::{path}' for path in re.findall(r'^fn (\S+): (?:not proved|no proof)', said or '', re.M)]
+    return {edit: why(changed, said) for edit, changed in edits.items() if any(path.endswith(f'::{function}') for path in refused for function in changed)}
+
+
+def try_whole(uses, name, edit):
+    """What the whole crate says of an edit."""
+    change = Change(name, edits_of(name)[edit])
+    if not change.fits:
+        return 'can\'t be applied'
+    said = check(uses, name, change.texts, [])
+    if said is None:
+        return 'doesn\'t compile or read'
+    return 'refused' if re.search(r'^logic=not-proved', said, re.M) else 'let through'
+
+
+def tell(name, shown):
+    """Prints what became of the edits of a crate, and gives how many were let through."""
+    passed = [edit for edit, reason in shown.items() if not reason.startswith('refused')]
+    for edit, reason in sorted(shown.items()):
+        if reason != 'refused':
+            print(f'{name}/{edit}: {reason}')
+    print(f'{name}: {len(shown) - len(passed)} refused, {len(passed)} let through', flush=True)
+    return len(passed)
 
 
 def main():
@@ -204,13 +225,20 @@ def main():
     if unknown:
         sys.exit(f'edits.sh: no such crate: {" ".join(unknown)}')
     tried = {name: edits for name in wanted or uses if (edits := edits_of(name))}
-    below = copy(uses, tried)
-    tasks = {name: (uses[name], lambda name=name: build(name)) for name in below}
-    for name in sorted(tried, key=lines_of, reverse=True):
-        tasks[name, 'edits'] = uses[name], lambda name=name: try_edits(name, tried[name])
-    ended = [*run(tasks, jobs)]
-    refused, passed = (sum(column) for column in zip(*ended))
-    print(f'{refused} refused, {passed} let through')
+    build(uses, sorted(set().union(*(below(uses, name) for name in tried))))
+    passed, left = 0, {}
+    with ThreadPoolExecutor(jobs) as pool:
+        groups = {name: [pool.submit(try_group, uses, name, group['texts'], group['edits']) for group in groups_of(name, edits)] for name, edits in tried.items()}
+        for name, edits in tried.items():
+            shown = {edit: reason for group in groups[name] for edit, reason in group.result().items()}
+            whole = {edit: pool.submit(try_whole, uses, name, edit) for edit in edits if edit not in shown}
+            if whole:
+                left[name] = shown, whole
+            else:
+                passed += tell(name, shown)
+        for name, (shown, whole) in left.items():
+            passed += tell(name, shown | {edit: it.result() for edit, it in whole.items()})
+    print(f'{sum(map(len, tried.values())) - passed} refused, {passed} let through')
     return 1 if passed else 0
 
 
