@@ -5,7 +5,6 @@ pub mod GateFolds
 pub mod GatesInOrder
 pub mod Assigning
 pub mod WordAssigning
-pub mod Packing
 pub mod GoodValues
 pub mod GoodBlocks
 pub mod RowsOfTest

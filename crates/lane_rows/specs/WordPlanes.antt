@@ -15,10 +15,6 @@ word_planes ones zeros = record { ones = ones; zeros = zeros }
 abbrev pub AreWordsApart : ℕ → ℕ → Type 0
 AreWordsApart ones zeros = (j : ℕ) → j < 64 → ((bit_at ones j == 1) && (bit_at zeros j == 1)) ≡ false
 
--- no lane of 16 is both 1 and 0
-abbrev pub AreQuartersApart : ℕ → ℕ → Type 0
-AreQuartersApart ones zeros = (j : ℕ) → j < 16 → ((bit_at ones j == 1) && (bit_at zeros j == 1)) ≡ false
-
 -- the value of lane j
 abbrev pub held_in : WordPlanes → ℕ → Tri
 held_in p j = value_of_bits (bit_at p.ones j == 1) (bit_at p.zeros j == 1)

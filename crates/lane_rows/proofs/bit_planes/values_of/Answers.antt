@@ -1,6 +1,6 @@
 use Rattle.std.proofs.Common.{◌<◌, [], length, ◌∙◌, arith}
 use Rattle.std.proofs.lemmas.List.{get_or_default}
-use Rattle.lane_rows.proofs.sources.values_of.Goals as goal
+use Rattle.lane_rows.proofs.bit_planes.values_of.Goals as goal
 
 pub offset_bounds-as_slice-chain : goal.offset_bounds-as_slice-chain
 offset_bounds-as_slice-chain c =
