@@ -1,5 +1,5 @@
 //! The lines of reports, each from its words.
-ghost use Rattle.std.specs.Prelude.{◌≡◌, ◌++◌, ◌∷◌, [], ◌<◌, decimal, OnOk};
+ghost use Rattle.std.specs.Prelude.{◌≡◌, ◌+◌, ◌++◌, ◌∷◌, [], ◌<◌, ◌≤◌, length, drop, decimal, OnOk};
 ghost use Rattle.scan_model.specs.ReportText as text_of;
 ghost use Rattle.diag_report.specs.LineEnds.{AddsLines};
 ghost use Rattle.diag_report.specs.Layout.{score_words};
@@ -7,8 +7,12 @@ ghost use Rattle.diag_report.specs.Layout.{score_words};
 use crate::draft::{Draft, end_line};
 use crate::names::ReportNames;
 use fault_universe::{push_number, push_word};
-use itoa::Buffer;
+use itoa::write_digits;
 use scan_model::{Bit, Name, NoMemory, Scored};
+
+/// The most bytes that a candidate's words take up to its fault: those of five labels, and of five numbers of up to twenty
+/// digits.
+const SCORES_LEN: usize = 135;
 
 /// Adds a line of a word and a name.
 pub(crate) fn name_line(draft: &mut Draft, word: &[u8], name: &[u8]) -> Result<(), NoMemory>
@@ -44,24 +48,32 @@ pub(crate) fn bit_line<N: ReportNames>(
     end_line(draft)
 }
 
-/// Adds a label, which has its spaces with it, and a number in decimal digits.
-fn push_labelled(line: &mut Name, label: &[u8], number: u64) -> Result<(), NoMemory>
-    ensures { OnOk result (line.new ≡ line.old ++ label.now ++ decimal number) }
+/// Writes a label, which has its spaces with it, and a number in decimal digits so that they end at a place, and returns
+/// where they begin.
+#[inline(always)]
+fn write_labelled(words: &mut [u8], end: usize, label: &[u8], number: u64) -> usize
+    requires room { length label.now + 20 ≤ end }
+    requires inside { end ≤ length words.old }
+    ensures short { end ≤ result + (length label.now + 20) }
+    ensures written { drop result words.new ≡ label.now ++ (decimal number ++ drop end words.old) }
 {
-    line.append(label)?;
-    let mut digits = Buffer::new();
-    line.append(digits.format(number).as_bytes())
+    let digits = write_digits(number, words, end);
+    let start = digits - label.len();
+    words[start..digits].copy_from_slice(label);
+    start
 }
 
 /// Adds the words of a candidate, up to its fault.
 fn push_scores(line: &mut Name, rank: u64, row: &Scored) -> Result<(), NoMemory>
     ensures { OnOk result (line.new ≡ line.old ++ text_of.spaced (score_words rank row.now)) }
 {
-    push_labelled(line, b"candidate ", rank)?;
-    push_labelled(line, b" fault ", u64::from(row.place))?;
-    push_labelled(line, b" tfsf ", row.counts.tfsf)?;
-    push_labelled(line, b" tfsp ", row.counts.tfsp)?;
-    push_labelled(line, b" tpsf ", row.counts.tpsf)
+    let mut words = [0; SCORES_LEN];
+    let tpsf = write_labelled(&mut words, SCORES_LEN, b" tpsf ", row.counts.tpsf);
+    let tfsp = write_labelled(&mut words, tpsf, b" tfsp ", row.counts.tfsp);
+    let tfsf = write_labelled(&mut words, tfsp, b" tfsf ", row.counts.tfsf);
+    let place = write_labelled(&mut words, tfsf, b" fault ", u64::from(row.place));
+    let start = write_labelled(&mut words, place, b"candidate ", rank);
+    line.append(&words[start..])
 }
 
 /// Adds the line of a candidate of a rank.
