@@ -48,32 +48,34 @@ pub(crate) fn bit_line<N: ReportNames>(
     end_line(draft)
 }
 
-/// Writes a label, which has its spaces with it, and a number in decimal digits so that they end at a place, and returns
-/// where they begin.
-#[inline(always)]
-fn write_labelled(words: &mut [u8], end: usize, label: &[u8], number: u64) -> usize
-    requires room { length label.now + 20 ≤ end }
+/// Writes a word so that it ends at a place, and returns where it begins.
+fn write_word(words: &mut [u8], end: usize, word: &[u8]) -> usize
+    requires room { length word.now ≤ end }
     requires inside { end ≤ length words.old }
-    ensures short { end ≤ result + (length label.now + 20) }
-    ensures written { drop result words.new ≡ label.now ++ (decimal number ++ drop end words.old) }
+    ensures start { result + length word.now ≡ end }
+    ensures written { drop result words.new ≡ word.now ++ drop end words.old }
 {
-    let digits = write_digits(number, words, end);
-    let start = digits - label.len();
-    words[start..digits].copy_from_slice(label);
+    let start = end - word.len();
+    words[start..end].copy_from_slice(word);
     start
 }
 
-/// Adds the words of a candidate, up to its fault.
+/// Adds the words of a candidate, up to its fault. They are put together from the last to the first.
 fn push_scores(line: &mut Name, rank: u64, row: &Scored) -> Result<(), NoMemory>
     ensures { OnOk result (line.new ≡ line.old ++ text_of.spaced (score_words rank row.now)) }
 {
     let mut words = [0; SCORES_LEN];
-    let tpsf = write_labelled(&mut words, SCORES_LEN, b" tpsf ", row.counts.tpsf);
-    let tfsp = write_labelled(&mut words, tpsf, b" tfsp ", row.counts.tfsp);
-    let tfsf = write_labelled(&mut words, tfsp, b" tfsf ", row.counts.tfsf);
-    let place = write_labelled(&mut words, tfsf, b" fault ", u64::from(row.place));
-    let start = write_labelled(&mut words, place, b"candidate ", rank);
-    line.append(&words[start..])
+    let at = write_digits(row.counts.tpsf, &mut words, SCORES_LEN);
+    let at = write_word(&mut words, at, b" tpsf ");
+    let at = write_digits(row.counts.tfsp, &mut words, at);
+    let at = write_word(&mut words, at, b" tfsp ");
+    let at = write_digits(row.counts.tfsf, &mut words, at);
+    let at = write_word(&mut words, at, b" tfsf ");
+    let at = write_digits(u64::from(row.place), &mut words, at);
+    let at = write_word(&mut words, at, b" fault ");
+    let at = write_digits(rank, &mut words, at);
+    let at = write_word(&mut words, at, b"candidate ");
+    line.append(&words[at..])
 }
 
 /// Adds the line of a candidate of a rank.
