@@ -1,4 +1,4 @@
-use Rattle.std.proofs.Common.{rules, ◌≡◌, ℕ, ◌≤◌, List, ◌++◌, length, arith, ap, append-nil, ◌∙◌}
+use Rattle.std.proofs.Common.{rules, ℕ, List, ◌++◌, arith, ap, append-nil, ◌∙◌}
 use Rattle.std.specs.Prelude.{decimal}
 use Rattle.std.proofs.lemmas.Fmt.{length-decimal-le}
 use Rattle.std.proofs.lemmas.Result.{on_ok_weaker}
