@@ -44,31 +44,6 @@ added_line old new l text ends = record {
       };
 }
 
--- a label and a number behind a text, and more of both
-labelled : (old new a n : List ℕ) → new ≡ old ++ a ++ n → new ≡ old ++ (a ++ n)
-labelled old new a n is = is ∙ append_assoc old a n
-
-labelled_more : (old mid new a n : List ℕ) (rest : List ℕ) → mid ≡ old ++ rest → new ≡ mid ++ a ++ n → new ≡ old ++ (rest ++ (a ++ n))
-labelled_more old mid new a n rest is then = labelled mid new a n then ∙ ap (λ (bs : List ℕ). bs ++ (a ++ n)) is ∙ append_assoc old rest (a ++ n)
-
-flat : (a m b n c o d p e q : List ℕ) → a ++ m ++ (b ++ n) ++ (c ++ o) ++ (d ++ p) ++ (e ++ q) ≡ a ++ (m ++ (b ++ (n ++ (c ++ (o ++ (d ++ (p ++ (e ++ q))))))))
-flat a m b n c o d p e q =
-    append_assoc (a ++ m ++ (b ++ n) ++ (c ++ o)) (d ++ p) (e ++ q)
-    ∙ append_assoc (a ++ m ++ (b ++ n)) (c ++ o) (d ++ p ++ (e ++ q))
-    ∙ append_assoc (a ++ m) (b ++ n) (c ++ o ++ (d ++ p ++ (e ++ q)))
-    ∙ append_assoc a m (b ++ n ++ (c ++ o ++ (d ++ p ++ (e ++ q))))
-    ∙ ap (λ (bs : List ℕ). a ++ (m ++ bs)) (append_assoc b n (c ++ o ++ (d ++ p ++ (e ++ q)))
-    ∙ ap (λ (bs : List ℕ). b ++ (n ++ bs)) (append_assoc c o (d ++ p ++ (e ++ q)) ∙ ap (λ (bs : List ℕ). c ++ (o ++ bs)) (append_assoc d p (e ++ q))))
-
--- five labels with their numbers
-pub scores_put : {T E : Type 0} (r : Result T E) (l0 l1 l2 l3 l4 l5 a b c d e m n o p q : List ℕ) → l1 ≡ l0 ++ a ++ m → l2 ≡ l1 ++ b ++ n → l3 ≡ l2 ++ c ++ o → l4 ≡ l3 ++ d ++ p → OnOk r (l5 ≡ l4 ++ e ++ q)
-    → OnOk r (l5 ≡ l0 ++ (a ++ (m ++ (b ++ (n ++ (c ++ (o ++ (d ++ (p ++ (e ++ q))))))))))
-scores_put (Ok x) l0 l1 l2 l3 l4 l5 a b c d e m n o p q one two three four five =
-    let all = labelled_more l0 l4 l5 e q (a ++ m ++ (b ++ n) ++ (c ++ o) ++ (d ++ p))
-    (labelled_more l0 l3 l4 d p (a ++ m ++ (b ++ n) ++ (c ++ o)) (labelled_more l0 l2 l3 c o (a ++ m ++ (b ++ n)) (labelled_more l0 l1 l2 b n (a ++ m) (labelled l0 l1 a m one) two) three) four) five in
-    all ∙ ap (λ (bs : List ℕ). l0 ++ bs) (flat a m b n c o d p e q)
-scores_put (Err x) l0 l1 l2 l3 l4 l5 a b c d e m n o p q one two three four five = tt
-
 -- a line whose words are written, and that is ended
 pub line_ended : {T E : Type 0} (r : Result T E) (old new : Draft) (text words : List ℕ) → text ≡ old.text ++ words → OnOk r (new.text ≡ text ++ 10 ∷ []) → OnOk r (new.ends ≡ old.ends ++ length new.text ∷ [])
     → OnOk r (AddsLines ((words ++ 10 ∷ []) ∷ []) old new)

@@ -1,5 +1,5 @@
 //! The lines of reports, each from its words.
-ghost use Rattle.std.specs.Prelude.{◌≡◌, ◌++◌, ◌∷◌, [], ◌<◌, decimal, OnOk};
+ghost use Rattle.std.specs.Prelude.{◌≡◌, ◌+◌, ◌++◌, ◌∷◌, [], ◌<◌, ◌≤◌, length, drop, decimal, OnOk};
 ghost use Rattle.scan_model.specs.ReportText as text_of;
 ghost use Rattle.diag_report.specs.LineEnds.{AddsLines};
 ghost use Rattle.diag_report.specs.Layout.{score_words};
@@ -7,8 +7,12 @@ ghost use Rattle.diag_report.specs.Layout.{score_words};
 use crate::draft::{Draft, end_line};
 use crate::names::ReportNames;
 use fault_universe::{push_number, push_word};
-use itoa::Buffer;
+use itoa::write_digits;
 use scan_model::{Bit, Name, NoMemory, Scored};
+
+/// The most bytes that a candidate's words take up to its fault: those of five labels, and of five numbers of up to twenty
+/// digits.
+const SCORES_LEN: usize = 135;
 
 /// Adds a line of a word and a name.
 pub(crate) fn name_line(draft: &mut Draft, word: &[u8], name: &[u8]) -> Result<(), NoMemory>
@@ -44,24 +48,34 @@ pub(crate) fn bit_line<N: ReportNames>(
     end_line(draft)
 }
 
-/// Adds a label, which has its spaces with it, and a number in decimal digits.
-fn push_labelled(line: &mut Name, label: &[u8], number: u64) -> Result<(), NoMemory>
-    ensures { OnOk result (line.new ≡ line.old ++ label.now ++ decimal number) }
+/// Writes a word so that it ends at a place, and returns where it begins.
+fn write_word(words: &mut [u8], end: usize, word: &[u8]) -> usize
+    requires room { length word.now ≤ end }
+    requires inside { end ≤ length words.old }
+    ensures start { result + length word.now ≡ end }
+    ensures written { drop result words.new ≡ word.now ++ drop end words.old }
 {
-    line.append(label)?;
-    let mut digits = Buffer::new();
-    line.append(digits.format(number).as_bytes())
+    let start = end - word.len();
+    words[start..end].copy_from_slice(word);
+    start
 }
 
-/// Adds the words of a candidate, up to its fault.
+/// Adds the words of a candidate, up to its fault. They are put together from the last to the first.
 fn push_scores(line: &mut Name, rank: u64, row: &Scored) -> Result<(), NoMemory>
     ensures { OnOk result (line.new ≡ line.old ++ text_of.spaced (score_words rank row.now)) }
 {
-    push_labelled(line, b"candidate ", rank)?;
-    push_labelled(line, b" fault ", u64::from(row.place))?;
-    push_labelled(line, b" tfsf ", row.counts.tfsf)?;
-    push_labelled(line, b" tfsp ", row.counts.tfsp)?;
-    push_labelled(line, b" tpsf ", row.counts.tpsf)
+    let mut words = [0; SCORES_LEN];
+    let at = write_digits(row.counts.tpsf, &mut words, SCORES_LEN);
+    let at = write_word(&mut words, at, b" tpsf ");
+    let at = write_digits(row.counts.tfsp, &mut words, at);
+    let at = write_word(&mut words, at, b" tfsp ");
+    let at = write_digits(row.counts.tfsf, &mut words, at);
+    let at = write_word(&mut words, at, b" tfsf ");
+    let at = write_digits(u64::from(row.place), &mut words, at);
+    let at = write_word(&mut words, at, b" fault ");
+    let at = write_digits(rank, &mut words, at);
+    let at = write_word(&mut words, at, b"candidate ");
+    line.append(&words[at..])
 }
 
 /// Adds the line of a candidate of a rank.

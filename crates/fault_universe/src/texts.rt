@@ -1,6 +1,6 @@
 //! The text of a fault in a report.
 
-ghost use Rattle.std.specs.Prelude.{◌≡◌, ◌++◌, ◌<◌, length, IfOk, OnOk};
+ghost use Rattle.std.specs.Prelude.{◌≡◌, ◌++◌, ◌∷◌, ◌<◌, length, IfOk, OnOk};
 ghost use Rattle.fault_universe.specs.LineWords.{IsPlaceOf, after_spaces};
 ghost use Rattle.scan_model.specs.declared.fault.Fault.TheVariants as fault;
 ghost use Rattle.scan_model.specs.ScanTest.{HasSite};
@@ -10,12 +10,13 @@ use crate::words::{chain_name, net_name, push_number, push_word};
 use scan_model::{BridgeKind, CellKind, Fault, Name, NoMemory, Parts, PinPlace, Rows, Stuck};
 use std::alloc::Global;
 
-fn stuck_word(value: Stuck) -> &'static str
-    ensures { result.now ≡ text_of.stuck_word value }
+/// The word of a value that a net is stuck at, behind a space.
+fn stuck_ending(value: Stuck) -> &'static [u8]
+    ensures { result.now ≡ 32 ∷ text_of.stuck_word value }
 {
     match value {
-        Stuck::Zero => "sa0",
-        Stuck::One => "sa1",
+        Stuck::Zero => b" sa0",
+        Stuck::One => b" sa1",
     }
 }
 
@@ -47,8 +48,8 @@ pub fn push_stem_site(line: &mut Name, parts: &Parts, net: u32) -> Result<(), No
     requires { net < length parts.now.netlist.nets }
     ensures { OnOk result (line.new ≡ line.old ++ text_of.spaced (text_of.stem_site parts.now net)) }
 {
-    line.append(b"stem")?;
-    push_word(line, net_name(parts, net))
+    line.append(b"stem ")?;
+    line.append(net_name(parts, net))
 }
 
 fn push_stem(line: &mut Name, parts: &Parts, net: u32, value: Stuck) -> Result<(), NoMemory>
@@ -56,7 +57,7 @@ fn push_stem(line: &mut Name, parts: &Parts, net: u32, value: Stuck) -> Result<(
     ensures { OnOk result (line.new ≡ line.old ++ text_of.fault_text parts.now (fault.Stem net value)) }
 {
     push_stem_site(line, parts, net)?;
-    push_word(line, stuck_word(value).as_bytes())
+    line.append(stuck_ending(value))
 }
 
 /// Adds where the branch at a pin leads.
@@ -66,11 +67,11 @@ fn push_branch_end(line: &mut Name, parts: &Parts, place: PinPlace) -> Result<()
 {
     match place {
         PinPlace::Operand { net, index } => {
-            push_word(line, b"to")?;
-            push_word(line, net_name(parts, net))?;
+            line.append(b" to ")?;
+            line.append(net_name(parts, net))?;
             push_number(line, u64::from(index) + 1)
         }
-        PinPlace::Output { .. } => push_word(line, b"to-output"),
+        PinPlace::Output { .. } => line.append(b" to-output"),
     }
 }
 
@@ -80,8 +81,8 @@ pub fn push_branch_site(line: &mut Name, parts: &Parts, pin: u32) -> Result<(), 
     ensures { OnOk result (line.new ≡ line.old ++ text_of.spaced (text_of.branch_site parts.now pin)) }
 {
     let branch = parts.circuit().pins().as_slice()[pin as usize];
-    line.append(b"branch")?;
-    push_word(line, net_name(parts, branch.net))?;
+    line.append(b"branch ")?;
+    line.append(net_name(parts, branch.net))?;
     push_branch_end(line, parts, branch.place)
 }
 
@@ -90,7 +91,7 @@ fn push_branch(line: &mut Name, parts: &Parts, pin: u32, value: Stuck) -> Result
     ensures { OnOk result (line.new ≡ line.old ++ text_of.fault_text parts.now (fault.Branch pin value)) }
 {
     push_branch_site(line, parts, pin)?;
-    push_word(line, stuck_word(value).as_bytes())
+    line.append(stuck_ending(value))
 }
 
 fn push_bridge(

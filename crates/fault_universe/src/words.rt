@@ -3,8 +3,11 @@
 ghost use Rattle.std.specs.Prelude.{◌≡◌, ◌++◌, ◌∷◌, ◌<◌, length, decimal, OnOk};
 ghost use Rattle.scan_model.specs.ScanTest.{name_of, chain_at};
 
-use itoa::Buffer;
+use itoa::write_digits;
 use scan_model::{Name, NoMemory, Parts};
+
+/// The most bytes that a number takes with a space before it.
+const WORD_LEN: usize = 21;
 
 /// The name of a net.
 pub fn net_name(parts: &Parts, net: u32) -> &[u8]
@@ -36,7 +39,7 @@ pub fn push_word(line: &mut Name, word: &[u8]) -> Result<(), NoMemory>
 pub fn push_number(line: &mut Name, number: u64) -> Result<(), NoMemory>
     ensures { OnOk result (line.new ≡ line.old ++ 32 ∷ decimal number) }
 {
-    let mut buffer = Buffer::new();
-    let digits = buffer.format(number);
-    push_word(line, digits.as_bytes())
+    let mut word = [b' '; WORD_LEN];
+    let digits = write_digits(number, &mut word, WORD_LEN);
+    line.append(&word[digits - 1..])
 }

@@ -1,4 +1,4 @@
-use Rattle.std.proofs.Common.{rules, ◌≡◌, ◌∷◌, ◌∙◌}
+use Rattle.std.proofs.Common.{◌∷◌, ◌∙◌}
 use Rattle.std.specs.Prelude.{codes}
 use Rattle.std.proofs.lemmas.Result.{on_ok_weaker}
 use Rattle.scan_model.specs.Netlist.{pin_at}
@@ -11,7 +11,6 @@ pub returns : goal.returns
 returns c =
     let t = c.args.parts.now in
     let pin = pin_at t.netlist c.args.pin in
-    let word : c.as_bytes.result.now ≡ stuck_word c.args.value = search rules in
-    on_ok_weaker c.push_word.result
-    (λ done. done ∙ rw (c.in_ok-push_branch_site.ensures, word) (word_more c.args.line.now (codes "branch") (name_of t pin.net ∷ branch_words t pin.place) (stuck_word c.args.value)))
-    c.push_word.ensures
+    on_ok_weaker c.append.result
+    (λ done. done ∙ rw (c.in_ok-push_branch_site.ensures, c.stuck_ending.ensures) (word_more c.args.line.now (codes "branch") (name_of t pin.net ∷ branch_words t pin.place) (stuck_word c.args.value)))
+    c.append.ensures.ok

@@ -1,4 +1,4 @@
-use Rattle.std.proofs.Common.{◌≡◌, ◌∷◌, ◌++◌, get_or, ap, ◌∙◌}
+use Rattle.std.proofs.Common.{◌≡◌, ◌∷◌, ◌++◌, get_or, ap, sym, append_assoc, ◌∙◌}
 use Rattle.std.specs.Prelude.{codes}
 use Rattle.std.proofs.lemmas.List.{get_or_default}
 use Rattle.std.proofs.lemmas.Result.{on_ok_weaker}
@@ -16,10 +16,12 @@ returns c =
     let line = c.args.line.now in
     let past : Pin = record { net = 0; place = Operand 0 0 } in
     let pin : Pin = get_or t.netlist.pins c.args.pin past in
+    let name = name_of t pin.net in
+    let named : (line ++ codes "branch ") ++ name ≡ (line ++ codes "branch") ++ 32 ∷ name = append_assoc line (codes "branch ") name ∙ sym (append_assoc line (codes "branch") (32 ∷ name)) in
     let there : pin ≡ pin_at t.netlist c.args.pin = get_or_default t.netlist.pins c.args.pin past no_pin c.requires in
     on_ok_weaker c.push_branch_end.result
     (λ done.
     done
-    ∙ rw (c.in_ok-push_word.ensures, c.in_ok-append.ensures.ok, c.net_name.ensures, c.as_slice.ensures, c.pins.ensures.value, c.circuit.ensures.value)
-    (words_are line (codes "branch") (name_of t pin.net) (branch_words t pin.place) ∙ ap (λ (p : Pin). line ++ spaced (codes "branch" ∷ name_of t p.net ∷ branch_words t p.place)) there))
+    ∙ rw (c.in_ok-append-2.ensures.ok, c.in_ok-append.ensures.ok, c.net_name.ensures, c.as_slice.ensures, c.pins.ensures.value, c.circuit.ensures.value, named)
+    (words_are line (codes "branch") name (branch_words t pin.place) ∙ ap (λ (p : Pin). line ++ spaced (codes "branch" ∷ name_of t p.net ∷ branch_words t p.place)) there))
     c.push_branch_end.ensures
