@@ -1,4 +1,5 @@
 pub mod Names
+pub mod Strays
 pub mod Operands
 pub mod FirstRules
 pub mod FirstRound

@@ -1,5 +1,6 @@
 -- Tokens without where they lie in memory.
-use Rattle.std.specs.Prelude.{List, map}
+use Rattle.std.specs.Prelude.{Bool, true, false, List, map}
+use Rattle.std.specs.List.{list_any}
 use Rattle.scan_model.specs.NetlistLines as model
 use Rattle.bench_reader.specs.declared.token.Token.{Token}
 use Rattle.bench_reader.specs.declared.token.Token.TheVariants.{Name, Open, Close, Comma, Equals, Stray}
@@ -14,3 +15,11 @@ token_view Stray = model.stray
 
 abbrev pub token_views : List Token → List model.Token
 token_views ts = map token_view ts
+
+abbrev pub is_stray : model.Token → Bool
+is_stray model.stray = true
+is_stray t = false
+
+-- a byte stands there that is neither a blank, nor of a name, nor a sign
+abbrev pub has_stray : List model.Token → Bool
+has_stray ts = list_any is_stray ts

@@ -2,12 +2,13 @@
 
 ghost use Rattle.std.specs.Prelude.{◌≡◌, ◌≤◌, ◌<◌, ◌+◌, ◌^◌, [], ◌∷◌, ◌++◌, length, map, IfOk, OnOk, Ok, None, not, true, false};
 ghost use Rattle.std.specs.List.{list_any, enumerate_from};
+ghost use Rattle.scan_model.specs.Lines.{has_refused_byte};
 ghost use Rattle.scan_model.specs.Words.{is_short, has_word};
 ghost use Rattle.scan_model.specs.TextFaults.{lowest};
 ghost use Rattle.scan_model.specs.NetlistLines.{form_of, output};
 ghost use Rattle.scan_model.specs.NetlistRules.{nets_of, pins_of, is_no_form, has_unknown_word, has_wrong_count, has_long_name, defines_among, first_rules, makes_past, net_limit, pin_limit};
 ghost use Rattle.text_parts.specs.Views.{nows};
-ghost use Rattle.bench_reader.specs.Lines.{kind_view, line_view, HasItsDriver};
+ghost use Rattle.bench_reader.specs.Lines.{kind_view, line_view, HasItsDriver, HasItsComment};
 ghost use Rattle.bench_reader.specs.FirstRules.{own_rules, passes_limit};
 ghost use Rattle.bench_reader.specs.NetUses.{use_views, operand_use};
 
@@ -77,13 +78,26 @@ fn has_long_name(line: &Line<'_, '_>) -> bool
     }
 }
 
+fn has_refused(bytes: &[u8], line: &Line<'_, '_>) -> bool
+    requires form { line_view line.now ≡ form_of bytes.now }
+    requires comment { HasItsComment bytes.now line.now }
+    ensures { result ≡ has_refused_byte bytes.now }
+{
+    if is_no_form(line) {
+        return has_refused_byte(bytes);
+    }
+    // A refused byte outside the comment is a token of no form.
+    has_refused_byte(line.comment)
+}
+
 // The lowest of rules 1 to 5, which look at the line alone, that it breaks.
 fn own_rule(bytes: &[u8], line: &Line<'_, '_>) -> Option<u32>
     requires form { line_view line.now ≡ form_of bytes.now }
+    requires comment { HasItsComment bytes.now line.now }
     requires driver { HasItsDriver line.now.kind }
     ensures { result ≡ lowest (own_rules bytes.now) }
 {
-    if has_refused_byte(bytes) {
+    if has_refused(bytes, line) {
         return Some(rules::REFUSED_BYTE);
     }
     if is_no_form(line) {
@@ -333,6 +347,7 @@ impl<'a> NetlistDraft<'a> {
         line: &Line<'_, 'a>,
     ) -> Result<Option<u32>, AllocError>
         requires form { line_view line.now ≡ form_of bytes.now }
+        requires comment { HasItsComment bytes.now line.now }
         requires driver { HasItsDriver line.now.kind }
         requires within { IsWithin self.old }
         ensures rule { IfOk result (λ r. r ≡ lowest (first_rules self.old.defined self.old.outputs (length self.old.uses.items) bytes.now)) }
@@ -367,10 +382,12 @@ impl<'a> NetlistDraft<'a> {
         ensures taken { result ≡ Ok None → Takes self.old self.new number (form_of bytes.now) }
         ensures within { result ≡ Ok None → IsWithin self.new }
     {
-        let kind = Kind::of_bytes(&mut buffers.tokens, &mut buffers.operands, bytes)?;
+        let comment = Token::refill(&mut buffers.tokens, bytes)?;
+        let kind = Kind::of_tokens(&mut buffers.operands, &buffers.tokens)?;
         let line = Line {
             kind,
             operands: &buffers.operands,
+            comment,
         };
         let rule = self.add_sound_names(number, bytes, &line)?;
         if rule.is_none() {

@@ -4,6 +4,7 @@
 mod driver;
 mod first_round;
 mod line;
+mod name_bytes;
 mod reading;
 mod second_round;
 mod token;

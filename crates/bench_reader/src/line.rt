@@ -2,7 +2,7 @@
 
 ghost use Rattle.std.specs.Prelude.{◌≡◌, List, ℕ, cond, Some, None, IfOk};
 ghost use Rattle.std.specs.Str.{str_eq_ignore_ascii_case};
-ghost use Rattle.scan_model.specs.NetlistLines.{listed_names, operand_names, definition_of, port_of, form_of_tokens, form_of};
+ghost use Rattle.scan_model.specs.NetlistLines.{listed_names, operand_names, definition_of, port_of, form_of_tokens};
 ghost use Rattle.text_parts.specs.Views.{nows};
 ghost use Rattle.bench_reader.specs.Tokens.{token_views};
 
@@ -10,7 +10,6 @@ use crate::driver::driver_named;
 use crate::token::Token;
 use scan_model::Driver;
 use std::alloc::AllocError;
-use text_parts::without_comment;
 
 /// What a line is, but for its operands.
 #[derive(Clone, Copy)]
@@ -27,11 +26,12 @@ pub enum Kind<'a> {
     NoForm,
 }
 
-/// A line, with the operands that a definition has.
+/// A line, with the operands that a definition has, and its comment.
 #[derive(Clone, Copy)]
 pub struct Line<'t, 'a> {
     pub kind: Kind<'a>,
     pub operands: &'t [&'a [u8]],
+    pub comment: &'a [u8],
 }
 
 // What a list of names starts with.
@@ -166,7 +166,8 @@ impl<'a> Kind<'a> {
         Kind::NoForm
     }
 
-    fn of_tokens(names: &mut Vec<&'a [u8]>, tokens: &[Token<'a>]) -> Result<Self, AllocError>
+    /// What a line of these tokens is. The operands of a definition take the place of those found before.
+    pub fn of_tokens(names: &mut Vec<&'a [u8]>, tokens: &[Token<'a>]) -> Result<Self, AllocError>
         ensures form { IfOk result (λ kind. kind_view (nows names.new.items) kind ≡ form_of_tokens (token_views tokens.now)) }
         ensures driver { IfOk result HasItsDriver }
     {
@@ -185,18 +186,5 @@ impl<'a> Kind<'a> {
             Token::Open => Ok(Kind::of_port(name, rest)),
             _ => Ok(Kind::NoForm),
         }
-    }
-
-    /// What a line is. Its tokens take the place of those found before, and so do the operands of a definition.
-    pub fn of_bytes(
-        tokens: &mut Vec<Token<'a>>,
-        names: &mut Vec<&'a [u8]>,
-        line: &'a [u8],
-    ) -> Result<Self, AllocError>
-        ensures form { IfOk result (λ kind. kind_view (nows names.new.items) kind ≡ form_of line.now) }
-        ensures driver { IfOk result HasItsDriver }
-    {
-        Token::refill(tokens, without_comment(line))?;
-        Kind::of_tokens(names, tokens)
     }
 }
