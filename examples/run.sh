@@ -265,6 +265,7 @@ the_bodies() {
     "$program" pack s27.bench s27.scan s27.pat none.csv >s27.bundle
     { cat s27.bundle; echo net_a,net_b; } >other.bundle
     printf 'FAILLOG 1\ndie D1\ndesign s27\ntested 0 0\nfail 0 out G17\nend\n' >one.log
+    printf 'FAILLOG 1\ndie D1\ndesign s27\ntested 0 0\nend\n' >passes.log
     right=a18da399681001adde28d6ab4468d9b58dc884b4d0de8bad094a9173161b11db
     printf '{"revision": 1, "signer": "ann", "digest": "%s"}' $right >right.json
     printf '{"revision": 2, "signer": "ann", "digest": "%s"}' $right >later.json
@@ -325,11 +326,18 @@ the_lot() {
     fi
 }
 
-# One connection is read while another stays open.
+# Two connections that stay open, each with a worker of its own.
 the_workers() {
     cd "$work/bodies" || exit 1
     runs=$((runs + 1))
     "$top/examples/workers.py" "$program" . || wrong=$((wrong + 1))
+}
+
+# Files that take so many bytes and no more, for each number of bytes.
+the_cut_output() {
+    cd "$work/rows" || exit 1
+    runs=$((runs + 1))
+    "$top/examples/cut_output.py" "$program" || wrong=$((wrong + 1))
 }
 
 # What can't be written ends with status 6.
@@ -390,6 +398,7 @@ the_stores
 the_lot
 the_workers
 the_little_memory
+the_cut_output
 the_full_device
 echo "$runs examples, $wrong wrong"
 [ "$wrong" -eq 0 ]

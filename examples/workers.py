@@ -1,11 +1,12 @@
 #!/usr/bin/env python3
-"""Reads over one connection what came over another, which stays open: two workers serve at once.
+"""Serves two connections that stay open at once, each by a worker of its own, and reads over each what came over the other.
 
     examples/workers.py PROGRAM FOLDER
 
-The program serves an empty store with two workers, of one connection each. The first connection sends a design and a log, has its two replies and
-stays open. The second then asks for the report, which has that log. One that isn't answered within a minute is wrong. FOLDER has the files that are
-sent. The last line tells how many replies were compared and how many were wrong.
+The program serves an empty store with two workers, of one connection each. The first connection sends a design and a log, and stays open. The second,
+whose worker did nothing yet, reads the report with that log and signs it, by the right digest alone. Behind another log of the first connection the
+sign-off is there as it was. A reply that doesn't come within a minute is wrong. FOLDER has the files that are sent. The last line tells how many replies
+were compared and how many were wrong.
 """
 import hashlib
 import os
@@ -13,7 +14,7 @@ import socket
 import sys
 import tempfile
 
-from requests import body_of, reply_to, request, serve
+from requests import body_of, request, serve
 from stores import DIGEST
 
 
@@ -25,21 +26,48 @@ def next_reply(link):
         return status, came.read(int(fields['Content-Length']))
 
 
-def answers(port, folder):
+class Talk:
+    """A connection that stays open, and the files of what is sent over it."""
+
+    def __init__(self, link, folder):
+        self.link, self.folder = link, folder
+
+    def reply(self, method, target, name='-'):
+        self.link.sendall(request(method, target, body_of(self.folder, name)))
+        return next_reply(self.link)
+
+    def answers(self, method, target, name, status, text):
+        return self.reply(method, target, name) == (status, text.encode() + b'\n')
+
+
+DIE = '/designs/s27/dies/D1'
+SIGNED = f'signoff 1\nrevision 1\nsigner ann\ndigest {DIGEST}'
+
+
+def is_first_report(reply):
+    status, report = reply
+    return status == '200' and b'\nlogs 1\n' in report and hashlib.sha256(report).hexdigest() == DIGEST
+
+
+def answers(first, second):
     """What is answered, and whether it is due."""
-    with socket.create_connection(('127.0.0.1', port), timeout=60) as held:
-        held.sendall(request('PUT', '/designs/s27', body_of(folder, 's27.bundle')))
-        yield 'the design', next_reply(held)[0] == '201'
-        held.sendall(request('POST', '/designs/s27/dies/D1/logs', body_of(folder, 'one.log')))
-        yield 'the log', next_reply(held) == ('201', b'log 1\n')
-        status, report = reply_to(port, request('GET', '/designs/s27/dies/D1/report', None))
-        yield 'the report', status == '200' and b'\nlogs 1\n' in report and hashlib.sha256(report).hexdigest() == DIGEST
+    yield 'the design', first.reply('PUT', '/designs/s27', 's27.bundle')[0] == '201'
+    yield 'the log', first.answers('POST', f'{DIE}/logs', 'one.log', '201', 'log 1')
+    yield 'the report', is_first_report(second.reply('GET', f'{DIE}/report'))
+    yield 'a wrong digest', second.answers('POST', f'{DIE}/signoffs', 'wrong.json', '409', f'rule 86 digest {DIGEST}')
+    yield 'the right digest', second.answers('POST', f'{DIE}/signoffs', 'right.json', '201', 'signoff 1')
+    yield 'another log', first.answers('POST', f'{DIE}/logs', 'passes.log', '201', 'log 2')
+    yield 'the right digest again', first.answers('POST', f'{DIE}/signoffs', 'right.json', '200', 'signoff 1')
+    yield 'the sign-off', first.answers('GET', f'{DIE}/signoffs/1', '-', '200', SIGNED)
+    yield 'the report that was signed', is_first_report(second.reply('GET', f'{DIE}/reports/1'))
 
 
 def wrong_ones(port, folder):
     """The replies that are wrong; one that doesn't come ends the search."""
     try:
-        return [name for name, due in answers(port, folder) if not due]
+        with socket.create_connection(('127.0.0.1', port), timeout=60) as first:
+            with socket.create_connection(('127.0.0.1', port), timeout=60) as second:
+                return [name for name, due in answers(Talk(first, folder), Talk(second, folder)) if not due]
     except OSError as fault:
         return [f'a reply that should have come: {fault}']
 
@@ -51,11 +79,11 @@ def main():
         wrong = wrong_ones(port, folder)
         if wrong:
             serving.kill()
-        elif (serving.stdout.read(), serving.wait()) != ('sessions 2 deeds 2\n', 0):
+        elif (serving.stdout.read(), serving.wait()) != ('sessions 2 deeds 4\n', 0):
             wrong = ['the last line']
     for name in wrong:
         print(f'two workers: wrong: {name}')
-    print(f'3 replies of two workers, {len(wrong)} wrong')
+    print(f'9 replies of two workers, {len(wrong)} wrong')
     sys.exit(1 if wrong else 0)
 
 
