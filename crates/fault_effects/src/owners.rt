@@ -64,7 +64,7 @@ pub fn suspects_at(alloc: Global, parts: &Parts, places: &[u32]) -> Result<Rows<
     ensures few { IfOk result (λ suspects. length suspects ≤ length places.now) }
     ensures places { IfOk result (λ suspects. All (λ p. p < length (universe parts.now)) places.now → places_of suspects ≡ places.now) }
 {
-    let mut suspects = Rows::new(alloc);
+    let mut suspects = Rows::from_vec(Vec::with_capacity(alloc, places.len())?);
     for place in places {
         push_suspect(&mut suspects, parts, *place)?;
     }
@@ -78,7 +78,7 @@ pub fn owners_of(alloc: Global, parts: &Parts, suspects: &[Suspect]) -> Result<G
     ensures len { IfOk result (λ groups. length groups ≡ length parts.now.netlist.nets + 3) }
     ensures groups { IfOk result (AreOwners parts.now suspects.now) }
 {
-    let mut keys = Vec::new(alloc);
+    let mut keys = Vec::with_capacity(alloc, suspects.len())?;
     for suspect in suspects {
         keys.push(owner(parts, &suspect.fault))?;
     }

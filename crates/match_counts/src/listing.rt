@@ -22,7 +22,7 @@ pub fn list_candidates(
     ensures { (faults : List Fault) (bits : List Bit) (classes : Bit → BitClass) (fails : Fault → Bit → Bool) → All (λ s. slice_get faults s.place ≡ Some s.fault) suspects.now
         → AreTotals bits classes fails suspects.now totals.now → IfOk result (λ rows. rows ≡ candidates_in faults bits classes fails (places_of suspects.now)) }
 {
-    let mut rows = Rows::new(alloc);
+    let mut rows = Rows::from_vec(Vec::with_capacity(alloc, suspects.len())?);
     for (index, suspect) in suspects.iter().enumerate() {
         let place = suspect.place;
         let total = totals.totals()[index];
