@@ -12,3 +12,5 @@ pub mod FirstFaults
 pub mod CutGroups
 pub mod Marks
 pub mod Before
+pub mod PlainWords
+pub mod GoodFails

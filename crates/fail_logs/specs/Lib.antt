@@ -3,6 +3,8 @@ pub mod LogViews
 pub mod Frames
 pub mod BitNumbers
 pub mod LineTargets
+pub mod PlainLines
+pub mod GoodFails
 pub mod HeaderLines
 pub mod LogDrafts
 pub mod LineFacts

@@ -8,8 +8,8 @@ use crate::target::LineTarget;
 use scan_model::{Bit, Rows};
 use std::alloc::{AllocError, Global};
 
-// The number of a bit in bit order.
-fn bit_number(points: usize, pattern: u32, point: usize) -> u64
+/// The number of a bit in bit order.
+pub fn bit_number(points: usize, pattern: u32, point: usize) -> u64
     requires points { points ≤ 131072 }
     requires point { point ≤ 4294967295 }
     ensures { result ≡ bit_number points pattern point }

@@ -3,10 +3,12 @@
 
 mod bits;
 mod frame;
+mod good_fail;
 mod groups;
 mod line;
 mod log_draft;
 mod number;
+mod plain;
 mod reading;
 mod rules;
 mod tables;

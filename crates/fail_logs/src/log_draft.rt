@@ -1,6 +1,6 @@
 //! The draft of a log: what its lines so far say, and one more line.
 
-ghost use Rattle.std.specs.Prelude.{◌≡◌, ◌++◌, [], IfOk, OnOk, Ok, None, option_to_list};
+ghost use Rattle.std.specs.Prelude.{◌≡◌, ◌++◌, [], IfOk, IfSome, OnOk, Ok, None, option_to_list};
 ghost use Rattle.std.specs.Str.{bytes_eq};
 ghost use Rattle.scan_model.specs.Words.{words};
 ghost use Rattle.scan_model.specs.TextFaults.{lowest};
@@ -12,8 +12,10 @@ ghost use Rattle.fail_logs.specs.HeaderLines.{with_line, EndsBelow};
 
 use crate::bits::number_named;
 use crate::frame::Frame;
+use crate::good_fail::good_number;
 use crate::line::LogLine;
 use crate::number::number;
+use crate::plain::plain_fail;
 use crate::rules::{Headers, later_rule};
 use crate::target::LineTarget;
 use crate::tested::TestedRanges;
@@ -134,6 +136,7 @@ pub struct LogDraft {
 impl LogDraft {
     ghost use Rattle.fail_logs.specs.LineTargets.{IsTarget};
     ghost use Rattle.fail_logs.specs.LogDrafts.{Takes, Adds, IsAfter};
+    ghost use Rattle.fail_logs.specs.GoodFails.{IsGoodFail};
 
     pub fn new(alloc: Global) -> Self
         ensures { (frame : _) → (rows : _) → IsAfter frame rows result [] }
@@ -216,6 +219,21 @@ impl LogDraft {
         self.take_later(frame, version, words)
     }
 
+    // The number of the bit that a line names, if it is a plain fail line that breaks no rule.
+    fn good_fail(&self, frame: &Frame<'_>, bytes: &[u8]) -> Option<u64>
+        requires { IsSmall frame.now }
+        ensures { IfSome result (IsGoodFail (frame_view frame.now) (places_view frame.now) self.now bytes.now) }
+    {
+        if self.title.is_none() {
+            return None;
+        }
+        if self.closed {
+            return None;
+        }
+        let fail = plain_fail(frame.form, bytes)?;
+        good_number(frame, &self.headers, fail)
+    }
+
     /// Takes a line, or answers the lowest rule that it breaks. The list is room for its words.
     pub fn take_line<'a>(
         &mut self,
@@ -227,6 +245,11 @@ impl LogDraft {
         ensures rule { IfOk result (λ r. r ≡ lowest (log_rules (frame_view frame.now) self.old.title self.old.closed (headers_view self.old.headers) bytes.now)) }
         ensures taken { result ≡ Ok None → Takes (frame_view frame.now) (places_view frame.now) self.old self.new (words bytes.now) }
     {
+        if let Some(number) = self.good_fail(frame, bytes) {
+            self.fails.push(number)?;
+            self.headers.begun = true;
+            return Ok(None);
+        }
         fill_words(list, bytes)?;
         if has_refused_byte(bytes) {
             return Ok(Some(rules::REFUSED_LOG_BYTE));

@@ -61,7 +61,8 @@ fn has_bad_range(frame: &Frame<'_>, line: LogLine<'_>) -> bool
     }
 }
 
-fn is_untested(tested: &TestedRanges, pattern: Option<u32>) -> bool
+/// Whether a range was named, and none holds the pattern.
+pub fn is_untested(tested: &TestedRanges, pattern: Option<u32>) -> bool
     ensures { result ≡ is_untested tested.now pattern }
 {
     match pattern {

@@ -11,8 +11,8 @@ use crate::number::is_number;
 use scan_model::CutGroup;
 use text_parts::number_of;
 
-// The length of the chain at a place.
-fn length_at(frame: &Frame<'_>, chain: usize) -> usize
+/// The length of the chain at a place.
+pub fn length_at(frame: &Frame<'_>, chain: usize) -> usize
     ensures { result ≡ slice_index frame.now.lengths.items chain }
 {
     match frame.lengths.get(chain) {
@@ -21,8 +21,8 @@ fn length_at(frame: &Frame<'_>, chain: usize) -> usize
     }
 }
 
-// The point of the cell at a position of the chain at a place.
-fn point_at(frame: &Frame<'_>, chain: usize, pos: u32) -> u32
+/// The point of the cell at a position of the chain at a place.
+pub fn point_at(frame: &Frame<'_>, chain: usize, pos: u32) -> u32
     ensures { result ≡ place_in (places_view frame.now) chain pos }
 {
     match frame.places.get(chain) {
