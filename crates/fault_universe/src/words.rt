@@ -39,6 +39,9 @@ pub fn push_word(line: &mut Name, word: &[u8]) -> Result<(), NoMemory>
 pub fn push_number(line: &mut Name, number: u64) -> Result<(), NoMemory>
     ensures { OnOk result (line.new ≡ line.old ++ 32 ∷ decimal number) }
 {
+    if number < 10 {
+        return line.append(&[b' ', b'0' + number as u8]);
+    }
     let mut word = [b' '; WORD_LEN];
     let digits = write_digits(number, &mut word, WORD_LEN);
     line.append(&word[digits - 1..])
