@@ -1,5 +1,5 @@
 -- A line of some form has no stray byte.
-use Rattle.std.proofs.Common.{◌≡◌, ℕ, Bool, true, false, List, [], ◌∷◌, Option, Some, None, refl, ◌∙◌, sym, ap, option_map}
+use Rattle.std.proofs.Common.{◌≡◌, ℕ, false, List, [], ◌∷◌, Option, Some, None, refl, option_map}
 use Rattle.scan_model.specs.NetlistLines.{Token, name, open_sign, close_sign, comma, equals, stray, listed_names, operand_names, definition_form, definition_of, port_of, form_of_tokens}
 use Rattle.scan_model.specs.NetlistRules.{is_no_form}
 use Rattle.bench_reader.specs.Tokens.{has_stray}

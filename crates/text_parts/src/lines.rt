@@ -30,6 +30,7 @@ pub fn has_refused_byte(line: &[u8]) -> bool
 }
 
 // The place of the first byte that equals this one, or else the number of bytes.
+#[inline(always)]
 fn place_of(byte: u8, bytes: &[u8]) -> usize
     ensures { result ≡ position_or_len (λ b. b == byte) bytes.now }
 {

@@ -32,6 +32,7 @@ impl<'a> Model for Names<'a> {
 }
 
 // The place of the first of the names that equals this one; where none does, it gets the next place.
+#[inline(always)]
 fn place_in<'a>(
     places: &mut HashMap<Key<'a>, usize>,
     name: &'a [u8],
