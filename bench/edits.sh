@@ -1,9 +1,10 @@
 #!/bin/sh
 # Tries wrong bodies: the edits edits/CRATE/*.edit and crates/CRATE/must-fail/*.edit, each of which the prover must
 # refuse.
-#     bench/edits.sh [-j N] [CRATE..]
+#     bench/edits.sh [-j N] [--built CHECKOUT] [CRATE..]
 # Without CRATE those of all crates. What stands below the crates asked for is built in a scratch folder by `rt ci`,
-# which proves nothing again that the kit kept. Each edit is tried by the functions that it changes, or that name the
+# which proves nothing again that the kit kept; or it is taken from a checkout of the same crates in which a gate has
+# passed and left it. Each edit is tried by the functions that it changes, or that name the
 # constant that it changes, together with others of its crate that change other functions: the libraries below are
 # read once for all of them, and a function that isn't proved is a crate that isn't. Where its functions are proved,
 # or it changes none, the whole crate is checked. At most N provers run at once, or RT_JOBS, or one for each core, and
@@ -29,9 +30,10 @@ def asked():
     number = os.environ.get('RT_JOBS', '')
     words = argparse.ArgumentParser(prog='bench/edits.sh')
     words.add_argument('-j', '--jobs', type=int, default=int(number) if number.isdigit() else CORES)
+    words.add_argument('--built', type=Path, metavar='CHECKOUT')
     words.add_argument('crates', nargs='*', metavar='CRATE')
     found = words.parse_args(sys.argv[3:])
-    return max(1, min(found.jobs, CORES)), found.crates
+    return max(1, min(found.jobs, CORES)), found.built, found.crates
 
 
 def crates():
@@ -54,6 +56,16 @@ def edits_of(name):
     if twice:
         sys.exit(f'edits.sh: {name}: stands in edits/ and in must-fail/: {" ".join(twice)}')
     return {edit.name: edit for edit in sorted(found)}
+
+
+def take(built, names):
+    """The libraries of some crates as a gate left them in another checkout, where their sources are the same."""
+    for name in names:
+        for part in ('src', 'specs', 'proofs'):
+            if subprocess.run(['diff', '-rqN', TOP / 'crates' / name / part, built / 'crates' / name / part], stdout=sys.stderr, check=False).returncode:
+                sys.exit(f'edits.sh: {name}: not the same in {built}')
+        (SCRATCH / 'crates' / name).mkdir(parents=True)
+        (SCRATCH / 'crates' / name / 'out').symlink_to(built.resolve() / 'crates' / name / 'out')
 
 
 def build(uses, names):
@@ -218,14 +230,18 @@ def tell(name, shown):
 
 
 def main():
-    jobs, wanted = asked()
+    jobs, built, wanted = asked()
     uses = crates()
     strays = sorted(folder.name for folder in (TOP / 'edits').iterdir() if folder.is_dir() and folder.name not in uses)
     unknown = [name for name in wanted if name not in uses] or (strays if not wanted else [])
     if unknown:
         sys.exit(f'edits.sh: no such crate: {" ".join(unknown)}')
     tried = {name: edits for name in wanted or uses if (edits := edits_of(name))}
-    build(uses, sorted(set().union(*(below(uses, name) for name in tried))))
+    names = sorted(set().union(*(below(uses, name) for name in tried)))
+    if built:
+        take(built, names)
+    else:
+        build(uses, names)
     passed, left = 0, {}
     with ThreadPoolExecutor(jobs) as pool:
         groups = {name: [pool.submit(try_group, uses, name, group['texts'], group['edits']) for group in groups_of(name, edits)] for name, edits in tried.items()}
