@@ -1,5 +1,5 @@
 -- Designs, logs and dies as contracts see them.
-use Rattle.std.specs.Prelude.{◌≡◌, ℕ, List, map, All, Contains, true, Ok}
+use Rattle.std.specs.Prelude.{◌≡◌, ℕ, List, map, Option, All, Contains, IfSome, true, Ok}
 use Rattle.std.specs.List.{IsDistinct}
 use Rattle.std.specs.Str.{bytes_eq}
 use Rattle.sha2.specs.Sha256.{sha256}
@@ -11,6 +11,8 @@ use Rattle.scan_model.specs.Response.{expected_rows}
 use Rattle.scan_model.specs.LogText.{log_frame, log_reading}
 use Rattle.scan_model.specs.DieReport.{die_report, logs_of_texts}
 use Rattle.scan_model.specs.ReportText.{report_lines}
+use Rattle.packed_sim.specs.declared.good.PackedGood.{PackedGood}
+use Rattle.packed_sim.specs.PackedParts.{BelongsTo}
 use Rattle.diagnosis.specs.Bundle.{bundle_reading}
 
 -- a design: its name, its bundle, and the scan test that the bundle stands for
@@ -23,11 +25,12 @@ pub record IsDesign (d : DesignFacts) : Type 0 where
   pub name : is_tag d.name ≡ true
   pub stands : bundle_reading d.text ≡ Ok d.test
 
--- with the digest of its bundle and its expected values
-pub record IsWholeDesign (d : DesignFacts) (digest : List ℕ) (expected : List (List Tri)) : Type 0 where
+-- with the digest of its bundle, its expected values, and fault-free rows of its test, where it keeps them
+pub record IsWholeDesign (d : DesignFacts) (digest : List ℕ) (expected : List (List Tri)) (good : Option PackedGood) : Type 0 where
   pub design : IsDesign d
   pub digest_of_text : digest ≡ sha256 d.text
   pub expected_of_test : expected ≡ expected_rows d.test
+  pub good_of_test : IfSome good (BelongsTo d.test)
 
 -- a log: the names of its design and die, its text, and what the text stands for
 pub record ReadLogFacts : Type 0 where

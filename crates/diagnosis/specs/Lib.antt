@@ -6,6 +6,7 @@ pub mod Bundle
 pub mod Sections
 pub mod ReaderAnswers
 pub mod Designs
+pub mod DesignRows
 pub mod LogAddition
 pub mod Cases
 pub mod Subjects

@@ -19,8 +19,8 @@ use crate::diagnosed::{Diagnosis, Subject, diagnosis_of};
 use crate::log::{ReadLog, log_over};
 use crate::logs::push_log;
 use crate::put::Put;
+use crate::simulation::{Simulation, simulated};
 use diag_report::{Report, fails_text_over};
-use expected_values::expected_at_points;
 use packed_sim::PackedGood;
 use scan_model::{Expected, Name, NoMemory, Parts, Rows};
 use std::alloc::Global;
@@ -67,22 +67,6 @@ fn case_names(alloc: Global, design: &[u8], die: &[u8]) -> Result<CaseNames, NoM
     let design = Name::copy_of(alloc, design)?;
     let die = Name::copy_of(alloc, die)?;
     Ok(CaseNames { design, die })
-}
-
-// The fault-free rows and responses of a test.
-#[derive(Drop)]
-struct Simulation {
-    good: PackedGood,
-    expected: Expected,
-}
-
-fn simulated(alloc: Global, parts: &Parts) -> Result<Simulation, NoMemory>
-    ensures good { IfOk result (λ made. BelongsTo parts.now made.good) }
-    ensures expected { IfOk result (λ made. made.expected ≡ expected_rows parts.now) }
-{
-    let good = PackedGood::make(alloc, parts)?;
-    let expected = expected_at_points(alloc, parts, good.rows())?;
-    Ok(Simulation { good, expected })
 }
 
 // What a case keeps beside the parts of its design and its logs.

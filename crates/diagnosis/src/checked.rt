@@ -11,7 +11,6 @@ ghost use Rattle.diagnosis.specs.Designs.{view_lines, view_report, texts_of, fac
 use crate::diagnosed::{Diagnosis, Subject, diagnosis_of};
 use crate::view::DieView;
 use diag_report::Report;
-use packed_sim::PackedGood;
 use scan_model::{Digest, NoMemory};
 use sha2::Sha256;
 use std::alloc::Global;
@@ -31,12 +30,12 @@ pub fn make_diagnosis<R: Threads + Sync>(
 {
     let design = view.design();
     let parts = design.parts();
-    let good = PackedGood::make(alloc, parts)?;
+    let rows = design.rows(alloc)?;
     let subject = Subject {
         design: design.name(),
         die: view.die(),
         parts,
-        good: &good,
+        good: rows.good(),
         expected: design.expected(),
         logs: view.logs().as_slice(),
     };

@@ -1,5 +1,5 @@
 //! Designs: a bundle that was read.
-ghost use Rattle.std.specs.Prelude.{◌≡◌, ◌^◌, ◌<◌, length, true, Ok, Err, IfOk, IfErr};
+ghost use Rattle.std.specs.Prelude.{◌≡◌, ◌^◌, ◌<◌, length, true, Ok, Err, IfOk, IfErr, IfSome};
 ghost use Rattle.sha2.specs.Sha256.{sha256};
 ghost use Rattle.scan_model.specs.Words.{is_tag};
 ghost use Rattle.scan_model.specs.Response.{expected_rows};
@@ -9,21 +9,26 @@ ghost use Rattle.design_bundle.specs.Sections.{four_texts};
 ghost use Rattle.diagnosis.specs.declared.section.BundleFault.{BundleFault};
 ghost use Rattle.diagnosis.specs.Bundle.{bundle_reading, texts_reading};
 ghost use Rattle.diagnosis.specs.Designs.{IsDesign};
+ghost use Rattle.diagnosis.specs.DesignRows.{rows_in};
 ghost use Rattle.diagnosis.specs.ReaderAnswers.{RefusedBy};
 ghost use Rattle.diag_report.specs.PredictedLog.{HasWordNames};
+ghost use Rattle.packed_sim.specs.PackedParts.{BelongsTo};
 
+use crate::rows::DesignRows;
 use crate::section::{BundleFault, Section};
+use crate::simulation::{Simulation, simulated};
 use crate::texts::read_texts;
 use design_bundle::{Sections, bundle_text, split};
 use expected_values::expected_at_points;
 use lane_rows::GoodRows;
+use packed_sim::PackedGood;
 use scan_model::{Digest, Expected, Name, NoMemory, Parts, Profile};
 use sha2::Sha256;
 use std::alloc::Global;
 use std::marker::Model;
 
 /// A design: its name, its bundle with the SHA-256 digest (FIPS 180-4) of its bytes, and the parts that the bundle stands
-/// for with their expected values.
+/// for with their expected values, and with their fault-free rows where these are few.
 #[derive(Drop)]
 pub struct Design {
     name: Name,
@@ -31,6 +36,7 @@ pub struct Design {
     digest: Digest,
     parts: Parts,
     expected: Expected,
+    good: Option<PackedGood>,
 }
 
 impl Model for Design {
@@ -40,24 +46,49 @@ impl Model for Design {
 
     ghost view = { λ d. record { name = d.name; text = d.text; test = d.parts } };
 
-    ghost invariant = { λ d. IsWholeDesign (record { name = d.name; text = d.text; test = d.parts }) d.digest d.expected };
+    ghost invariant = { λ d. IsWholeDesign (record { name = d.name; text = d.text; test = d.parts }) d.digest d.expected d.good };
 }
 
-/// What a bundle stands for, with its fault-free responses.
+/// What a bundle stands for, with its fault-free responses, and with its fault-free rows where these are few.
 #[derive(Drop)]
 struct SimulatedParts {
     parts: Parts,
     expected: Expected,
+    good: Option<PackedGood>,
+}
+
+/// How many rows a design keeps at most. A row takes 128 bytes, so that all take up to 16 MiB.
+const KEPT_ROWS: usize = 1 << 17;
+
+/// Whether a test has so few rows, one for each net in each block of 512 patterns.
+fn has_few_rows(parts: &Parts) -> bool {
+    let blocks = parts.patterns().len().div_ceil(512);
+    let nets = parts.circuit().nets().len();
+    blocks.saturating_mul(nets) <= KEPT_ROWS
 }
 
 /// The parts with their fault-free responses.
 fn with_responses(alloc: Global, parts: Parts) -> Result<SimulatedParts, NoMemory>
     ensures parts { IfOk result (λ made. made.parts ≡ parts) }
     ensures expected { IfOk result (λ made. made.expected ≡ expected_rows parts) }
+    ensures good { IfOk result (λ made. IfSome made.good (BelongsTo parts)) }
 {
+    if has_few_rows(&parts) {
+        let Simulation { good, expected } = simulated(alloc, &parts)?;
+        let good = Some(good);
+        return Ok(SimulatedParts {
+            parts,
+            expected,
+            good,
+        });
+    }
     let rows = GoodRows::make(alloc, &parts)?;
     let expected = expected_at_points(alloc, &parts, &rows)?;
-    Ok(SimulatedParts { parts, expected })
+    Ok(SimulatedParts {
+        parts,
+        expected,
+        good: None,
+    })
 }
 
 impl Design {
@@ -66,6 +97,7 @@ impl Design {
         requires name { is_tag name ≡ true }
         requires stands { bundle_reading text ≡ Ok made.parts }
         requires expected { made.expected ≡ expected_rows made.parts }
+        requires good { IfSome made.good (BelongsTo made.parts) }
         ensures { result ≡ record { name = name; text = text; test = made.parts } }
     {
         let digest = Digest::from_bytes(<Sha256 as sha2::Digest>::digest(text.as_slice()));
@@ -75,6 +107,7 @@ impl Design {
             digest,
             parts: made.parts,
             expected: made.expected,
+            good: made.good,
         }
     }
 
@@ -115,6 +148,16 @@ impl Design {
         ensures { result.now ≡ expected_rows self.now.test }
     {
         &self.expected
+    }
+
+    /// The fault-free rows: those that are kept, else made anew. The only error is want of memory.
+    pub fn rows(&self, alloc: Global) -> Result<DesignRows<'_>, NoMemory>
+        ensures { IfOk result (λ rows. BelongsTo self.now.test (rows_in rows)) }
+    {
+        match &self.good {
+            Some(good) => Ok(DesignRows::Kept(good)),
+            None => Ok(DesignRows::Made(PackedGood::make(alloc, &self.parts)?)),
+        }
     }
 }
 

@@ -20,7 +20,7 @@ use Rattle.pattern_fits.specs.FitPlaces.{places_in}
 
 -- rows and joined logs are of the test, the suspects are faults of it, each in the group of its owner, and each net that owns one is listed
 pub record AreDieSuspects (t : ScanTest) (x : DieSuspects) : Type 0 where
-  pub good : BelongsTo t x.good
+  pub good : BelongsTo t x.good.now
   pub joined : IsJoinedOf (length t.patterns) (length (points_of t)) x.joined
   pub suspects : All (IsSuspectOf t) x.suspects
   pub groups : length x.owners ≡ length t.netlist.nets + 3

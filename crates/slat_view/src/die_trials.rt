@@ -27,7 +27,7 @@ use std::thread::Threads;
 pub(crate) struct DieTrials<'a> {
     pub parts: &'a Parts,
     pub expected: &'a Expected,
-    pub die: &'a DieSuspects,
+    pub die: &'a DieSuspects<'a>,
 }
 
 /// The lanes of the failing patterns of a block, and what the suspects fit in it.
@@ -42,13 +42,13 @@ fn fits_by<'a, R: Threads + Sync>(
     rt: &R,
     alloc: Global,
     parts: &'a Parts,
-    die: &'a DieSuspects,
+    die: &'a DieSuspects<'a>,
     block: usize,
     rows: &'a [PointRow],
     failing: Row,
 ) -> Result<Rows<Fit>, NoMemory>
     requires die { AreDieSuspects parts.now die.now }
-    requires block { block < length die.now.good.rows }
+    requires block { block < length die.now.good.now.rows }
     requires rows { length rows.now ≡ length (points_of parts.now) }
     requires failing { (j : ℕ) → j < 512 → lane failing j ≡ any_failing rows.now j }
     ensures { IfOk result (AreFits parts.now rows.now block (places_of die.now.suspects)) }
@@ -56,7 +56,7 @@ fn fits_by<'a, R: Threads + Sync>(
     let _ = parts.points();
     let _ = parts.circuit().order();
     let totals = failing_counts(alloc, rows)?;
-    let good = &die.good;
+    let good = die.good;
     let points = PointCounts {
         parts,
         good,
@@ -92,7 +92,7 @@ impl DieTrials<'_> {
         block: u32,
     ) -> Result<BlockFits, NoMemory>
         requires trials { AreTrials self.now }
-        requires block { block < length self.now.die.now.good.rows }
+        requires block { block < length self.now.die.now.good.now.rows }
         requires small { block < 2 ^ 16 }
         ensures { (logs : List LogFacts) → StandsFor logs self.now.die.now.joined → IfOk result (IsBlockOf self.now.parts.now logs block (places_of self.now.die.now.suspects)) }
     {

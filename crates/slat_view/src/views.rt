@@ -31,7 +31,8 @@ pub fn whole_slat<R: Threads + Sync>(
     let parts = design.parts();
     let expected = design.expected();
     let joined = joined_of(alloc, parts, view.logs().as_slice())?;
-    let die = DieSuspects::make(alloc, parts, expected, joined)?;
+    let rows = design.rows(alloc)?;
+    let die = DieSuspects::make(alloc, parts, rows.good(), expected, joined)?;
     let trials = DieTrials {
         parts,
         expected,
@@ -70,7 +71,8 @@ pub fn slat_places<R: Threads + Sync>(
     let _ = parts.patterns();
     let expected = design.expected();
     let joined = joined_of(alloc, parts, view.logs().as_slice())?;
-    let die = DieSuspects::make(alloc, parts, expected, joined)?;
+    let rows = design.rows(alloc)?;
+    let die = DieSuspects::make(alloc, parts, rows.good(), expected, joined)?;
     let trials = DieTrials {
         parts,
         expected,

@@ -3,13 +3,16 @@ use Rattle.std.specs.Arc.{arc_value}
 use Rattle.std.specs.declared.sync.Arc.{Arc}
 use Rattle.std.proofs.lemmas.Result.{IfOk-weaker}
 use Rattle.scan_model.specs.Lines.{pieces}
+use Rattle.scan_model.specs.ScanTest.{ScanTest}
 use Rattle.scan_model.specs.MatchCounts.{candidates}
 use Rattle.scan_model.specs.Ranking.{ranked}
 use Rattle.scan_model.specs.Response.{expected_rows}
 use Rattle.scan_model.specs.ReportText.{concatenated}
+use Rattle.packed_sim.specs.PackedParts.{BelongsTo}
 use Rattle.diagnosis.specs.declared.diagnosed.Diagnosis.{Diagnosis}
 use Rattle.diagnosis.specs.declared.log.ReadLog.{ReadLog}
 use Rattle.diagnosis.specs.Designs.{facts_of, view_lines, view_report}
+use Rattle.diagnosis.specs.DesignRows.{rows_in}
 use Rattle.diagnosis.specs.Cases.{CaseFacts, IsCase, case_lines}
 use Rattle.diagnosis.proofs.CutReports.{view_cut}
 use Rattle.diagnosis.proofs.Cases.{case_with}
@@ -25,7 +28,7 @@ diagnosis_of-requires-clause-subject g c κs within =
     c.design-design.ensures c.parts-parts.ensures.value c.name.ensures.value c.die.ensures (ap (λ (ls : List (Arc ReadLog Global)). map (λ (log : Arc ReadLog Global). arc_value log) ls) c.as_slice.ensures ∙ c.logs.ensures.logs) in
     record {
       case = subst IsCase (sym is) (view_is_case v c.logs.ensures.view);
-      good_of_test = c.in_ok-good.ensures;
+      good_of_test = subst (BelongsTo c.parts-parts.result.now) (sym c.good.ensures) (subst (λ (t : ScanTest). BelongsTo t (rows_in c.in_ok-rows.rows)) (sym c.parts-parts.ensures.value) c.in_ok-rows.ensures);
       expected_of_test = c.expected.ensures ∙ ap expected_rows (sym c.parts-parts.ensures.value);
     }
 

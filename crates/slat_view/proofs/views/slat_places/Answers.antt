@@ -9,9 +9,11 @@ use Rattle.scan_model.specs.ScanTest.{ScanTest}
 use Rattle.scan_model.specs.MatchCounts.{candidates}
 use Rattle.scan_model.specs.Response.{expected_rows}
 use Rattle.log_join.specs.Joining.{StandsFor}
+use Rattle.packed_sim.specs.PackedParts.{BelongsTo}
 use Rattle.fault_effects.specs.Owners.{places_of}
 use Rattle.diagnosis.specs.declared.log.ReadLog.{ReadLog}
 use Rattle.diagnosis.specs.Designs.{DesignFacts, ReadLogFacts, StandsOver, facts_of}
+use Rattle.diagnosis.specs.DesignRows.{rows_in}
 use Rattle.diagnosis.specs.Cases.{case_of}
 use Rattle.diagnosis.proofs.Cases.{logs_stand}
 use Rattle.diagnosis.proofs.Views.{view_is_case}
@@ -35,6 +37,9 @@ joined_of-requires g c =
 
 pub make-requires-clause-expected : goal.make-requires-clause-expected
 make-requires-clause-expected g c = c.expected-expected.ensures ∙ ap expected_rows (sym c.parts-parts.ensures.value)
+
+pub make-requires-clause-good : goal.make-requires-clause-good
+make-requires-clause-good g c = subst (BelongsTo c.parts-parts.result.now) (sym c.good.ensures) (subst (λ (t : ScanTest). BelongsTo t (rows_in c.in_ok-rows.rows)) (sym c.parts-parts.ensures.value) c.in_ok-rows.ensures)
 
 pub block-requires-clause-trials : goal.block-requires-clause-trials
 block-requires-clause-trials g c κs within = record { expected = c.expected-expected.ensures ∙ ap expected_rows (sym c.parts-parts.ensures.value); die = c.in_ok-die.ensures.prepared }

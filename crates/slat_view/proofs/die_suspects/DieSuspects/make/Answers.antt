@@ -16,7 +16,7 @@ returns-clause-prepared c =
     let Owners : List Suspect → Type 0 = λ ss. AreOwners t ss c.in_ok-owners.owners in
     let owned : AreOwners t found c.in_ok-owners.owners = subst Owners c.as_slice-2.ensures c.in_ok-owners.ensures.groups in
     record {
-      good = c.in_ok-good.ensures;
+      good = c.requires.good;
       joined = c.requires.joined;
       suspects = c.in_ok-suspects.ensures.each;
       groups = c.in_ok-owners.ensures.len;

@@ -1,0 +1,26 @@
+//! The fault-free rows and responses of a test.
+ghost use Rattle.std.specs.Prelude.{◌≡◌, IfOk};
+ghost use Rattle.scan_model.specs.Response.{expected_rows};
+ghost use Rattle.packed_sim.specs.PackedParts.{BelongsTo};
+
+use expected_values::expected_at_points;
+use packed_sim::PackedGood;
+use scan_model::{Expected, NoMemory, Parts};
+use std::alloc::Global;
+
+/// The fault-free rows and responses of a test.
+#[derive(Drop)]
+pub(crate) struct Simulation {
+    pub good: PackedGood,
+    pub expected: Expected,
+}
+
+/// Makes them.
+pub(crate) fn simulated(alloc: Global, parts: &Parts) -> Result<Simulation, NoMemory>
+    ensures good { IfOk result (λ made. BelongsTo parts.now made.good) }
+    ensures expected { IfOk result (λ made. made.expected ≡ expected_rows parts.now) }
+{
+    let good = PackedGood::make(alloc, parts)?;
+    let expected = expected_at_points(alloc, parts, good.rows())?;
+    Ok(Simulation { good, expected })
+}
