@@ -14,7 +14,7 @@ pub use desk_replies::{
     unknown_line_body, unknown_pattern_body, unknown_revision_body, unknown_sign_body,
 };
 pub use final_replies::SessionEnd;
-pub use report_cache::{ReportCache, WholeReport};
+pub use report_cache::ReportCache;
 pub use sessions::desk_session::{serve_door, session};
 pub use sessions::requests::{SessionNote, session_at};
 pub use sessions::serve::{Served, serve_door_at};

@@ -18,7 +18,7 @@ use crate::methods::Methods;
 use crate::short::ShortText;
 use crate::status::Status;
 use book::{LookFault, Put, PutFault};
-use report_cache::WholeReport;
+use diagnosis::WholeReport;
 use scan_model::{Name, NoMemory};
 use std::marker::Model;
 use std::sync::Arc;

@@ -15,6 +15,7 @@ mod simulation;
 mod source;
 mod texts;
 mod view;
+mod whole;
 
 pub use case::{Case, case_diagnosis, case_report};
 pub use checked::{CheckedView, check_report, make_diagnosis, make_report};
@@ -28,3 +29,4 @@ pub use section::{BundleFault, DesignText, Section};
 pub use source::TextSource;
 pub use texts::{ReadDesign, parts_of, read_from};
 pub use view::DieView;
+pub use whole::WholeReport;

@@ -9,8 +9,7 @@ ghost use Rattle.report_cache.specs.Truth.{IsTrueFor, IsReportIn, fresh_cache, r
 
 use crate::findings::{Findings, share};
 use crate::key::ReportKey;
-use crate::whole::WholeReport;
-use diagnosis::{DieView, make_report};
+use diagnosis::{DieView, WholeReport, make_report};
 use lru::LruCache;
 use scan_model::NoMemory;
 use slat_view::{WholeSlat, whole_slat};

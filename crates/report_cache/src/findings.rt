@@ -3,7 +3,7 @@ ghost use Rattle.std.specs.Prelude.{◌≡◌, Some, None, OnSome};
 ghost use Rattle.std.specs.Option.{option_map};
 ghost use Rattle.std.specs.Arc.{arc_value};
 
-use crate::whole::WholeReport;
+use diagnosis::WholeReport;
 use slat_view::WholeSlat;
 use std::alloc::Global;
 use std::sync::Arc;

@@ -5,7 +5,6 @@
 mod cache;
 mod findings;
 mod key;
-mod whole;
 
 pub use cache::ReportCache;
-pub use whole::WholeReport;
+pub use diagnosis::WholeReport;
