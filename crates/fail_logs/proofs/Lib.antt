@@ -10,7 +10,6 @@ pub mod Accepted
 pub mod Whole
 pub mod FirstFaults
 pub mod CutGroups
-pub mod Marks
 pub mod Before
 pub mod PlainWords
 pub mod GoodFails

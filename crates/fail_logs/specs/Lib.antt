@@ -11,6 +11,5 @@ pub mod LineFacts
 pub mod Places
 pub mod FrameFacts
 pub mod RisingNumbers
-pub mod TestedMarks
 pub mod Groups
 pub mod ReadResultsV1

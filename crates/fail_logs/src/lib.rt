@@ -13,7 +13,6 @@ mod reading;
 mod rules;
 mod tables;
 mod target;
-mod tested;
 
 pub use frame::Frame;
 pub use reading::{read_framed, read_log};

@@ -18,9 +18,9 @@ use crate::number::number;
 use crate::plain::plain_fail;
 use crate::rules::{Headers, later_rule};
 use crate::target::LineTarget;
-use crate::tested::TestedRanges;
 use scan_model::{CutGroup, LogForm, LogVersion, Range, rules};
 use std::alloc::{AllocError, Global};
+use tested_ranges::TestedRanges;
 use text_parts::{fill_words, has_refused_byte};
 
 fn is_title_word(form: LogForm, word: &[u8]) -> bool

@@ -11,8 +11,8 @@ use crate::frame::Frame;
 use crate::line::LogLine;
 use crate::number::number;
 use crate::target::LineTarget;
-use crate::tested::TestedRanges;
 use scan_model::{LogVersion, rules};
+use tested_ranges::TestedRanges;
 
 /// What the headers so far say: whether a `die` and a `design` line came, whether a fail or cut line came, and the tested
 /// patterns.

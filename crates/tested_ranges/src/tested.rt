@@ -18,7 +18,7 @@ pub struct TestedRanges {
 impl Model for TestedRanges {
     ghost use Rattle.std.specs.Prelude.{◌≡◌, List, length};
     ghost use Rattle.scan_model.specs.declared.logs.Range.{Range};
-    ghost use Rattle.fail_logs.specs.TestedMarks.{AreMarked};
+    ghost use Rattle.tested_ranges.specs.TestedMarks.{AreMarked};
 
     ghost Value = { List Range };
 

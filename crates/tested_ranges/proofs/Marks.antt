@@ -6,7 +6,7 @@ use Rattle.std.proofs.lemmas.Nat.Bits.{bit_at-zero}
 use Rattle.scan_model.specs.declared.logs.Range.{Range}
 use Rattle.scan_model.specs.BitTable.{table_bit}
 use Rattle.scan_model.specs.Coverage.{some_holds}
-use Rattle.fail_logs.specs.TestedMarks.{AreMarked}
+use Rattle.tested_ranges.specs.TestedMarks.{AreMarked}
 
 unset : (marks : List ℕ) (w : ℕ) → get_or marks (w / 64 * 1 + 0) 0 ≡ 0 → table_bit marks 1 w 0 ≡ false
 unset marks w is = rw (is, bit_at-zero (w % 64)) refl

@@ -1,0 +1,2 @@
+-- What the contracts of tested patterns say.
+pub mod TestedMarks
