@@ -28,8 +28,8 @@ use Rattle.scan_model.specs.Lines.{pieces}
 use Rattle.scan_model.specs.Words.{is_filled, is_tag}
 use Rattle.scan_model.specs.Classes.{is_conflict, is_masked, is_failing, is_passing}
 use Rattle.scan_model.specs.ReportText.{spaced, line, concatenated, stuck_word, cell_word, bridge_word, branch_words, fault_words, point_words, bit_line, no_fault, candidate_line, bits_in, layout_by_class}
+use Rattle.report_lines.specs.ScoreWords.{score_words}
 use Rattle.diag_report.specs.PredictedLog.{is_word_name, HasWordNames}
-use Rattle.diag_report.specs.Layout.{score_words}
 use Rattle.diag_report.proofs.Bools.{right_true}
 use Rattle.diag_report.proofs.PlainWords.{not_byte, none_in_name, append_all, tag_is_name}
 

@@ -17,11 +17,11 @@ use Rattle.scan_model.specs.ReportText.{bit_line}
 use Rattle.fault_universe.specs.BitRows.{row_bits}
 use Rattle.fault_universe.proofs.BitSteps.{range_more}
 use Rattle.packed_sim.specs.PackedParts.{AreFails}
-use Rattle.diag_report.specs.declared.draft.Draft.{Draft}
-use Rattle.diag_report.specs.LineEnds.{AddsLines}
+use Rattle.report_lines.specs.declared.draft.Draft.{Draft}
+use Rattle.report_lines.specs.LineEnds.{AddsLines}
 use Rattle.diag_report.specs.PredictedLog.{fail_lines}
 use Rattle.diag_report.specs.WordFails.{has_fails, points_with_fails, bits_from}
-use Rattle.diag_report.proofs.LineSteps.{both_added}
+use Rattle.report_lines.proofs.LineSteps.{both_added}
 use Rattle.diag_report.proofs.TallySteps.{block_append}
 
 fail_lines-append : (t : ScanTest) (f : Fault) (xs ys : List Bit) → fail_lines t f (xs ++ ys) ≡ fail_lines t f xs ++ fail_lines t f ys

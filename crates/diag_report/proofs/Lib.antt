@@ -1,5 +1,4 @@
 pub mod Ranked
-mod LineSteps
 mod TallySteps
 mod PageSteps
 mod SummarySteps

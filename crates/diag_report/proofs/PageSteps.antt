@@ -5,7 +5,24 @@ use Rattle.std.proofs.lemmas.List.{length-append, length-drop, take-append-drop,
 use Rattle.std.proofs.lemmas.List.Concat.{flat_map-append}
 use Rattle.std.proofs.Math.Seq.{take-add, take-append_seam, drop-append_seam}
 use Rattle.scan_model.specs.ReportText.{concatenated, page_of}
-use Rattle.diag_report.specs.LineEnds.{ends_from, HasLines}
+use Rattle.report_lines.specs.LineEnds.{ends_from, cut_at, HasLines}
+
+-- ---- a text cut at the places behind its lines
+
+cut_at_ends : (a : ℕ) (ls : List (List ℕ)) → cut_at a (ends_from a ls) (concatenated ls) ≡ ls
+cut_at_ends a [] = refl
+cut_at_ends a (l ∷ ls) =
+    let e : (a + length l) - a ≡ length l = omega arith in
+    rw (e, take-append_seam l (concatenated ls), drop-append_seam l (concatenated ls), cut_at_ends (a + length l) ls) refl
+
+pub cut_is : (lines : List (List ℕ)) (text ends : List ℕ) → HasLines lines text ends → cut_at 0 ends text ≡ lines
+cut_is lines text ends has = rw (has.text_is, has.ends_are) (cut_at_ends 0 lines)
+
+pub length-cut_at : (a : ℕ) (ends text : List ℕ) → length (cut_at a ends text) ≡ length ends
+length-cut_at a [] text = refl
+length-cut_at a (e ∷ es) text = ap (λ (n : ℕ). suc n) (length-cut_at e es (drop (e - a) text))
+
+-- ---- pages
 
 concatenated-append : (ls ms : List (List ℕ)) → concatenated (ls ++ ms) ≡ concatenated ls ++ concatenated ms
 concatenated-append ls ms = flat_map-append (λ piece. piece) ls ms

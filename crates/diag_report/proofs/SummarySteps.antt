@@ -2,10 +2,10 @@
 use Rattle.std.proofs.Common.{◌≡◌, ℕ, ◌+◌, ◌<◌, List, [], ◌∷◌, ◌++◌, length, map, take, get_or, ap, sym, subst, ◌∙◌}
 use Rattle.std.proofs.lemmas.List.{map-append, take_more}
 use Rattle.scan_model.specs.ReportText.{concatenated}
-use Rattle.diag_report.specs.declared.draft.Draft.{Draft}
-use Rattle.diag_report.specs.LineEnds.{AddsLines}
+use Rattle.report_lines.specs.declared.draft.Draft.{Draft}
+use Rattle.report_lines.specs.LineEnds.{AddsLines}
 use Rattle.diag_report.specs.Summary.{count_line}
-use Rattle.diag_report.proofs.LineSteps.{both_added}
+use Rattle.report_lines.proofs.LineSteps.{both_added}
 
 -- one more line with a count
 pub count_added : (ls : List (List ℕ)) (word : List ℕ) (n m : ℕ) (a b c : Draft) → n ≡ m → AddsLines ls a b → AddsLines (count_line word n ∷ []) b c → AddsLines (ls ++ count_line word m ∷ []) a c

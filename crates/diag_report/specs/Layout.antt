@@ -5,11 +5,6 @@ use Rattle.scan_model.specs.declared.logs.Scored.{Scored}
 use Rattle.scan_model.specs.ReportText.{ReportForm, line, named_bit_line, named_candidate_line}
 use Rattle.diag_report.specs.declared.tally.Tally.{Tally}
 
--- the words of a candidate, up to its fault
-abbrev pub score_words : ℕ → Scored → List (List ℕ)
-score_words rank row = codes "candidate" ∷ decimal rank ∷ codes "fault" ∷ decimal row.place
-    ∷ codes "tfsf" ∷ decimal row.counts.tfsf ∷ codes "tfsp" ∷ decimal row.counts.tfsp ∷ codes "tpsf" ∷ decimal row.counts.tpsf ∷ []
-
 abbrev pub title_lines : List ℕ → List ℕ → List ℕ → ℕ → List (List ℕ)
 title_lines title design die count =
     line (title ∷ decimal 1 ∷ [])

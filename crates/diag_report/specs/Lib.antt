@@ -1,5 +1,4 @@
 -- The specs of reports, summaries and predicted logs.
-pub mod LineEnds
 pub mod BitTally
 pub mod Layout
 pub mod Summary

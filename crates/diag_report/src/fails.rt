@@ -9,15 +9,14 @@ ghost use Rattle.scan_model.specs.Words.{is_tag};
 ghost use Rattle.scan_model.specs.LogText.{log_frame, log_reading};
 ghost use Rattle.scan_model.specs.ReportText as text_of;
 ghost use Rattle.packed_sim.specs.PackedParts.{BelongsTo, AreFails};
-ghost use Rattle.diag_report.specs.LineEnds.{AddsLines};
+ghost use Rattle.report_lines.specs.LineEnds.{AddsLines};
 ghost use Rattle.diag_report.specs.PredictedLog as log;
 ghost use Rattle.diag_report.specs.WordFails.{points_with_fails, word_bits};
 
-use crate::draft::{Draft, end_line, new_draft};
-use crate::lines::{bit_line, name_line};
 use crate::names::PartsNames;
 use fault_universe::{fault_at, push_number};
 use packed_sim::{PackedGood, Scratch};
+use report_lines::{Draft, bit_line, end_line, name_line, new_draft};
 use scan_model::{Bit, Fault, Name, NoMemory, Parts, Rows, Steps};
 use std::alloc::Global;
 use std::marker::Brand;
@@ -172,6 +171,26 @@ fn last_line(draft: &mut Draft) -> Result<(), NoMemory>
     end_line(draft)
 }
 
+/// Adds all lines of the log that a fault predicts.
+fn log_lines(
+    alloc: Global,
+    draft: &mut Draft,
+    parts: &Parts,
+    good: &PackedGood,
+    design: &[u8],
+    die: &[u8],
+    fault: &Fault,
+) -> Result<(), NoMemory>
+    requires good { BelongsTo parts.now good.now }
+    requires fault { Contains (universe parts.now) fault.now }
+    ensures lines { OnOk result (AddsLines (log.predicted_lines parts.now design.now die.now fault.now) draft.old draft.new) }
+    ensures fits { IsScanTest parts.now }
+{
+    head(draft, parts, design, die)?;
+    fail_lines::<Brand>(alloc, draft, parts, good, fault, Blank::new(1))?;
+    last_line(draft)
+}
+
 /// The fail log that the fault at a place predicts, over fault-free values that are kept: all patterns are tested, and exactly
 /// its predicted fails are listed. The fault is simulated in 64 patterns at a time; besides it takes time linear in the patterns
 /// and points.
@@ -195,9 +214,7 @@ pub fn fails_text_over(
         unreachable!()
     };
     let mut draft = new_draft(alloc);
-    head(&mut draft, parts, design, die)?;
-    fail_lines::<Brand>(alloc, &mut draft, parts, good, &fault, Blank::new(1))?;
-    last_line(&mut draft)?;
+    log_lines(alloc, &mut draft, parts, good, design, die, &fault)?;
     let Draft { text, .. } = draft;
     Ok(text)
 }

@@ -1,9 +1,7 @@
 //! Ranking of candidates, and the report of a die.
 #![tactic(auto)]
 
-mod draft;
 mod fails;
-mod lines;
 mod names;
 mod ranking;
 mod report;
@@ -12,8 +10,9 @@ mod tally;
 mod text;
 
 pub use fails::{fails_text, fails_text_over};
-pub use names::{ReportNames, push_place, push_point, push_point_words};
+pub use names::{push_place, push_point, push_point_words};
 pub use ranking::rank;
 pub use report::{PastEnd, Report};
+pub use report_lines::ReportNames;
 pub use summary::summary_text;
 pub use text::{Head, make_text, make_text_of};

@@ -1,35 +1,13 @@
-//! The words of a report, and those of the report of a die.
-ghost use Rattle.std.specs.Prelude.{◌≡◌, ℕ, ◌++◌, ◌<◌, length, slice_index_or, OnOk};
+//! The words of the report of a die.
+ghost use Rattle.std.specs.Prelude.{◌≡◌, ◌++◌, ◌<◌, length, slice_index_or, OnOk};
 ghost use Rattle.scan_model.specs.ScanTest.{points_of, point_at, IsPoint};
 ghost use Rattle.scan_model.specs.Universe.{universe};
 ghost use Rattle.scan_model.specs.ReportText as text_of;
 ghost use Rattle.fault_universe.specs.LineWords.{after_spaces};
 
 use fault_universe::{chain_name, fault_at, net_name, push_fault, push_number, push_word};
+use report_lines::ReportNames;
 use scan_model::{Name, NoMemory, Parts, Point};
-
-/// The words of a report: those of its title, of its points and of its faults.
-pub trait ReportNames {
-    ghost form: { Self → text_of.ReportForm };
-
-    ghost points: { Self → ℕ };
-
-    ghost places: { Self → ℕ };
-
-    /// What stands in the first line before the version.
-    fn title(&self) -> &[u8]
-        ensures { result.now ≡ (form self.now).title };
-
-    /// Adds the words of a point, a space before each.
-    fn push_point(&self, line: &mut Name, point: u32) -> Result<(), NoMemory>
-        requires { point < points self.now }
-        ensures { OnOk result (line.new ≡ line.old ++ after_spaces ((form self.now).point point)) };
-
-    /// Adds the words of the fault at a place, a space before each.
-    fn push_place(&self, line: &mut Name, place: u32) -> Result<(), NoMemory>
-        requires { place < places self.now }
-        ensures { OnOk result (line.new ≡ line.old ++ after_spaces ((form self.now).fault place)) };
-}
 
 /// The words over the points of a test and all its modelled faults.
 #[derive(Clone, Copy)]

@@ -2,9 +2,9 @@
 ghost use Rattle.std.specs.Prelude.{◌≡◌, ◌<◌, ◌≤◌, ◌+◌, ◌-◌, ◌*◌, ◌↔◌, List, ℕ, length, take, drop, map, slice_index, IsOk, IfOk, IfErr};
 ghost use Rattle.std.specs.List.{range_with_len};
 ghost use Rattle.scan_model.specs.ReportText as text_of;
-ghost use Rattle.diag_report.specs.LineEnds.{HasLines};
+ghost use Rattle.report_lines.specs.LineEnds.{HasLines};
 
-use crate::draft::Draft;
+use report_lines::Draft;
 use scan_model::{Name, Rows};
 use std::marker::Model;
 
@@ -27,7 +27,7 @@ pub struct Report {
 
 impl Model for Report {
     ghost use Rattle.std.specs.Prelude.{List, ℕ};
-    ghost use Rattle.diag_report.specs.LineEnds.{cut_at, HasLines};
+    ghost use Rattle.report_lines.specs.LineEnds.{cut_at, HasLines};
 
     ghost Value = { List (List ℕ) };
 

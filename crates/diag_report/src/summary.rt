@@ -2,12 +2,11 @@
 ghost use Rattle.std.specs.Prelude.{◌≡◌, ◌++◌, ◌∷◌, [], ◌<◌, length, map, All, IfOk, OnOk};
 ghost use Rattle.scan_model.specs.ScanTest.{cells_of};
 ghost use Rattle.scan_model.specs.ReportText as text_of;
-ghost use Rattle.diag_report.specs.LineEnds.{AddsLines};
+ghost use Rattle.report_lines.specs.LineEnds.{AddsLines};
 ghost use Rattle.diag_report.specs.Summary as summary;
 
-use crate::draft::{Draft, end_line, new_draft};
-use crate::lines::number_line;
 use fault_universe::{net_name, push_number, push_word, universe_len};
+use report_lines::{Draft, end_line, new_draft, number_line};
 use scan_model::{Name, NoMemory, Pair, Parts};
 use std::alloc::Global;
 

@@ -4,7 +4,7 @@ ghost use Rattle.scan_model.specs.declared.logs.LogFacts.{LogFacts};
 ghost use Rattle.scan_model.specs.PatternText.{pattern_limit};
 ghost use Rattle.scan_model.specs.Coverage.{bit_of, bits_over};
 ghost use Rattle.scan_model.specs.Classes.{class_with};
-ghost use Rattle.log_join.specs.Joining.{StandsFor, IsJoinedOf, FitsExpected};
+ghost use Rattle.log_join.specs.Joining.{StandsFor, FitsExpected};
 ghost use Rattle.log_rows.specs.PointRows.{is_on};
 ghost use Rattle.fault_universe.specs.BitRows.{row_bits};
 ghost use Rattle.diag_report.specs.BitTally.{tally_over, word_block, listed, listed_over, HaveSameAside, IsTallyOf};

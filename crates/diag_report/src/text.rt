@@ -1,6 +1,5 @@
 //! The text of a report, head first.
-ghost use Rattle.std.specs.Prelude.{◌≡◌, ◌<◌, ◌≤◌, [], List, All, map, length, IfOk, OnOk};
-ghost use Rattle.std.specs.List.{enumerate_from};
+ghost use Rattle.std.specs.Prelude.{◌≡◌, ◌<◌, ◌≤◌, [], List, All, length, IfOk, OnOk};
 ghost use Rattle.scan_model.specs.declared.logs.LogFacts.{LogFacts};
 ghost use Rattle.scan_model.specs.ScanTest.{points_of};
 ghost use Rattle.scan_model.specs.PatternText.{pattern_limit};
@@ -9,16 +8,17 @@ ghost use Rattle.scan_model.specs.Classes.{class_with};
 ghost use Rattle.scan_model.specs.Universe.{universe};
 ghost use Rattle.scan_model.specs.ReportText as text_of;
 ghost use Rattle.log_join.specs.Joining.{StandsFor, IsJoinedOf, FitsExpected};
-ghost use Rattle.diag_report.specs.LineEnds.{AddsLines, HasLines};
+ghost use Rattle.report_lines.specs.LineEnds.{AddsLines, HasLines};
 ghost use Rattle.diag_report.specs.Layout.{title_lines, total_lines, layout};
 
-use crate::draft::{Draft, draft_with_room};
-use crate::lines::{bit_line, candidate_line, name_line, number_line};
-use crate::names::{PartsNames, ReportNames};
+use crate::names::PartsNames;
 use crate::report::{Report, finished};
 use crate::tally::{Tally, tally_bits};
 use log_join::Joined;
-use scan_model::{Bit, Expected, Name, NoMemory, Parts, Rows, Scored};
+use report_lines::{
+    Draft, ReportNames, bit_lines, candidate_lines, draft_with_room, name_line, number_line,
+};
+use scan_model::{Expected, Name, NoMemory, Parts, Rows, Scored};
 use std::alloc::Global;
 
 /// About the bytes of a line that names a bit, and of the line of a candidate.
@@ -51,35 +51,6 @@ fn totals(draft: &mut Draft, tally: &Tally, candidates: u64) -> Result<(), NoMem
     number_line(draft, b"conflicts", tally.conflict.len() as u64)?;
     number_line(draft, b"masked", tally.masked.len() as u64)?;
     number_line(draft, b"candidates", candidates)
-}
-
-fn bit_lines<N: ReportNames>(
-    draft: &mut Draft,
-    names: &N,
-    word: &[u8],
-    bits: &[Bit],
-) -> Result<(), NoMemory>
-    requires { All (λ b. b.point < N.points names.now) bits.now }
-    ensures { OnOk result (AddsLines (map (text_of.named_bit_line (N.form names.now) word.now) bits.now) draft.old draft.new) }
-{
-    for i in 0..bits.len() {
-        bit_line(draft, names, word, &bits[i])?;
-    }
-    Ok(())
-}
-
-fn candidate_lines<N: ReportNames>(
-    draft: &mut Draft,
-    names: &N,
-    rows: &[Scored],
-) -> Result<(), NoMemory>
-    requires { All (λ row. row.place < N.places names.now) rows.now }
-    ensures { OnOk result (AddsLines (map (text_of.named_candidate_line (N.form names.now)) (enumerate_from 1 rows.now)) draft.old draft.new) }
-{
-    for i in 0..rows.len() {
-        candidate_line(draft, names, i as u64 + 1, &rows[i])?;
-    }
-    Ok(())
 }
 
 /// An empty report, with about the room that so many lines of bits and of candidates take after the nine of its head.

@@ -1,7 +1,7 @@
 use Rattle.std.proofs.Common.{◌≡◌, ℕ, ◌+◌, ◌-◌, ◌*◌, ◌<◌, length, ap, subst, arith}
 use Rattle.std.specs.Prelude.{min}
 use Rattle.fault_universe.specs.BitRows.{bits_upto}
-use Rattle.diag_report.specs.LineEnds.{AddsLines}
+use Rattle.report_lines.specs.LineEnds.{AddsLines}
 use Rattle.diag_report.specs.PredictedLog.{fail_lines}
 use Rattle.diag_report.specs.WordFails.{bits_from}
 use Rattle.diag_report.proofs.FailSteps.{patterns_listed}

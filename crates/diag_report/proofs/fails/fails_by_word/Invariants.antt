@@ -3,7 +3,7 @@ use Rattle.std.specs.Prelude.{min}
 use Rattle.scan_model.specs.ScanTest.{points_of}
 use Rattle.packed_sim.specs.PackedParts.{IsScratchOf}
 use Rattle.fault_universe.specs.BitRows.{bits_upto}
-use Rattle.diag_report.specs.LineEnds.{AddsLines}
+use Rattle.report_lines.specs.LineEnds.{AddsLines}
 use Rattle.diag_report.specs.PredictedLog.{fail_lines}
 use Rattle.diag_report.proofs.fails.fails_by_word.Given as goal
 

@@ -2,9 +2,9 @@ use Rattle.std.proofs.Common.{◌∷◌, [], ◌-◌, ap, length, subst, ◌∙�
 use Rattle.std.specs.Prelude.{codes}
 use Rattle.std.proofs.lemmas.Result.{on_ok_weaker}
 use Rattle.scan_model.specs.ReportText.{line}
-use Rattle.diag_report.specs.LineEnds.{AddsLines}
+use Rattle.report_lines.specs.LineEnds.{AddsLines}
 use Rattle.diag_report.specs.PredictedLog.{tested_words, last_pattern}
-use Rattle.diag_report.proofs.LineSteps.{both_added}
+use Rattle.report_lines.proofs.LineSteps.{both_added}
 use Rattle.diag_report.proofs.fails.head.Goals as goal
 
 pub returns-clause-lines : goal.returns-clause-lines

@@ -1,5 +1,5 @@
 use Rattle.std.specs.Prelude.{codes}
-use Rattle.diag_report.proofs.LineSteps.{line_ended}
+use Rattle.report_lines.proofs.LineSteps.{line_ended}
 use Rattle.diag_report.proofs.fails.last_line.Goals as goal
 
 pub returns : goal.returns

@@ -1,8 +1,8 @@
 use Rattle.std.proofs.Common.{◌≡◌, ◌+◌, map, take, get_or, sym, subst, ◌∙◌}
 use Rattle.scan_model.specs.Coverage.{bit_of}
 use Rattle.scan_model.specs.Response.{predicts_fail}
-use Rattle.diag_report.specs.declared.draft.Draft.{Draft}
-use Rattle.diag_report.specs.LineEnds.{AddsLines}
+use Rattle.report_lines.specs.declared.draft.Draft.{Draft}
+use Rattle.report_lines.specs.LineEnds.{AddsLines}
 use Rattle.diag_report.specs.PredictedLog.{fail_lines}
 use Rattle.diag_report.proofs.FailSteps.{bit_tells, bit_listed, bit_skipped}
 use Rattle.diag_report.proofs.fails.pattern_fails.Goals.{then-has_bit+in_ok-bit_line, else-has_bit}

@@ -2,7 +2,7 @@ use Rattle.std.proofs.Common.{◌/◌, map, take}
 use Rattle.scan_model.specs.declared.fault.Fault.{Fault}
 use Rattle.scan_model.specs.Coverage.{bit_of}
 use Rattle.packed_sim.specs.PackedParts.{AreFails}
-use Rattle.diag_report.specs.LineEnds.{AddsLines}
+use Rattle.report_lines.specs.LineEnds.{AddsLines}
 use Rattle.diag_report.specs.PredictedLog.{fail_lines}
 use Rattle.diag_report.proofs.fails.pattern_fails.Given as goal
 

@@ -3,7 +3,7 @@ use Rattle.std.specs.Prelude.{All, min}
 use Rattle.scan_model.specs.ScanTest.{points_of}
 use Rattle.scan_model.specs.Coverage.{bit_of}
 use Rattle.packed_sim.specs.PackedParts.{AreFails}
-use Rattle.diag_report.specs.LineEnds.{AddsLines}
+use Rattle.report_lines.specs.LineEnds.{AddsLines}
 use Rattle.diag_report.specs.PredictedLog.{fail_lines}
 use Rattle.diag_report.specs.WordFails.{points_with_fails, bits_from}
 use Rattle.diag_report.proofs.FailSteps.{points_inside, row_of_points, one_pattern, patterns_listed}

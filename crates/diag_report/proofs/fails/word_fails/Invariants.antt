@@ -1,7 +1,7 @@
 use Rattle.std.proofs.Common.{◌*◌, ◌-◌}
 use Rattle.scan_model.specs.declared.fault.Fault.{Fault}
 use Rattle.packed_sim.specs.PackedParts.{AreFails}
-use Rattle.diag_report.specs.LineEnds.{AddsLines}
+use Rattle.report_lines.specs.LineEnds.{AddsLines}
 use Rattle.diag_report.specs.PredictedLog.{fail_lines}
 use Rattle.diag_report.specs.WordFails.{bits_from}
 use Rattle.diag_report.proofs.fails.word_fails.Given as goal

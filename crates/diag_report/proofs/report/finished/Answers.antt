@@ -1,6 +1,6 @@
 use Rattle.std.proofs.Common.{List, ℕ, sym, subst}
-use Rattle.diag_report.specs.LineEnds.{HasLines}
-use Rattle.diag_report.proofs.LineSteps.{cut_is}
+use Rattle.report_lines.specs.LineEnds.{HasLines}
+use Rattle.diag_report.proofs.PageSteps.{cut_is}
 use Rattle.diag_report.proofs.report.finished.Goals as goal
 
 pub invariant_of-result : goal.invariant_of-result

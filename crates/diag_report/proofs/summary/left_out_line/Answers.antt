@@ -1,6 +1,6 @@
 use Rattle.scan_model.specs.ReportText.{spaced}
 use Rattle.diag_report.specs.Summary.{left_out_words}
-use Rattle.diag_report.proofs.LineSteps.{line_ended}
+use Rattle.report_lines.proofs.LineSteps.{line_ended}
 use Rattle.diag_report.proofs.summary.left_out_line.Goals as goal
 
 pub returns : goal.returns

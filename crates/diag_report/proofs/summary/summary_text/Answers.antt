@@ -1,9 +1,9 @@
 use Rattle.std.proofs.Common.{◌++◌, List, map, subst, ap, ◌∙◌, ◌≡◌}
 use Rattle.scan_model.specs.declared.parts.Pair.{Pair}
 use Rattle.scan_model.specs.declared.parts.Pairs.{Pairs}
-use Rattle.diag_report.specs.LineEnds.{AddsLines}
+use Rattle.report_lines.specs.LineEnds.{AddsLines}
 use Rattle.diag_report.specs.Summary.{circuit_lines, test_lines, left_out_line, summary_lines}
-use Rattle.diag_report.proofs.LineSteps.{both_added}
+use Rattle.report_lines.proofs.LineSteps.{both_added}
 use Rattle.diag_report.proofs.SummarySteps.{text_written}
 use Rattle.diag_report.proofs.summary.summary_text.Goals as goal
 

@@ -5,7 +5,7 @@ use Rattle.scan_model.specs.declared.parts.Pairs.{Pairs}
 use Rattle.scan_model.specs.ScanTest.{cells_of}
 use Rattle.scan_model.specs.Universe.{universe}
 use Rattle.diag_report.specs.Summary.{count_line}
-use Rattle.diag_report.proofs.LineSteps.{none_added}
+use Rattle.report_lines.proofs.LineSteps.{none_added}
 use Rattle.diag_report.proofs.SummarySteps.{count_added}
 use Rattle.diag_report.proofs.summary.test_counts.Goals as goal
 

@@ -2,8 +2,8 @@ use Rattle.std.proofs.Common.{◌∷◌, [], length}
 use Rattle.std.specs.Prelude.{codes, decimal}
 use Rattle.std.proofs.lemmas.Result.{on_ok_weaker}
 use Rattle.scan_model.specs.ReportText.{line}
-use Rattle.diag_report.specs.LineEnds.{AddsLines}
-use Rattle.diag_report.proofs.LineSteps.{both_added}
+use Rattle.report_lines.specs.LineEnds.{AddsLines}
+use Rattle.report_lines.proofs.LineSteps.{both_added}
 use Rattle.diag_report.proofs.text.totals.Goals as goal
 
 pub returns : goal.returns

@@ -1,13 +1,21 @@
-use Rattle.std.proofs.Common.{ℕ, List, length, map, subst}
+use Rattle.std.proofs.Common.{◌≡◌, ℕ, List, [], ◌++◌, length, map, subst}
 use Rattle.std.specs.Prelude.{codes}
 use Rattle.std.specs.List.{enumerate_from}
 use Rattle.std.proofs.lemmas.Result.{on_ok_weaker}
 use Rattle.scan_model.specs.declared.logs.Bit.{Bit}
 use Rattle.scan_model.specs.ReportText.{named_bit_line, named_candidate_line}
-use Rattle.diag_report.specs.LineEnds.{AddsLines}
+use Rattle.report_lines.specs.declared.draft.Draft.{Draft}
+use Rattle.report_lines.specs.LineEnds.{HasLines, AddsLines}
 use Rattle.diag_report.specs.Layout.{title_lines, total_lines}
-use Rattle.diag_report.proofs.LineSteps.{five_added}
+use Rattle.report_lines.proofs.LineSteps.{both_added}
 use Rattle.diag_report.proofs.text.write_lines.Goals as goal
+
+-- five parts of a text that is empty before
+five_added : (qs bs cs ds es : List (List ℕ)) (d0 d1 d2 d3 d4 d5 : Draft) → d0.text ≡ [] → d0.ends ≡ [] → AddsLines qs d0 d1 → AddsLines bs d1 d2 → AddsLines cs d2 d3 → AddsLines ds d3 d4 → AddsLines es d4 d5
+    → HasLines (qs ++ (bs ++ ((cs ++ ds) ++ es))) d5.text d5.ends
+five_added qs bs cs ds es d0 d1 d2 d3 d4 d5 no_text no_ends a b c d e =
+    let lower = both_added bs ((cs ++ ds) ++ es) d1 d2 d5 b (both_added (cs ++ ds) es d2 d4 d5 (both_added cs ds d2 d3 d4 c d) e) in
+    (both_added qs (bs ++ ((cs ++ ds) ++ es)) d0 d1 d5 a lower).added [] (record { text_is = no_text; ends_are = no_ends })
 
 pub returns : goal.returns
 returns g c =

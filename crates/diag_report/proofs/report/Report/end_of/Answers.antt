@@ -1,7 +1,6 @@
 use Rattle.std.proofs.Common.{List, ℕ, length, get_or, ◌-◌, ap, subst, ◌∙◌, arith}
-use Rattle.diag_report.specs.LineEnds.{HasLines}
-use Rattle.diag_report.proofs.LineSteps.{length-cut_at}
-use Rattle.diag_report.proofs.PageSteps.{end_is}
+use Rattle.report_lines.specs.LineEnds.{HasLines}
+use Rattle.diag_report.proofs.PageSteps.{length-cut_at, end_is}
 use Rattle.diag_report.proofs.report.Report.end_of.Goals as goal
 
 pub end_behind-requires : goal.end_behind-requires

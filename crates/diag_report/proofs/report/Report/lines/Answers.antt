@@ -1,5 +1,5 @@
 use Rattle.std.proofs.Common.{sym, ap, length, ◌∙◌}
-use Rattle.diag_report.proofs.LineSteps.{length-cut_at}
+use Rattle.diag_report.proofs.PageSteps.{length-cut_at}
 use Rattle.diag_report.proofs.report.Report.lines.Goals as goal
 
 pub returns : goal.returns

@@ -1,10 +1,10 @@
 use Rattle.std.proofs.Common.{◌≡◌, ◌∷◌, ◌++◌, [], ◌∙◌}
 use Rattle.std.specs.Prelude.{codes, decimal}
 use Rattle.scan_model.specs.ReportText.{spaced}
-use Rattle.diag_report.specs.Layout.{score_words}
+use Rattle.report_lines.specs.ScoreWords.{score_words}
 use Rattle.fault_universe.proofs.SpacedWords.{words_more}
-use Rattle.diag_report.proofs.LineSteps.{line_ended}
-use Rattle.diag_report.proofs.lines.candidate_line.Goals as goal
+use Rattle.report_lines.proofs.LineSteps.{line_ended}
+use Rattle.report_lines.proofs.lines.candidate_line.Goals as goal
 
 pub returns : goal.returns
 returns g c =

@@ -1,6 +1,6 @@
 -- A text with the places behind its lines.
 use Rattle.std.specs.Prelude.{◌≡◌, ℕ, ◌+◌, ◌-◌, List, [], ◌∷◌, ◌++◌, length, take, drop}
-use Rattle.diag_report.specs.declared.draft.Draft.{Draft}
+use Rattle.report_lines.specs.declared.draft.Draft.{Draft}
 use Rattle.scan_model.specs.ReportText.{concatenated}
 
 -- the places behind each of some lines that begin at a place

@@ -1,6 +1,6 @@
 use Rattle.scan_model.specs.ReportText.{named_candidate_line}
-use Rattle.diag_report.proofs.LineSteps.{numbered_more}
-use Rattle.diag_report.proofs.text.candidate_lines.Goals as goal
+use Rattle.report_lines.proofs.LineSteps.{numbered_more}
+use Rattle.report_lines.proofs.lines.candidate_lines.Goals as goal
 
 pub loop-i-preserved : goal.loop-i-preserved
 loop-i-preserved g c =

@@ -2,8 +2,8 @@ use Rattle.std.proofs.Common.{◌≡◌, ◌∷◌, ◌++◌, ◌∙◌}
 use Rattle.std.specs.Prelude.{decimal}
 use Rattle.scan_model.specs.ReportText.{spaced}
 use Rattle.fault_universe.proofs.SpacedWords.{words_are}
-use Rattle.diag_report.proofs.LineSteps.{line_ended}
-use Rattle.diag_report.proofs.lines.bit_line.Goals as goal
+use Rattle.report_lines.proofs.LineSteps.{line_ended}
+use Rattle.report_lines.proofs.lines.bit_line.Goals as goal
 
 pub returns : goal.returns
 returns g c =

@@ -6,13 +6,14 @@ use std::alloc::Global;
 
 /// A text while it is written, with the place behind each of its lines.
 #[derive(Drop)]
-pub(crate) struct Draft {
-    pub(crate) text: Name,
-    pub(crate) ends: Rows<usize>,
+pub struct Draft {
+    pub text: Name,
+    /// The place behind each line feed.
+    pub ends: Rows<usize>,
 }
 
 /// An empty text.
-pub(crate) fn new_draft(alloc: Global) -> Draft
+pub fn new_draft(alloc: Global) -> Draft
     ensures text { result.text ≡ [] }
     ensures ends { result.ends ≡ [] }
 {
@@ -23,7 +24,7 @@ pub(crate) fn new_draft(alloc: Global) -> Draft
 }
 
 /// An empty text with room for so many bytes and lines; more of either takes more memory.
-pub(crate) fn draft_with_room(alloc: Global, bytes: usize, lines: usize) -> Result<Draft, NoMemory>
+pub fn draft_with_room(alloc: Global, bytes: usize, lines: usize) -> Result<Draft, NoMemory>
     ensures text { IfOk result (λ draft. draft.text ≡ []) }
     ensures ends { IfOk result (λ draft. draft.ends ≡ []) }
 {
@@ -36,7 +37,7 @@ pub(crate) fn draft_with_room(alloc: Global, bytes: usize, lines: usize) -> Resu
 }
 
 /// Ends a line whose words are written.
-pub(crate) fn end_line(draft: &mut Draft) -> Result<(), NoMemory>
+pub fn end_line(draft: &mut Draft) -> Result<(), NoMemory>
     ensures text { OnOk result (draft.new.text ≡ draft.old.text ++ 10 ∷ []) }
     ensures ends { OnOk result (draft.new.ends ≡ draft.old.ends ++ length draft.new.text ∷ []) }
 {

@@ -1,7 +1,7 @@
 use Rattle.std.proofs.Common.{◌≡◌, ◌∷◌, ◌++◌, [], append_assoc, ◌∙◌}
 use Rattle.scan_model.specs.ReportText.{spaced}
-use Rattle.diag_report.proofs.LineSteps.{line_ended}
-use Rattle.diag_report.proofs.lines.name_line.Goals as goal
+use Rattle.report_lines.proofs.LineSteps.{line_ended}
+use Rattle.report_lines.proofs.lines.name_line.Goals as goal
 
 pub returns : goal.returns
 returns c =

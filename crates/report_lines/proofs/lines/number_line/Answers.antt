@@ -1,8 +1,8 @@
 use Rattle.std.proofs.Common.{◌≡◌, ◌∷◌, ◌++◌, [], append_assoc, ◌∙◌}
 use Rattle.std.specs.Prelude.{decimal}
 use Rattle.scan_model.specs.ReportText.{spaced}
-use Rattle.diag_report.proofs.LineSteps.{line_ended}
-use Rattle.diag_report.proofs.lines.number_line.Goals as goal
+use Rattle.report_lines.proofs.LineSteps.{line_ended}
+use Rattle.report_lines.proofs.lines.number_line.Goals as goal
 
 pub returns : goal.returns
 returns c =

@@ -1,4 +1,4 @@
-use Rattle.diag_report.proofs.fails.fails_text_over.Given as goal
+use Rattle.diag_report.proofs.fails.log_lines.Given as goal
 
 abbrev pub ghosts-fail_lines : goal.ghosts-fail_lines
 ghosts-fail_lines a = record { name = a.blank.name; parts = a.blank.parts }
