@@ -15,6 +15,7 @@ mod dies;
 mod making;
 mod places;
 mod ready;
+mod room;
 
 use self::deeds::Deeds;
 use self::designs::Designs;
@@ -23,6 +24,7 @@ use self::dies::Dies;
 use self::making::{deed_of_sign, design_deed, log_deed};
 pub use self::making::{made_design_deed, made_log_deed};
 use self::ready::{ReadyDesign, ReadyLog, ReadySign};
+use self::room::{log_room, sign_room};
 use desk_outside::Deed;
 use diagnosis::{Design, ReadLog};
 use die_entries::Sign;
@@ -156,9 +158,7 @@ impl BookState {
     {
         let deed = log_deed(self.alloc, by, log, made)?;
         let kept = Arc::try_clone(log)?;
-        self.deeds.reserve()?;
-        let place = self.dies.find_or_make(log.design(), log.die())?;
-        self.dies.reserve_log(place)?;
+        let place = log_room(&mut self.deeds, &mut self.dies, log.design(), log.die())?;
         Ok(ReadyLog {
             deed,
             place,
@@ -189,11 +189,7 @@ impl BookState {
         ensures ready { IfOk result (IsReadySign self.new) }
     {
         let deed = deed_of_sign(self.alloc, by, design, die, &sign)?;
-        let Some(place) = self.dies.find(design, die)? else {
-            unreachable!()
-        };
-        self.deeds.reserve()?;
-        self.dies.reserve_sign(place)?;
+        let place = sign_room(&mut self.deeds, &mut self.dies, design, die)?;
         Ok(ReadySign { deed, place, sign })
     }
 

@@ -47,19 +47,11 @@ fn number_in<S: Alter>(conn: &mut Connection<S>) -> Result<i64, KeepFault> {
     }
 }
 
-// The database in a file.
-fn database(rt: &HostRuntime, name: &str) -> Result<Connection<FileStore<File>>, KeepFault> {
-    match Connection::open(rt, name) {
-        Ok(conn) => Ok(conn),
-        Err(error) => Err(fault_of(&error)),
-    }
-}
-
-// A keeper over a database with its tables.
-fn opened(rt: &HostRuntime, name: &str) -> Result<SqliteKeeper, KeepFault>
+// A keeper over an open database, with its tables.
+fn keeper_over<S: Alter + Drop>(conn: Connection<S>) -> Result<SqliteKeeper<S>, KeepFault>
     ensures { IfOk result (λ keeper. keeper.faults ≡ 0) }
 {
-    let mut conn = database(rt, name)?;
+    let mut conn = conn;
     // Where it isn't made ready it is let go and not closed, since that would write into its file
     // what is beside it.
     let next = number_in(&mut conn)?;
@@ -68,6 +60,25 @@ fn opened(rt: &HostRuntime, name: &str) -> Result<SqliteKeeper, KeepFault>
         next,
         faults: 0,
     })
+}
+
+// A keeper over a database, where it was opened.
+fn keeper_of<S: Alter + Drop>(
+    opened: Result<Connection<S>, Error>,
+) -> Result<SqliteKeeper<S>, KeepFault>
+    ensures { IfOk result (λ keeper. keeper.faults ≡ 0) }
+{
+    match opened {
+        Ok(conn) => keeper_over(conn),
+        Err(error) => Err(fault_of(&error)),
+    }
+}
+
+// A keeper over the database in a file. (The type of a file's database is long: what is done with one is said for any.)
+fn opened(rt: &HostRuntime, name: &str) -> Result<SqliteKeeper, KeepFault>
+    ensures { IfOk result (λ keeper. keeper.faults ≡ 0) }
+{
+    keeper_of(Connection::open(rt, name))
 }
 
 // What the database wrote beside its file goes into it here; where that fails, the next opening does it.

@@ -122,21 +122,29 @@ fn sign_at<S: Alter>(conn: &mut Connection<S>, n: i64) -> Result<Option<Deed>, R
     sign_of(rows.first())
 }
 
-// The one that is there of two at most.
-fn one_of(first: Option<Deed>, second: Option<Deed>) -> Result<Option<Deed>, ReadStop> {
-    if second.is_none() {
-        return Ok(first);
+// The deed, where no other was found.
+fn alone(other: Option<Deed>, deed: Deed) -> Result<Option<Deed>, ReadStop> {
+    match other {
+        None => Ok(Some(deed)),
+        Some(_) => Err(ReadStop::NoDeed),
     }
-    if first.is_none() {
-        return Ok(second);
+}
+
+// The one that is there of two at most, of which the second was sought last.
+fn one_of(
+    first: Option<Deed>,
+    second: Result<Option<Deed>, ReadStop>,
+) -> Result<Option<Deed>, ReadStop> {
+    match second {
+        Ok(Some(deed)) => alone(first, deed),
+        Ok(None) => Ok(first),
+        Err(stop) => Err(stop),
     }
-    Err(ReadStop::NoDeed)
 }
 
 /// The deed of a number, sought in the three tables.
 pub fn deed_at<S: Alter>(conn: &mut Connection<S>, n: i64) -> Result<Option<Deed>, ReadStop> {
     let design = design_at(conn, n)?;
-    let log = log_at(conn, n)?;
-    let sign = sign_at(conn, n)?;
-    one_of(one_of(design, log)?, sign)
+    let design_or_log = one_of(design, log_at(conn, n))?;
+    one_of(design_or_log, sign_at(conn, n))
 }

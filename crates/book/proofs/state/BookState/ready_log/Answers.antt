@@ -1,4 +1,4 @@
-use Rattle.std.proofs.Common.{◌≡◌, ◌<◌, ◌∙◌, sym, ap, subst, true, Some, length}
+use Rattle.std.proofs.Common.{◌≡◌, ◌∙◌, sym, ap, subst, true, Some}
 use Rattle.std.specs.List.{position}
 use Rattle.std.specs.Arc.{arc_value}
 use Rattle.book.specs.LegalDeeds.{fits}
@@ -6,46 +6,36 @@ use Rattle.book.specs.Kinds.{log_deed}
 use Rattle.book.specs.Dies.{is_die}
 use Rattle.book.specs.State.{StateFacts, IsState}
 use Rattle.scan_model.specs.Words.{is_tag}
-use Rattle.book.proofs.NumberedDesign.{position_at}
 use Rattle.book.proofs.OfDies.{design_is_there}
-use Rattle.book.proofs.Keeping.{IsState-alike, IsState-roomy}
+use Rattle.book.proofs.Keeping.{IsState-alike}
 use Rattle.book.proofs.Readying.{log_ready}
 use Rattle.book.proofs.state.BookState.ready_log.Goals as goal
 
-pub find_or_make-requires : goal.find_or_make-requires
-find_or_make-requires c =
+pub log_room-requires : goal.log_room-requires
+log_room-requires c =
     let fit : fits c.self.inside.deeds.list (log_deed c.args.by (arc_value c.args.log.now)).what ≡ true =
     subst (λ (k : StateFacts). fits k.deeds (log_deed c.args.by (arc_value c.args.log.now)).what ≡ true) (sym c.self.view_is) c.requires.fits in
     let there = design_is_there c.self.inside.deeds.list c.args.by (arc_value c.args.log.now) fit in
     ap is_tag (c.design.ensures ∙ ap (λ l. l.design) c.deref-2.ensures) ∙ c.self.invariant.tags (arc_value c.args.log.now).design there.0 there.1
 
-pub reserve_log-requires : goal.reserve_log-requires
-reserve_log-requires c =
-    (position_at (is_die c.design.result.now c.die.result.now) c.find_or_make.new.self c.in_ok-place.place c.in_ok-place.ensures.place).1
-
-pub invariant_of-self-in_err-place : goal.invariant_of-self-in_err-place
-invariant_of-self-in_err-place c =
-    subst (λ ds. IsState ds c.self.inside.designs.list c.find_or_make.new.self) (sym c.reserve.ensures.list)
-    (IsState-alike c.self.inside.deeds.list c.self.inside.designs.list c.self.inside.dies c.find_or_make.new.self c.find_or_make.ensures.logs c.find_or_make.ensures.signs c.self.invariant)
-
-pub invariant_of-self-in_err-reserve_log : goal.invariant_of-self-in_err-reserve_log
-invariant_of-self-in_err-reserve_log c =
-    IsState-roomy c.self.inside.deeds.list c.reserve.new.self.list c.self.inside.designs.list c.find_or_make.new.self c.reserve_log.new.self c.reserve.ensures.list c.reserve_log.ensures.same
-    (IsState-alike c.self.inside.deeds.list c.self.inside.designs.list c.self.inside.dies c.find_or_make.new.self c.find_or_make.ensures.logs c.find_or_make.ensures.signs c.self.invariant)
+pub invariant_of-self : goal.invariant_of-self
+invariant_of-self c =
+    subst (λ ds. IsState ds c.self.inside.designs.list c.log_room.new.dies) (sym c.log_room.ensures.deeds)
+    (IsState-alike c.self.inside.deeds.list c.self.inside.designs.list c.self.inside.dies c.log_room.new.dies c.log_room.ensures.logs c.log_room.ensures.signs c.self.invariant)
 
 pub invariant_of-self-2 : goal.invariant_of-self-2
 invariant_of-self-2 c =
-    IsState-roomy c.self.inside.deeds.list c.reserve.new.self.list c.self.inside.designs.list c.find_or_make.new.self c.reserve_log.new.self c.reserve.ensures.list c.reserve_log.ensures.same
-    (IsState-alike c.self.inside.deeds.list c.self.inside.designs.list c.self.inside.dies c.find_or_make.new.self c.find_or_make.ensures.logs c.find_or_make.ensures.signs c.self.invariant)
+    subst (λ ds. IsState ds c.self.inside.designs.list c.log_room.new.dies) (sym c.log_room.ensures.deeds)
+    (IsState-alike c.self.inside.deeds.list c.self.inside.designs.list c.self.inside.dies c.log_room.new.dies c.log_room.ensures.logs c.log_room.ensures.signs c.self.invariant)
 
 pub returns-clause-ready : goal.returns-clause-ready
 returns-clause-ready c =
     let log = arc_value c.args.log.now in
-    let place : position (is_die log.design log.die) c.find_or_make.new.self ≡ Some c.in_ok-place.place =
-    subst (λ n. position (is_die n log.die) c.find_or_make.new.self ≡ Some c.in_ok-place.place) (c.design.ensures ∙ ap (λ l. l.design) c.deref-2.ensures)
-    (subst (λ n. position (is_die c.design.result.now n) c.find_or_make.new.self ≡ Some c.in_ok-place.place) (c.die.ensures.value ∙ ap (λ l. l.die) c.deref-3.ensures)
+    let place : position (is_die log.design log.die) c.log_room.new.dies ≡ Some c.in_ok-place.place =
+    subst (λ n. position (is_die n log.die) c.log_room.new.dies ≡ Some c.in_ok-place.place) (c.design.ensures ∙ ap (λ l. l.design) c.deref-2.ensures)
+    (subst (λ n. position (is_die c.design.result.now n) c.log_room.new.dies ≡ Some c.in_ok-place.place) (c.die.ensures.value ∙ ap (λ l. l.die) c.deref-3.ensures)
     c.in_ok-place.ensures.place) in
     log_ready c.args.self.now _ c.args.by log _ c.requires.fits c.requires.stands
-    (c.reserve.ensures.list ∙ ap (λ (k : StateFacts). k.deeds) c.self.view_is)
-    (c.in_ok-deed.ensures ∙ ap (log_deed c.args.by) c.deref.ensures) c.in_ok-kept.ensures c.in_ok-reserve.ensures.room
-    (c.reserve_log.ensures.same.places log.design log.die ∙ place) c.in_ok-reserve_log.ensures.room
+    (c.log_room.ensures.deeds ∙ ap (λ (k : StateFacts). k.deeds) c.self.view_is)
+    (c.in_ok-deed.ensures ∙ ap (log_deed c.args.by) c.deref.ensures) c.in_ok-kept.ensures c.in_ok-place.ensures.room
+    place c.in_ok-place.ensures.log_room
