@@ -296,6 +296,13 @@ the_predicted() {
     "$top/examples/predicted.py" "$program" || wrong=$((wrong + 1))
 }
 
+# The patterns that single faults explain, and the faults of each.
+the_explained() {
+    cd "$work/rows" || exit 1
+    runs=$((runs + 1))
+    "$top/examples/explained.py" "$program" || wrong=$((wrong + 1))
+}
+
 # Stores that are changed by hand between two runs.
 the_stores() {
     cd "$work/bodies" || exit 1
@@ -394,6 +401,7 @@ the_fronts
 the_requests
 the_sessions
 the_predicted
+the_explained
 the_stores
 the_lot
 the_workers

@@ -1,4 +1,4 @@
-//! Tests of what a tester sees through a compactor, beside the definition written out and rows known from outside.
+//! Tests of what a tester sees through a compactor, beside the values of an independent model.
 #![tactic(auto)]
 
 #[cfg(test)]

@@ -1,3 +1,2 @@
-//! The tests: rows known from outside, and the definition written out.
+//! The tests: expected values, beside those of an independent model.
 mod cases;
-mod definition;

@@ -1,5 +1,5 @@
-//! Tests of two-frame patterns: fails and counts of all transition faults of small designs, beside their definition written
-//! out.
+//! Tests of two-frame patterns: fails and counts of all transition faults of a small design, beside those of an independent
+//! model.
 #![tactic(auto)]
 
 #[cfg(test)]

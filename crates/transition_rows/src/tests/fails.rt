@@ -1,27 +1,28 @@
-//! The fails of all transition faults, by their definition.
+//! The fails of all transition faults.
 ghost use Rattle.std.specs.Prelude.{◌≡◌, ◌<◌, length};
 ghost use Rattle.scan_model.specs.ScanTest.{points_of};
 ghost use Rattle.two_frame.specs.TwoFrame.{transitions};
 ghost use Rattle.two_frame.specs.FrameRows.{AllCapture};
 
-use super::design::made;
-use super::frames::{PointValues, first_frame, shown};
-use super::slow::{SlowFault, Values};
-use fault_universe::fault_at;
-use scan_model::{Parts, Steps, Tri};
+use scan_model::{Parts, Steps};
 use std::alloc::Global;
 use std::marker::Brand;
 use std::process::Abort;
 use std::sync::ledger::{Blank, Ledger};
 use two_frame::{FrameGood, FrameScratch, slow_len};
 
-/// Whether a value is 0 where 1 is expected, or the other way round.
-pub(crate) fn is_other(expected: Tri, value: Tri) -> bool {
-    match (expected, value) {
-        (Tri::Zero, Tri::One) | (Tri::One, Tri::Zero) => true,
-        _ => false,
-    }
-}
+// At which points each fault fails in each of the eight patterns, by an independent model: a byte for a fault, with a bit
+// for each of the four points from the lowest on.
+const FAILS: [&[u8]; 8] = [
+    b"@@@@@@G@@@G@@@@@E@A@@@@@@@D@@@@@@@E@A@@@B@@@",
+    b"@@@@@@D@@@D@@@@@@@@@@@@@@@@@@@@@@@D@@@@@@@@@",
+    b"@@@@@@@@K@@@@I@@@@@AB@@@@H@@@@I@@@@@@@@A@@B@",
+    b"@@@@@@@@@B@@@@@@@@@@B@@@@@@@@@@@@@@@@@@@@@@B",
+    b"@@@@@@B@B@@B@@@@@@@@@@@@@@@@@@@@@@@@@@@@@BB@",
+    b"@@@@@@B@K@@B@I@@@@@A@@@@@H@@@@I@@@@@@@@A@BB@",
+    b"@@@@@@@@@@@@@@@@@@@@@@@@@@@@@@@@@@@@@@@@@@@@",
+    b"@@@@@@@B@@@B@@@@@@@@@B@@@@@@@@@@@@@@@@@@@B@@",
+];
 
 /// The points at which a fault fails in a pattern.
 fn fails<L: Ledger>(
@@ -48,73 +49,62 @@ fn fails<L: Ledger>(
     out
 }
 
-/// Whether a row of points says where these values are fails.
-fn are_fails(out: &[bool; 4], expected: &PointValues, values: &PointValues) -> bool {
-    for point in 0..4 {
-        if out[point] != is_other(expected[point], values[point]) {
+/// Whether these are the points of a byte.
+fn are_points(out: &[bool; 4], due: u8) -> bool {
+    let mut left = due;
+    for fails in out {
+        if *fails != (left % 2 == 1) {
             return false;
         }
+        left /= 2;
     }
     true
 }
 
-/// Whether a fault fails in a pattern where it does by the definition.
-fn is_by_definition(
-    rt: &impl Abort,
-    alloc: Global,
-    parts: &Parts,
-    place: u32,
-    pattern: u32,
-    first: &Values,
-    expected: &PointValues,
-) -> bool
+/// Whether a fault fails in a pattern at the points of a byte.
+fn is_due(rt: &impl Abort, alloc: Global, parts: &Parts, place: u32, pattern: u32, due: u8) -> bool
     requires captures { AllCapture parts.now }
     requires place { place < length (transitions parts.now) }
     requires pattern { pattern < length parts.now.patterns }
     requires points { length (points_of parts.now) ≡ 4 }
 {
-    let fault = fault_at(parts, place);
-    let values = shown(parts, SlowFault { fault, first });
     let out = fails::<Brand>(rt, alloc, parts, place, pattern, Blank::new(1));
-    are_fails(&out, expected, &values)
+    are_points(&out, due)
 }
 
-/// Whether all faults fail in a pattern where they do by the definition.
-fn are_by_definition(rt: &impl Abort, alloc: Global, parts: &Parts, pattern: u32) -> bool
+/// Whether all faults fail in a pattern at the points of their bytes.
+fn are_due(rt: &impl Abort, alloc: Global, parts: &Parts, pattern: u32, due: &[u8]) -> bool
     requires captures { AllCapture parts.now }
     requires pattern { pattern < length parts.now.patterns }
     requires points { length (points_of parts.now) ≡ 4 }
 {
-    let first = first_frame(parts, pattern);
-    let none = SlowFault {
-        fault: None,
-        first: &first,
-    };
-    let expected = shown(parts, none);
-    for place in 0..slow_len(parts) {
-        if !is_by_definition(rt, alloc, parts, place, pattern, &first, &expected) {
-            return false;
+    let faults = slow_len(parts);
+    for place in 0..faults {
+        match due.get(place as usize) {
+            Some(points) if is_due(rt, alloc, parts, place, pattern, *points) => {}
+            _ => return false,
         }
     }
-    true
+    due.len() == faults as usize
 }
 
-/// Whether all faults fail in all patterns where they do by the definition.
-fn all_are_by_definition(rt: &impl Abort, alloc: Global, parts: &Parts) -> bool
+/// Whether all faults fail in all patterns at the points of their bytes.
+fn all_are_due(rt: &impl Abort, alloc: Global, parts: &Parts) -> bool
     requires captures { AllCapture parts.now }
     requires points { length (points_of parts.now) ≡ 4 }
 {
     for pattern in 0..parts.patterns().len() as u32 {
-        if !are_by_definition(rt, alloc, parts, pattern) {
+        if !are_due(rt, alloc, parts, pattern, FAILS[pattern as usize % 8]) {
             return false;
         }
     }
     true
 }
 
-#[test]
-fn every_fail_by_definition(rt: HostRuntime) {
-    let parts = made(&rt, rt.alloc());
+/// All faults must fail in all of 72 patterns at the points of their bytes.
+pub(crate) fn every_fail(rt: &impl Abort, alloc: Global, parts: &Parts)
+    requires { AllCapture parts.now }
+{
     assert!(rt; parts.points().len() == 4 && parts.patterns().len() == 72);
-    assert!(rt; all_are_by_definition(&rt, rt.alloc(), &parts));
+    assert!(rt; all_are_due(rt, alloc, parts));
 }
