@@ -1,5 +1,6 @@
 -- Files that are read by the rules of their texts.
-use Rattle.std.proofs.Common.{◌≡◌, ◌≤◌, ℕ, List, length, Some, Result, Ok, Err, refl}
+use Rattle.std.proofs.Common.{◌≡◌, ◌∙◌, ◌≤◌, ℕ, List, length, Some, Result, Ok, Err, refl, sym, ap}
+use Rattle.std.specs.Prelude.{IfOk, IfErr}
 use Rattle.text_parts.specs.declared.fault.ReadFault.{ReadFault}
 use Rattle.text_parts.specs.declared.fault.ReadFault.TheVariants as read_fault
 use Rattle.text_parts.specs.ReadResults.{Gives}
@@ -10,8 +11,8 @@ use Rattle.diagnosis.specs.TextHalts.{ComesTo}
 use Rattle.diagnosis.proofs.Halting.{text_halts}
 use Rattle.desk_commands.specs.declared.files.Stop.{Stop}
 use Rattle.desk_commands.specs.declared.files.Stop.TheVariants.{Refused, Fault, NoMemory}
-use Rattle.desk_commands.specs.FileReadings.{file_limit, file_place, file_reading, for_fault}
-use Rattle.desk_commands.specs.CommandStops.{StopsAt, IsNamed, halt_of}
+use Rattle.desk_commands.specs.FileReadings.{Reading, file_limit, file_place, file_reading, for_fault}
+use Rattle.desk_commands.specs.CommandStops.{Follows, StopsAt, IsNamed, halt_of}
 use Rattle.desk_commands.proofs.FilePlaces.{halts_at, serves_as}
 
 module _ {X : Type 0} (files : List File) (reads : List ℕ → Result X (ℕ × ℕ)) (name : List ℕ) where
@@ -29,3 +30,8 @@ module _ {X : Type 0} (files : List File) (reads : List ℕ → Result X (ℕ ×
   reading_comes view text (Err read_fault.NoMemory) (Err stop) held within fails is = rw is tt
   reading_comes view text (Ok x) (Err stop) held within stands is = absurd is
   reading_comes view text (Err fault) (Ok y) held within fails is = absurd is
+
+-- what is made of texts that serve, where only memory may be short
+pub made_of : {X : Type 0} (reading : Reading X) (x : X) (result : Result X Stop) → reading.outcome ≡ Ok x → IfOk result (λ y. y ≡ x) → IfErr result (λ stop. stop ≡ NoMemory) → Follows result reading
+made_of reading x (Ok y) serves is short = serves ∙ ap Ok (sym is)
+made_of reading x (Err stop) serves is short = rw short tt

@@ -35,5 +35,7 @@ pub fn summary_of<'a, F: Shelf>(
     ensures later { F.faults shelf.old ≤ F.faults shelf.new }
 {
     let design = read_design(alloc, shelf, files)?;
-    summary_over(alloc, &design)
+    let summary = summary_over(alloc, &design);
+    drop(design);
+    summary
 }

@@ -98,8 +98,29 @@ fn text_over(
         → IfOk result (λ text. text ≡ compact_report parts.now compact.now head.now.design head.now.die logs) }
 {
     let good = PackedGood::make(alloc, parts)?;
+    let text = text_of_good(alloc, parts, compact, head, joined, &good);
+    drop(good);
+    text
+}
+
+// That report, over fault-free values.
+fn text_of_good(
+    alloc: Global,
+    parts: &Parts,
+    compact: &Compact,
+    head: &Head,
+    joined: &Joined,
+    good: &PackedGood,
+) -> Result<Name, NoMemory>
+    requires made { IsCompactorOf parts.now compact.now }
+    requires joined { IsJoinedOf (length parts.now.patterns) (length compact.now.points) joined.now }
+    requires stands { StandsForSome joined.now }
+    requires good { BelongsTo parts.now good.now }
+    ensures { (logs : List LogFacts) → StandsFor logs joined.now → head.now.logs ≡ length logs
+        → IfOk result (λ text. text ≡ compact_report parts.now compact.now head.now.design head.now.die logs) }
+{
     let expected = compact_expected_over(alloc, parts, compact, good.rows())?;
-    let mut rows = counts_of(alloc, parts, compact, &good, &expected, joined)?;
+    let mut rows = counts_of(alloc, parts, compact, good, &expected, joined)?;
     rank(&mut rows);
     compact_text(alloc, parts, compact, head, &expected, joined, &rows)
 }
@@ -192,5 +213,7 @@ pub fn compact_report_of<'a, F: Shelf>(
 {
     let read = read_design(alloc, shelf, &order.files)?;
     let parts = read.into_parts();
-    report_over(alloc, shelf, order, &parts)
+    let report = report_over(alloc, shelf, order, &parts);
+    drop(parts);
+    report
 }

@@ -39,23 +39,27 @@ fn report_of_case<'a, R: Threads + Sync, F: Shelf>(
     Ok(report.into_text())
 }
 
-// The report of the logs of an order, over its design.
+// The report of a die of a design that was read, with the logs in the files of these names.
 fn report_over<'a, R: Threads + Sync, F: Shelf>(
     rt: &R,
     alloc: Global,
     shelf: &mut F,
-    order: &Order<'a>,
+    design: &[u8],
+    die: &[u8],
+    names: &[&'a str],
     read: ReadDesign<Name>,
 ) -> Result<Name, Stop<'a>>
-    requires design { is_tag order.now.design.now ≡ true }
-    requires die { is_tag order.now.die.now ≡ true }
-    ensures told { (held : List File) → F.files shelf.old ≡ Some held → Follows result (with_design held (shown_order order.now) (shown_design read)) }
+    requires design { is_tag design.now ≡ true }
+    requires die { is_tag die.now ≡ true }
+    ensures told { (held : List File) (r : Request) → design.now ≡ r.design → die.now ≡ r.die → map (λ name. name.now) names.now ≡ r.logs
+        → F.files shelf.old ≡ Some held → Follows result (with_design held r (shown_design read)) }
     ensures fault { ends_by_fault result ≡ true → Rose (F.faults shelf.old) (F.faults shelf.new) }
     ensures later { F.faults shelf.old ≤ F.faults shelf.new }
 {
-    let (design, die) = (order.design.as_bytes(), order.die.as_bytes());
     let mut case = Case::make(alloc, design, die, read.into_parts())?;
-    report_of_case(rt, alloc, shelf, &mut case, order.logs.as_slice())
+    let report = report_of_case(rt, alloc, shelf, &mut case, names);
+    drop(case);
+    report
 }
 
 /// The report of the files of these names.
@@ -71,6 +75,8 @@ pub fn report_of<'a, R: Threads + Sync, F: Shelf>(
     ensures fault { ends_by_fault result ≡ true → Rose (F.faults shelf.old) (F.faults shelf.new) }
     ensures later { F.faults shelf.old ≤ F.faults shelf.new }
 {
+    let (design, die) = (order.design.as_bytes(), order.die.as_bytes());
+    let names = order.logs.as_slice();
     let read = read_design(alloc, shelf, &order.files)?;
-    report_over(rt, alloc, shelf, order, read)
+    report_over(rt, alloc, shelf, design, die, names, read)
 }

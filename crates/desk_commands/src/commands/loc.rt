@@ -6,11 +6,11 @@ ghost use Rattle.scan_model.specs.declared.logs.LogFacts.{LogFacts};
 ghost use Rattle.scan_model.specs.ScanTest.{points_of};
 ghost use Rattle.log_join.specs.Joining.{StandsFor, IsJoinedOf};
 ghost use Rattle.two_frame.specs.TwoFrame.{frame_report};
-ghost use Rattle.two_frame.specs.FrameRows.{AllCapture};
+ghost use Rattle.two_frame.specs.FrameRows.{AllCapture, IsFrameGood};
 ghost use Rattle.command_words.specs.CommandViews.{shown_order};
 ghost use Rattle.desk_commands.specs.Logs.{StandsForSome};
 ghost use Rattle.desk_commands.specs.CommandStops.{Follows, ends_by_fault};
-ghost use Rattle.desk_commands.specs.Views.{loc_reading};
+ghost use Rattle.desk_commands.specs.Views.{loc_reading, with_launches};
 
 use crate::files::Stop;
 use crate::launches::read_launch_design;
@@ -41,8 +41,27 @@ fn text_over(alloc: Global, parts: &Parts, head: &Head, joined: &Joined) -> Resu
     ensures { (logs : List LogFacts) → StandsFor logs joined.now → head.now.logs ≡ length logs → IfOk result (λ text. text ≡ frame_report parts.now head.now.design head.now.die logs) }
 {
     let good = FrameGood::make(alloc, parts)?;
-    let expected = expected_over(alloc, parts, &good)?;
-    let mut rows = counts_over(alloc, parts, &good, &expected, joined)?;
+    let text = text_of_good(alloc, parts, head, joined, &good);
+    drop(good);
+    text
+}
+
+// That report, over fault-free values.
+fn text_of_good(
+    alloc: Global,
+    parts: &Parts,
+    head: &Head,
+    joined: &Joined,
+    good: &FrameGood,
+) -> Result<Name, NoMemory>
+    requires captures { AllCapture parts.now }
+    requires joined { IsJoinedOf (length parts.now.patterns) (length (points_of parts.now)) joined.now }
+    requires stands { StandsForSome joined.now }
+    requires good { IsFrameGood parts.now good.now }
+    ensures { (logs : List LogFacts) → StandsFor logs joined.now → head.now.logs ≡ length logs → IfOk result (λ text. text ≡ frame_report parts.now head.now.design head.now.die logs) }
+{
+    let expected = expected_over(alloc, parts, good)?;
+    let mut rows = counts_over(alloc, parts, good, &expected, joined)?;
     rank(&mut rows);
     frame_text(alloc, parts, head, &expected, joined, &rows)
 }
@@ -78,6 +97,26 @@ impl<'v> View for LaunchView<'v> {
     }
 }
 
+// The report of the logs of an order on transition faults, over its scan test.
+fn report_over<'a, F: Shelf>(
+    alloc: Global,
+    shelf: &mut F,
+    order: &Order<'a>,
+    parts: &Parts,
+) -> Result<Name, Stop<'a>>
+    requires { AllCapture parts.now }
+    ensures told { (held : List File) → F.files shelf.old ≡ Some held → Follows result (with_launches held (shown_order order.now) parts.now) }
+    ensures fault { ends_by_fault result ≡ true → Rose (F.faults shelf.old) (F.faults shelf.new) }
+    ensures later { F.faults shelf.old ≤ F.faults shelf.new }
+{
+    let view = LaunchView {
+        parts,
+        design: order.design.as_bytes(),
+        die: order.die.as_bytes(),
+    };
+    view_report(alloc, shelf, &view, order.logs.as_slice())
+}
+
 /// The report of the files of these names on transition faults.
 pub fn transition_report_of<'a, F: Shelf>(
     alloc: Global,
@@ -89,10 +128,7 @@ pub fn transition_report_of<'a, F: Shelf>(
     ensures later { F.faults shelf.old ≤ F.faults shelf.new }
 {
     let parts = read_launch_design(alloc, shelf, &order.files)?;
-    let view = LaunchView {
-        parts: &parts,
-        design: order.design.as_bytes(),
-        die: order.die.as_bytes(),
-    };
-    view_report(alloc, shelf, &view, order.logs.as_slice())
+    let report = report_over(alloc, shelf, order, &parts);
+    drop(parts);
+    report
 }

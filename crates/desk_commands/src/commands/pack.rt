@@ -42,5 +42,7 @@ pub fn bundle_of<'a, F: Shelf>(
     ensures later { F.faults shelf.old ≤ F.faults shelf.new }
 {
     let design = read_design(alloc, shelf, files)?;
-    bundle_over(alloc, &design)
+    let bundle = bundle_over(alloc, &design);
+    drop(design);
+    bundle
 }

@@ -1,40 +1,17 @@
-use Rattle.std.proofs.Common.{◌≡◌, ◌∙◌, Err, rules, subst}
+use Rattle.std.proofs.Common.{subst}
 use Rattle.scan_model.specs.Circuits.{IsCircuit}
 use Rattle.scan_model.specs.ScanTest.{scan_test}
-use Rattle.scan_model.specs.ScanText.{scan_reading}
-use Rattle.scan_model.specs.PatternText.{pattern_reading}
-use Rattle.two_frame.specs.TwoFrame.{launch_frame}
-use Rattle.diagnosis.specs.Texts.{value}
-use Rattle.diagnosis.proofs.Halting.{at_halt, halts_after}
 use Rattle.command_words.specs.CommandViews.{shown_files}
-use Rattle.desk_commands.specs.FileReadings.{file_reading}
-use Rattle.desk_commands.specs.CommandStops.{halt_of}
-use Rattle.desk_commands.specs.Views.{no_pairs, over_chains}
-use Rattle.desk_commands.proofs.NoPairs.{no_pairs_fit}
+use Rattle.desk_commands.specs.Views.{no_pairs, over_circuit}
+use Rattle.desk_commands.proofs.ReadFiles.{made_of}
 use Rattle.desk_commands.proofs.launches.parts_behind.Goals as goal
 
-pub returns-in_err-chains-clause-told : goal.returns-in_err-chains-clause-told
-returns-in_err-chains-clause-told g c = λ held e.
-    let is : c.from_residual.result ≡ Err c.in_err-chains.field-0.0 = search rules in
-    let files = shown_files c.args.files.now in
-    let circuit = c.args.netlist.circuit in
-    rw is (at_halt (file_reading held (scan_reading circuit.nets) files.scan) (over_chains held files circuit) (halt_of c.in_err-chains.field-0.0) (c.in_err-chains.ensures.told held e))
+pub parts_of-requires-clause-circuit : goal.parts_of-requires-clause-circuit
+parts_of-requires-clause-circuit g c = subst IsCircuit c.circuit.view_is c.circuit.invariant.circuit
 
-pub returns-in_err-patterns-clause-told : goal.returns-in_err-patterns-clause-told
-returns-in_err-patterns-clause-told g c = λ held e.
-    let is : c.from_residual-in_err-patterns.result ≡ Err c.in_err-patterns.field-0.0 = search rules in
-    let files = shown_files c.args.files.now in
+pub returns-clause-told : goal.returns-clause-told
+returns-clause-told g c = λ held e.
     let circuit = c.args.netlist.circuit in
-    let chains = c.in_ok-chains.chains in
-    let halt = halt_of c.in_err-patterns.field-0.0 in
-    let behind = at_halt (file_reading held (pattern_reading (launch_frame circuit chains)) files.patterns) (λ patterns. value (scan_test files.profile circuit chains patterns no_pairs)) halt
-    (c.in_err-patterns.ensures.told held (c.read_chains.ensures.same ∙ e)) in
-    rw is (halts_after (file_reading held (scan_reading circuit.nets) files.scan) (over_chains held files circuit) chains halt (c.in_ok-chains.ensures.told held e) behind)
-
-pub make-requires : goal.make-requires
-make-requires g c = rw c.no_pairs-pairs.ensures (record {
-  circuit = subst IsCircuit c.circuit.view_is c.circuit.invariant.circuit;
-  chains = c.in_ok-chains.ensures.fits;
-  patterns = c.in_ok-patterns.ensures.fits;
-  pairs = no_pairs_fit c.args.netlist.circuit;
-})
+    let over = c.in_ok-over.over in
+    made_of (over_circuit held (shown_files c.args.files.now) circuit) (scan_test c.args.files.now.profile circuit over.chains over.patterns no_pairs) c.parts_of.result
+    (c.in_ok-over.ensures.told held e) c.parts_of.ensures.parts c.parts_of.ensures.stop

@@ -17,5 +17,5 @@ returns-in_err-read-clause-told g c = λ held e.
 pub returns-clause-told : goal.returns-clause-told
 returns-clause-told g c = λ held e.
     let r = shown_order c.args.order.now in
-    let over = subst (λ (t : ScanTest). Follows c.report_over.result (with_channels held r t)) c.into_parts-parts.ensures (c.report_over.ensures.told held (c.read_design.ensures.same ∙ e)) in
-    comes_after (design_reading held r.files) (λ d. with_channels held r d.test) halt_of (λ x. x) (shown_design c.in_ok-read.read) c.report_over.result (c.in_ok-read.ensures.told held e) over
+    let over = subst (λ (t : ScanTest). Follows c.report_over-report.result (with_channels held r t)) c.into_parts-parts.ensures (c.report_over-report.ensures.told held (c.read_design.ensures.same ∙ e)) in
+    comes_after (design_reading held r.files) (λ d. with_channels held r d.test) halt_of (λ x. x) (shown_design c.in_ok-read.read) c.report_over-report.result (c.in_ok-read.ensures.told held e) over

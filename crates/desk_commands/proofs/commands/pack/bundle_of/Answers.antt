@@ -9,5 +9,5 @@ use Rattle.desk_commands.proofs.commands.pack.bundle_of.Goals as goal
 
 pub returns-clause-told : goal.returns-clause-told
 returns-clause-told g c = λ held e.
-    comes_after (design_reading held (shown_files c.args.files.now)) (λ d. value (bundle_text d.texts)) halt_of (λ x. x) (shown_design c.in_ok-design.design) c.bundle_over.result
-    (c.in_ok-design.ensures.told held e) c.bundle_over.ensures.told
+    comes_after (design_reading held (shown_files c.args.files.now)) (λ d. value (bundle_text d.texts)) halt_of (λ x. x) (shown_design c.in_ok-design.design) c.bundle_over-bundle.result
+    (c.in_ok-design.ensures.told held e) c.bundle_over-bundle.ensures.told

@@ -1,7 +1,7 @@
 use Rattle.scan_model.specs.Coverage.{bits_of}
 use Rattle.two_frame.specs.TwoFrame.{frame_class, frame_fails, transitions}
 use Rattle.desk_commands.proofs.Candidates.{in_order, places}
-use Rattle.desk_commands.proofs.commands.loc.text_over.Goals as goal
+use Rattle.desk_commands.proofs.commands.loc.text_of_good.Goals as goal
 
 pub frame_text-requires-clause-expected : goal.frame_text-requires-clause-expected
 frame_text-requires-clause-expected c = c.in_ok-expected.ensures.fits c.args.joined.now c.requires.joined

@@ -3,10 +3,10 @@ use Rattle.scan_model.specs.Universe.{universe}
 use Rattle.lane_rows.specs.GoodRows.{AreGoodRows}
 use Rattle.chain_compactor.specs.CompactMatches.{compact_bits, compact_class, predicts_compact_fail}
 use Rattle.desk_commands.proofs.Candidates.{in_order, places}
-use Rattle.desk_commands.proofs.commands.compact.text_over.Goals as goal
+use Rattle.desk_commands.proofs.commands.compact.text_of_good.Goals as goal
 
 pub compact_expected_over-requires-clause-rows : goal.compact_expected_over-requires-clause-rows
-compact_expected_over-requires-clause-rows c = subst (AreGoodRows c.args.parts.now) (sym c.rows.ensures) c.in_ok-good.ensures.rows
+compact_expected_over-requires-clause-rows c = subst (AreGoodRows c.args.parts.now) (sym c.rows.ensures) c.requires.good.rows
 
 pub compact_text-requires-clause-expected : goal.compact_text-requires-clause-expected
 compact_text-requires-clause-expected c = c.in_ok-expected.ensures.fits c.args.joined.now c.requires.joined
