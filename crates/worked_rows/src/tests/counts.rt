@@ -4,6 +4,8 @@ ghost use Rattle.std.specs.Prelude.{length};
 ghost use Rattle.scan_model.specs.ScanTest.{points_of};
 ghost use Rattle.log_join.specs.Joining.{IsJoinedOf};
 
+use super::designs::demo;
+use super::logs::joined_of;
 use expected_values::expected_at_points;
 use good_sim::expected_all;
 use log_join::Joined;
@@ -47,4 +49,24 @@ pub(crate) fn are_equal<R: Abort + Threads + Sync>(
     let packed = packed(rt, alloc, parts, joined);
     let plain = plain(rt, alloc, parts, joined);
     packed.as_slice() == plain.as_slice() && !packed.is_empty()
+}
+
+// Fails of outputs of both blocks and of cells, in two words of patterns.
+const DEMO_FAILS: &[u8] =
+    b"FAILLOG 1\ndie D1\ndesign d\ntested 0 511\nfail 1 out g0_90\nfail 1 cell c0 3\nfail 70 out g1_92\nfail 70 cell c0 8\nend\n";
+
+fn are_equal_over<R: Abort + Threads + Sync>(
+    rt: &R,
+    alloc: Global,
+    parts: &Parts,
+    log: &[u8],
+) -> bool {
+    let joined = joined_of(rt, alloc, parts, log);
+    are_equal(rt, alloc, parts, &joined)
+}
+
+#[test]
+fn the_design_of_demo_7_2(rt: HostRuntime) {
+    let parts = demo(&rt, rt.alloc());
+    assert!(rt; are_equal_over(&rt, rt.alloc(), &parts, DEMO_FAILS));
 }

@@ -1,10 +1,7 @@
-//! The scan tests of c17 and of s27, in profile 1.
-ghost use Rattle.scan_model.specs.ScanTest.{AreChains, ArePatterns, ArePairs};
-
-use bench_reader::read_netlist;
-use bridge_pairs::read_pairs;
-use scan_model::{Chain, Circuit, Pairs, Parts, Pattern, Profile, Rows};
-use scan_text::{read_patterns, read_scan};
+//! The scan tests of c17, of s27 and of the design of `demo 7 2`, in profile 1.
+use diagnosis::parts_of;
+use made_designs::made_design;
+use scan_model::{Parts, Profile};
 use std::alloc::Global;
 use std::process::Abort;
 
@@ -14,13 +11,12 @@ const C17: &[u8] =
 const S27: &[u8] =
     b"INPUT(G0)\nINPUT(G1)\nINPUT(G2)\nINPUT(G3)\nOUTPUT(G17)\nG5 = DFF(G10)\nG6 = DFF(G11)\nG7 = DFF(G13)\nG14 = NOT(G0)\nG17 = NOT(G11)\nG8 = AND(G14, G6)\nG15 = OR(G12, G8)\nG16 = OR(G3, G8)\nG9 = NAND(G16, G15)\nG10 = NOR(G14, G11)\nG11 = NOR(G5, G9)\nG12 = NOR(G1, G7)\nG13 = NOR(G2, G12)\n";
 
-/// The texts of a design, with patterns that come so many times.
+/// The texts of a design.
 #[derive(Clone, Copy)]
 pub(crate) struct Texts {
     pub(crate) netlist: &'static [u8],
     pub(crate) scan: &'static [u8],
-    pub(crate) patterns: &'static str,
-    pub(crate) times: usize,
+    pub(crate) patterns: &'static [u8],
     pub(crate) pairs: &'static [u8],
 }
 
@@ -28,15 +24,11 @@ pub(crate) struct Texts {
 pub(crate) const ONE17: Texts = Texts {
     netlist: C17,
     scan: b"",
-    patterns: "CAPTURE 11111\n",
-    times: 1,
+    patterns: b"CAPTURE 11111\n",
     pairs: b"",
 };
 
-/// The same with 65 patterns.
-pub(crate) const MANY17: Texts = Texts { times: 65, ..ONE17 };
-
-/// c17 with one pattern and neighbours, of which the second pair is left out, and the third is the first again.
+/// The same with neighbours, of which the second pair is left out, and the third is the first again.
 pub(crate) const PAIRS17: Texts = Texts {
     pairs: b"net_a,net_b\n10,19\n3,10\n19,10\n16,19\n",
     ..ONE17
@@ -46,67 +38,44 @@ pub(crate) const PAIRS17: Texts = Texts {
 pub(crate) const CAPTURE27: Texts = Texts {
     netlist: S27,
     scan: b"CHAIN c0 G5 G6 G7\n",
-    patterns: "CAPTURE 0000 000\n",
-    times: 1,
+    patterns: b"CAPTURE 0000 000\n",
     pairs: b"",
-};
-
-/// The same with an unknown value in the pattern.
-pub(crate) const UNKNOWN27: Texts = Texts {
-    patterns: "CAPTURE 0000 0X0\n",
-    ..CAPTURE27
 };
 
 /// The same with a pattern that only shifts.
 pub(crate) const SHIFT27: Texts = Texts {
-    patterns: "SHIFT 101\n",
+    patterns: b"SHIFT 101\n",
     ..CAPTURE27
 };
 
-/// What the texts behind the netlist stand for.
-#[derive(Drop)]
-struct Lists {
-    chains: Rows<Chain>,
-    patterns: Rows<Pattern>,
-    pairs: Pairs,
-}
-
-fn lists_of(rt: &impl Abort, alloc: Global, circuit: &Circuit, texts: &Texts) -> Lists
-    ensures chains { AreChains circuit.now result.chains }
-    ensures patterns { ArePatterns circuit.now result.chains result.patterns }
-    ensures pairs { ArePairs circuit.now result.pairs }
-{
-    let chains = read_scan(alloc, circuit, texts.scan).expect(rt, "chains");
-    let text = texts
-        .patterns
-        .repeat(alloc, texts.times)
-        .expect(rt, "memory");
-    let patterns = read_patterns(alloc, circuit, &chains, text.as_bytes()).expect(rt, "patterns");
-    let pairs = read_pairs(alloc, circuit, texts.pairs).expect(rt, "pairs");
-    Lists {
-        chains,
-        patterns,
-        pairs,
-    }
-}
-
-fn parts_of(rt: &impl Abort, alloc: Global, circuit: Circuit, lists: Lists) -> Parts
-    requires chains { AreChains circuit lists.chains }
-    requires patterns { ArePatterns circuit lists.chains lists.patterns }
-    requires pairs { ArePairs circuit lists.pairs }
-{
-    let Lists {
-        chains,
-        patterns,
-        pairs,
-    } = lists;
-    let _ = circuit.nets();
-    Parts::make(alloc, Profile::One, circuit, chains, patterns, pairs).expect(rt, "memory")
-}
-
 /// What the texts stand for.
 pub(crate) fn parts(rt: &impl Abort, alloc: Global, texts: &Texts) -> Parts {
-    let circuit = read_netlist(alloc, texts.netlist).expect(rt, "a netlist");
-    let lists = lists_of(rt, alloc, &circuit, texts);
-    parts_of(rt, alloc, circuit, lists)
+    parts_of(
+        alloc,
+        Profile::One,
+        texts.netlist,
+        texts.scan,
+        texts.patterns,
+        texts.pairs,
+    )
+    .expect(rt, "a design")
+}
+
+/// c17 with other patterns.
+pub(crate) fn c17_over(rt: &impl Abort, alloc: Global, patterns: &[u8]) -> Parts {
+    parts_of(alloc, Profile::One, C17, b"", patterns, b"").expect(rt, "a design")
+}
+
+/// The design of `demo 7 2`.
+pub(crate) fn demo(rt: &impl Abort, alloc: Global) -> Parts {
+    let made = made_design(alloc, 7, 2).expect(rt, "memory");
+    parts_of(
+        alloc,
+        Profile::One,
+        made.netlist.as_slice(),
+        made.scan.as_slice(),
+        made.patterns.as_slice(),
+        made.neighbours.as_slice(),
+    )
+    .expect(rt, "a design")
 }

@@ -1,4 +1,5 @@
 //! The list of modelled faults of s27.
+use super::designs::{CAPTURE27, parts};
 use fault_universe::{fault_at, fault_text, place_of, universe, universe_len};
 use scan_model::{Fault, Parts};
 use std::alloc::Global;
@@ -25,7 +26,9 @@ fn has_text(rt: &impl Abort, alloc: Global, parts: &Parts, place: u32, text: &[u
     words.as_slice() == text
 }
 
-/// Whether all faults of s27 stand in their list, and one has its text.
-pub(crate) fn are_those_of_s27(rt: &impl Abort, alloc: Global, s27: &Parts) -> bool {
-    are_listed(rt, alloc, s27) && has_text(rt, alloc, s27, 45, b"branch G8 to G16 2 sa1")
+#[test]
+fn all_faults_of_s27_and_a_branch_as_text(rt: HostRuntime) {
+    let s27 = parts(&rt, rt.alloc(), &CAPTURE27);
+    assert!(rt; are_listed(&rt, rt.alloc(), &s27));
+    assert!(rt; has_text(&rt, rt.alloc(), &s27, 45, b"branch G8 to G16 2 sa1"));
 }

@@ -6,6 +6,7 @@ ghost use Rattle.scan_model.specs.Universe.{universe};
 ghost use Rattle.scan_model.specs.Masks.{touched_nets};
 ghost use Rattle.packed_sim.specs.PackedParts.{cone_gates};
 
+use super::designs::c17_over;
 use fault_universe::fault_at;
 use packed_sim::{PackedGood, Scratch};
 use scan_model::{Fault, NoMemory, Parts, Steps};
@@ -94,10 +95,19 @@ fn has_word(parts: &Parts, word: u32) -> bool
 }
 
 /// Whether the fails of 10 stuck at 1 in the last of 65 patterns are at c17's output 22 alone, within two steps.
-pub(crate) fn take_two_steps(alloc: Global, parts: &Parts) -> Result<bool, NoMemory> {
+fn take_two_steps(alloc: Global, parts: &Parts) -> Result<bool, NoMemory> {
     if !has_word(parts, 1) {
         return Ok(false);
     }
     let (nets, words) = counted::<Brand>(alloc, parts, 11, 1, Blank::new(1))?;
     Ok(nets == Some(2) && words.as_slice() == [1, 0].as_slice())
+}
+
+#[test]
+fn a_stuck_gate_with_one_gate_behind_it(rt: HostRuntime) {
+    let patterns = "CAPTURE 11111\n"
+        .repeat(rt.alloc(), 65)
+        .expect(&rt, "memory");
+    let parts = c17_over(&rt, rt.alloc(), patterns.as_bytes());
+    assert!(rt; matches!(take_two_steps(rt.alloc(), &parts), Ok(true)));
 }
