@@ -1,4 +1,4 @@
-//! Tests of the patterns that single faults explain: small designs beside the definition written out.
+//! Tests of the patterns that single faults explain: kept fits beside those that are told anew, over small designs.
 #![tactic(auto)]
 
 #[cfg(test)]

@@ -1,6 +1,5 @@
-//! The tests: explained patterns beside their definition written out, and a die whose two faults are known.
+//! The tests: explained patterns that are kept beside those that are told anew, and a die whose two faults are known.
 mod designs;
 mod dies;
 mod patterns;
 mod rows;
-mod trials;

@@ -4,15 +4,15 @@ use scan_model::Profile;
 use std::alloc::Global;
 use std::process::Abort;
 
-/// The texts of a design, with patterns that come fourteen times, and the words of its points in a log: the outputs, and the
-/// cells in the order in which they are unloaded.
+/// The texts of a design, with patterns that come fourteen times, and two logs of a die of it, which agree in most of their
+/// bits.
 #[derive(Clone, Copy)]
 pub(crate) struct Row {
     pub(crate) netlist: &'static [u8],
     pub(crate) scan: &'static [u8],
     pub(crate) patterns: &'static str,
     pub(crate) pairs: &'static [u8],
-    pub(crate) points: &'static [&'static [u8]],
+    pub(crate) logs: [&'static [u8]; 2],
 }
 
 const C17: Row = Row {
@@ -20,7 +20,10 @@ const C17: Row = Row {
     scan: b"",
     patterns: "CAPTURE 10110\nCAPTURE 01X01\nCAPTURE 00111\nCAPTURE 11011\nCAPTURE 0110X\n",
     pairs: b"net_a,net_b\n10,19\n11,10\n",
-    points: &[b"out 22", b"out 23"],
+    logs: [
+        b"FAILLOG 1\ndie D1\ndesign d\ntested 0 66\nfail 0 out 22\nfail 3 out 23\nfail 10 out 23\nfail 15 out 22\nfail 24 out 23\nfail 28 out 22\nfail 28 out 23\nfail 31 out 23\nfail 38 out 22\nfail 39 out 22\nfail 44 out 22\nfail 45 out 23\nfail 47 out 23\nfail 50 out 22\nfail 52 out 23\nfail 59 out 23\nfail 65 out 22\nfail 66 out 23\nend\n",
+        b"FAILLOG 1\ndie D1\ndesign d\ntested 0 66\nfail 3 out 23\nfail 10 out 23\nfail 15 out 22\nfail 24 out 23\nfail 28 out 22\nfail 28 out 23\nfail 31 out 23\nfail 38 out 22\nfail 39 out 22\nfail 47 out 23\nfail 50 out 22\nfail 52 out 23\nfail 59 out 23\nfail 65 out 22\nfail 66 out 23\nend\n",
+    ],
 };
 
 pub(crate) const S27: Row = Row {
@@ -28,7 +31,10 @@ pub(crate) const S27: Row = Row {
     scan: b"CHAIN c0 G5 G6 G7\n",
     patterns: "CAPTURE 0110 1X0\nSHIFT 101\nCAPTURE 1X01 011\nCAPTURE 0000 110\nSHIFT 0X1\n",
     pairs: b"net_a,net_b\nG14,G12\n",
-    points: &[b"out G17", b"cell c0 2", b"cell c0 1", b"cell c0 0"],
+    logs: [
+        b"FAILLOG 1\ndie D1\ndesign d\ntested 0 66\nfail 3 cell c0 2\nfail 3 cell c0 1\nfail 3 cell c0 0\nfail 5 cell c0 0\nfail 8 out G17\nfail 10 cell c0 2\nfail 10 cell c0 1\nfail 10 cell c0 0\nfail 12 cell c0 0\nfail 14 cell c0 2\nfail 17 cell c0 2\nfail 17 cell c0 1\nfail 17 cell c0 0\nfail 20 cell c0 2\nfail 23 out G17\nfail 24 cell c0 2\nfail 24 cell c0 1\nfail 24 cell c0 0\nfail 31 cell c0 2\nfail 31 cell c0 1\nfail 31 cell c0 0\nfail 32 cell c0 0\nfail 37 cell c0 1\nfail 38 cell c0 2\nfail 38 cell c0 1\nfail 38 cell c0 0\nfail 45 cell c0 2\nfail 45 cell c0 1\nfail 45 cell c0 0\nfail 52 cell c0 1\nfail 57 cell c0 1\nfail 59 cell c0 2\nfail 59 cell c0 1\nfail 59 cell c0 0\nfail 62 out G17\nfail 62 cell c0 0\nfail 63 cell c0 0\nfail 66 cell c0 2\nfail 66 cell c0 1\nfail 66 cell c0 0\nend\n",
+        b"FAILLOG 1\ndie D1\ndesign d\ntested 0 66\nfail 3 cell c0 2\nfail 3 cell c0 1\nfail 5 cell c0 0\nfail 8 out G17\nfail 10 cell c0 2\nfail 10 cell c0 1\nfail 10 cell c0 0\nfail 12 cell c0 0\nfail 14 cell c0 2\nfail 17 cell c0 2\nfail 17 cell c0 1\nfail 17 cell c0 0\nfail 20 cell c0 2\nfail 23 out G17\nfail 24 cell c0 2\nfail 24 cell c0 0\nfail 31 cell c0 2\nfail 31 cell c0 1\nfail 31 cell c0 0\nfail 32 cell c0 0\nfail 37 cell c0 1\nfail 38 cell c0 2\nfail 38 cell c0 1\nfail 38 cell c0 0\nfail 45 cell c0 1\nfail 45 cell c0 0\nfail 52 cell c0 1\nfail 59 cell c0 2\nfail 59 cell c0 1\nfail 59 cell c0 0\nfail 62 out G17\nfail 62 cell c0 0\nfail 63 cell c0 0\nfail 66 cell c0 2\nfail 66 cell c0 1\nfail 66 cell c0 0\nend\n",
+    ],
 };
 
 // A gate that reads a net twice, and a flop in no chain.
@@ -37,7 +43,10 @@ const ODD: Row = Row {
     scan: b"CHAIN c g h\n",
     patterns: "CAPTURE 1 0X\nSHIFT 10\nCAPTURE X 11\nCAPTURE 0 10\nSHIFT X1\n",
     pairs: b"",
-    points: &[b"out y", b"cell c 1", b"cell c 0"],
+    logs: [
+        b"FAILLOG 1\ndie D1\ndesign d\ntested 0 66\nfail 3 out y\nfail 3 cell c 1\nfail 3 cell c 0\nfail 5 cell c 0\nfail 10 cell c 1\nfail 13 cell c 0\nfail 17 cell c 1\nfail 17 cell c 0\nfail 23 out y\nfail 23 cell c 0\nfail 24 cell c 1\nfail 24 cell c 0\nfail 31 cell c 1\nfail 31 cell c 0\nfail 38 cell c 1\nfail 38 cell c 0\nfail 43 cell c 0\nfail 45 cell c 1\nfail 45 cell c 0\nfail 51 cell c 1\nfail 52 cell c 1\nfail 52 cell c 0\nfail 59 cell c 1\nfail 59 cell c 0\nfail 66 cell c 1\nfail 66 cell c 0\nend\n",
+        b"FAILLOG 1\ndie D1\ndesign d\ntested 0 66\nfail 3 out y\nfail 3 cell c 1\nfail 3 cell c 0\nfail 5 cell c 0\nfail 10 cell c 1\nfail 17 cell c 1\nfail 17 cell c 0\nfail 23 out y\nfail 23 cell c 0\nfail 24 cell c 1\nfail 31 cell c 1\nfail 31 cell c 0\nfail 38 cell c 1\nfail 38 cell c 0\nfail 43 cell c 0\nfail 45 cell c 0\nfail 51 cell c 1\nfail 52 cell c 1\nfail 52 cell c 0\nfail 59 cell c 1\nfail 59 cell c 0\nfail 66 cell c 1\nfail 66 cell c 0\nend\n",
+    ],
 };
 
 pub(crate) const ROWS: [Row; 3] = [C17, S27, ODD];
