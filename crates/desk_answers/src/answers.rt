@@ -3,6 +3,7 @@
 pub(crate) mod signoff;
 
 ghost use Rattle.std.specs.Prelude.{◌≡◌, [], List, true, Some, None, IfOk};
+ghost use Rattle.std.specs.Arc.{arc_value};
 ghost use Rattle.std.specs.Str.{IsAscii};
 ghost use Rattle.desk_outside.specs.declared.deed.Deed.{Deed};
 ghost use Rattle.report_cache.specs.Truth.{IsTrueFor};
@@ -33,6 +34,7 @@ use desk_replies::{AnswerFault, Refusal, Response};
 use report_cache::ReportCache;
 use scan_model::NoMemory;
 use std::alloc::Global;
+use std::sync::Arc;
 use std::thread::Threads;
 
 /// What is asked for: the method, the target and the bytes of the body.
@@ -41,6 +43,16 @@ pub struct Request<'a> {
     pub method: Method,
     pub target: &'a str,
     pub body: &'a [u8],
+}
+
+// A value, to be shared with the desk.
+fn shared<T: Drop>(alloc: Global, value: T) -> Result<Arc<T>, NoMemory>
+    ensures { IfOk result (λ kept. arc_value kept ≡ value) }
+{
+    match Arc::new(alloc, value) {
+        Ok(kept) => Ok(kept),
+        Err(_) => Err(NoMemory),
+    }
 }
 
 /// What a request is answered over a seat, at some deeds that begin with those that it had seen. What is done carries its

@@ -11,4 +11,3 @@ pub use answers::{Request, answer};
 pub use routes::Routes;
 pub use routes::resource::Resource;
 pub use seat::SeatAt;
-pub use shared_desk::{Desk, DeskSeat};

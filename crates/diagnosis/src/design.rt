@@ -67,28 +67,47 @@ fn has_few_rows(parts: &Parts) -> bool {
     blocks.saturating_mul(nets) <= KEPT_ROWS
 }
 
+/// The fault-free responses of a test, and its fault-free rows where these are few.
+#[derive(Drop)]
+struct Responses {
+    expected: Expected,
+    good: Option<PackedGood>,
+}
+
+fn responses_of(alloc: Global, parts: &Parts) -> Result<Responses, NoMemory>
+    ensures expected { IfOk result (λ made. made.expected ≡ expected_rows parts.now) }
+    ensures good { IfOk result (λ made. IfSome made.good (BelongsTo parts.now)) }
+{
+    if has_few_rows(parts) {
+        let Simulation { good, expected } = simulated(alloc, parts)?;
+        let good = Some(good);
+        return Ok(Responses { expected, good });
+    }
+    let rows = GoodRows::make(alloc, parts)?;
+    let expected = expected_at_points(alloc, parts, &rows)?;
+    Ok(Responses {
+        expected,
+        good: None,
+    })
+}
+
 /// The parts with their fault-free responses.
 fn with_responses(alloc: Global, parts: Parts) -> Result<SimulatedParts, NoMemory>
     ensures parts { IfOk result (λ made. made.parts ≡ parts) }
     ensures expected { IfOk result (λ made. made.expected ≡ expected_rows parts) }
     ensures good { IfOk result (λ made. IfSome made.good (BelongsTo parts)) }
 {
-    if has_few_rows(&parts) {
-        let Simulation { good, expected } = simulated(alloc, &parts)?;
-        let good = Some(good);
-        return Ok(SimulatedParts {
+    match responses_of(alloc, &parts) {
+        Ok(Responses { expected, good }) => Ok(SimulatedParts {
             parts,
             expected,
             good,
-        });
+        }),
+        Err(refused) => {
+            drop(parts);
+            Err(refused)
+        }
     }
-    let rows = GoodRows::make(alloc, &parts)?;
-    let expected = expected_at_points(alloc, &parts, &rows)?;
-    Ok(SimulatedParts {
-        parts,
-        expected,
-        good: None,
-    })
 }
 
 impl Design {

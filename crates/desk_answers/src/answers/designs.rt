@@ -6,6 +6,7 @@ ghost use Rattle.desk_answers.specs.Seats.{Did};
 ghost use Rattle.desk_answers.specs.BookAnswers.{AnsweredBy};
 ghost use Rattle.desk_replies.specs.Responses.{response_of};
 
+use crate::answers::shared;
 use crate::seat::SeatAt;
 use book::{BundleFault, read_bundle};
 use desk_outside::Gate;
@@ -43,7 +44,7 @@ pub(super) fn put_design<R, D, S: SeatAt<R, D>, G: Gate>(
         Err(BundleFault::NoMemory) => return Err(AnswerFault::NoMemory),
     };
     let body = design_body(name, design.digest());
-    let Ok(design) = Arc::new(alloc, design) else {
+    let Ok(design) = shared(alloc, design) else {
         return Err(AnswerFault::NoMemory);
     };
     gate.pass();

@@ -8,6 +8,7 @@ ghost use Rattle.desk_answers.specs.Seats.{IsPrefix, Did};
 ghost use Rattle.desk_answers.specs.BookAnswers.{AnsweredBy};
 ghost use Rattle.desk_replies.specs.Responses.{response_of};
 
+use crate::answers::shared;
 use crate::seat::SeatAt;
 use book::{Section, log_of};
 use desk_outside::Gate;
@@ -19,7 +20,6 @@ use diag_report::Report;
 use report_cache::ReportCache;
 use scan_model::{Name, NoMemory};
 use std::alloc::Global;
-use std::sync::Arc;
 use std::thread::Threads;
 use text_parts::ReadFault;
 
@@ -54,7 +54,7 @@ pub(super) fn post_log<R, D, S: SeatAt<R, D>, G: Gate>(
         }
         Err(ReadFault::NoMemory) => return Err(AnswerFault::NoMemory),
     };
-    let Ok(log) = Arc::new(alloc, log) else {
+    let Ok(log) = shared(alloc, log) else {
         return Err(AnswerFault::NoMemory);
     };
     gate.pass();

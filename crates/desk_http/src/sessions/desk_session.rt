@@ -11,9 +11,9 @@ ghost use Rattle.desk_answers.specs.DeskSeats.{of_desk, IsSeatOf};
 
 use crate::sessions::requests::{SessionNote, session_at};
 use crate::sessions::serve::{Served, serve_door_at};
-use desk_answers::{Desk, DeskSeat};
 use desk_outside::{Door, Gate, Keeper, Link};
 use report_cache::ReportCache;
+use shared_desk::{Desk, DeskSeat};
 use std::alloc::Global;
 use std::sync::Wait;
 use std::thread::Threads;

@@ -27,19 +27,19 @@ returns-in-Err-Text-clause-answered g c =
 
 pub put_log-requires-clause-log : goal.put_log-requires-clause-log
 put_log-requires-clause-log g c =
-    let posted = is_posted (g.S.SeatAt.facts c.look_design.new.self c.args.desk.now).seen c.args.design.now c.args.die.now c.args.text.now (arc_value c.in-Ok.design) c.deref.result.now c.deref-2.result.now c.in-Ok-log_of.log (arc_value c.in-Ok-new.log)
+    let posted = is_posted (g.S.SeatAt.facts c.look_design.new.self c.args.desk.now).seen c.args.design.now c.args.die.now c.args.text.now (arc_value c.in-Ok.design) c.deref.result.now c.deref-2.result.now c.in-Ok-log_of.log (arc_value c.in-Ok-shared.log)
     c.deref.ensures c.deref-2.ensures c.name-name.ensures.design c.in-Ok.ensures.looked c.in-Ok.ensures.name
-    c.in-Ok-log_of.ensures.design c.in-Ok-log_of.ensures.die c.in-Ok-log_of.ensures.text c.in-Ok-log_of.ensures.reading c.in-Ok-new.ensures.ok in
-    posted_in (g.S.SeatAt.facts c.look_design.new.self c.args.desk.now).seen c.args.design.now c.args.die.now c.args.text.now (arc_value c.in-Ok.design) (arc_value c.in-Ok-new.log) posted
+    c.in-Ok-log_of.ensures.design c.in-Ok-log_of.ensures.die c.in-Ok-log_of.ensures.text c.in-Ok-log_of.ensures.reading c.in-Ok-shared.ensures in
+    posted_in (g.S.SeatAt.facts c.look_design.new.self c.args.desk.now).seen c.args.design.now c.args.die.now c.args.text.now (arc_value c.in-Ok.design) (arc_value c.in-Ok-shared.log) posted
 
 pub returns-clause-answered : goal.returns-clause-answered
 returns-clause-answered g c =
     let s = g.S.SeatAt.facts c.args.seat.now c.args.desk.now in
     let mid = g.S.SeatAt.facts c.look_design.new.self c.args.desk.now in
     let new = g.S.SeatAt.facts c.put_log.new.self c.args.desk.now in
-    let posted = is_posted (g.S.SeatAt.facts c.look_design.new.self c.args.desk.now).seen c.args.design.now c.args.die.now c.args.text.now (arc_value c.in-Ok.design) c.deref.result.now c.deref-2.result.now c.in-Ok-log_of.log (arc_value c.in-Ok-new.log)
+    let posted = is_posted (g.S.SeatAt.facts c.look_design.new.self c.args.desk.now).seen c.args.design.now c.args.die.now c.args.text.now (arc_value c.in-Ok.design) c.deref.result.now c.deref-2.result.now c.in-Ok-log_of.log (arc_value c.in-Ok-shared.log)
     c.deref.ensures c.deref-2.ensures c.name-name.ensures.design c.in-Ok.ensures.looked c.in-Ok.ensures.name
-    c.in-Ok-log_of.ensures.design c.in-Ok-log_of.ensures.die c.in-Ok-log_of.ensures.text c.in-Ok-log_of.ensures.reading c.in-Ok-new.ensures.ok in
+    c.in-Ok-log_of.ensures.design c.in-Ok-log_of.ensures.die c.in-Ok-log_of.ensures.text c.in-Ok-log_of.ensures.reading c.in-Ok-shared.ensures in
     after_look_by (λ n deeds. log_post n deeds c.args.design.now c.args.die.now c.args.text.now) c.put_response.result s mid new c.in-Ok.ensures.did
-    (log_answered mid.limit c.args.design.now c.args.die.now c.args.text.now (arc_value c.in-Ok.design) (arc_value c.in-Ok-new.log) c.put_log.result mid new posted c.put_log.ensures.changed
+    (log_answered mid.limit c.args.design.now c.args.die.now c.args.text.now (arc_value c.in-Ok.design) (arc_value c.in-Ok-shared.log) c.put_log.result mid new posted c.put_log.ensures.changed
     c.put_response.result c.put_response.ensures)
