@@ -40,6 +40,8 @@ wait_for_the_first_line() {
 # nobody else has.
 serve() {
     for port in ${PORT:-18490 18491 18492 18493}; do
+        # The lines of the run before are gone before anybody looks for the first one.
+        : >"$work/lines"
         timeout 900 "$program" serve "$port" "$1" "$2" "$work/store" >"$work/lines" &
         serving=$!
         wait_for_the_first_line
