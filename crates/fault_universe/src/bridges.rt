@@ -6,8 +6,8 @@ ghost use Rattle.fault_universe.specs.KeptPairs.{FindsPair, IsNoneOfPair};
 ghost use Rattle.scan_model.specs.declared.fault.Fault.TheVariants as fault;
 ghost use Rattle.scan_model.specs.Universe.{bridge_faults, bridges};
 
-use crate::pair_faults::{faults_of_pair, faults_per_pair};
 use scan_model::{BridgeKind, Fault, NoMemory, Pair, Parts, Profile, Rows, nets_number};
+use single_faults::{faults_of_pair, faults_per_pair};
 
 /// The pairs of neighbouring nets that are kept.
 fn kept_pairs(parts: &Parts) -> &[Pair]

@@ -4,7 +4,6 @@
 mod branches;
 mod bridges;
 mod cells;
-mod pair_faults;
 mod places;
 mod stems;
 mod texts;
@@ -12,8 +11,8 @@ mod words;
 
 pub use branches::branch_count;
 pub use bridges::bridge_count;
-pub use pair_faults::{faults_of_pair, faults_per_pair};
 pub use places::{fault_at, place_of, universe, universe_len};
+pub use single_faults::{faults_of_pair, faults_per_pair};
 pub use stems::stem_count;
 pub use texts::{fault_text, push_branch_site, push_fault, push_stem_site};
 pub use words::{chain_name, net_name, push_number, push_word};

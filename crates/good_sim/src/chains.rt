@@ -7,7 +7,7 @@ use scan_model::{CellKind, Fault, NoMemory, Rows, Tri};
 use std::alloc::Global;
 
 /// Which way rows move through the chains: in as they are loaded, out as they are unloaded.
-#[derive(Clone, Copy, Debug, PartialEq, Eq)]
+#[derive(Clone, Copy)]
 pub(crate) enum Direction {
     In,
     Out,

@@ -1,31 +1,14 @@
 //! What a fault of the logic forces, from the fault-free values of its nets.
 ghost use Rattle.std.specs.Prelude.{◌≡◌, length, IfOk, IfSome};
-ghost use Rattle.scan_model.specs.Faults as model;
 ghost use Rattle.scan_model.specs.ChainShift.{value_at};
 ghost use Rattle.scan_model.specs.ScanTest.{HasSite};
-ghost use Rattle.good_sim.specs.Effect.{forces, FitsEffect};
+ghost use Rattle.single_faults.specs.Effect.{forces, FitsEffect};
 ghost use Rattle.good_sim.specs.PointValues.{forced_over};
 
-use crate::effect::Effect;
 use crate::evaluate::net_values;
-use scan_model::{BridgeKind, Fault, NoMemory, Parts, Stuck, Tri};
+use scan_model::{Fault, NoMemory, Parts, Tri};
+use single_faults::{Effect, bridge_value, stuck_value};
 use std::alloc::Global;
-
-fn stuck_value(value: Stuck) -> Tri
-    ensures { result ≡ model.stuck_value value }
-{
-    match value {
-        Stuck::Zero => Tri::Zero,
-        Stuck::One => Tri::One,
-    }
-}
-
-/// The value of a bridge, from those that drive its nets.
-fn bridge_value(kind: BridgeKind, a: Tri, b: Tri) -> Tri
-    ensures { result ≡ model.bridged kind a b }
-{
-    kind.value(a, b)
-}
 
 /// What a fault forces in the logic. One in a chain forces nothing there.
 pub(crate) fn effect_of(

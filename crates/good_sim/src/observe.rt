@@ -5,12 +5,12 @@ ghost use Rattle.scan_model.specs.ScanTest.{IsFlop};
 ghost use Rattle.scan_model.specs.Netlist.{driver_of};
 ghost use Rattle.scan_model.specs.NetValue.{seen};
 ghost use Rattle.scan_model.specs.Response.{output_pin, data_pin, is_at_output as model_is_at_output};
-ghost use Rattle.good_sim.specs.Effect.{forces, FitsEffect};
+ghost use Rattle.single_faults.specs.Effect.{forces, FitsEffect};
 ghost use Rattle.good_sim.specs.PointValues as shown;
 
-use crate::effect::Effect;
 use crate::evaluate::pin_value;
 use scan_model::{Circuit, NoMemory, Parts, PinPlace, Point, Rows, Tri};
+use single_faults::Effect;
 use std::alloc::Global;
 
 /// Whether a pin is that of an output.

@@ -1,6 +1,6 @@
 use Rattle.std.proofs.Common.{◌≡◌, take}
 use Rattle.scan_model.specs.ChainShift.{value_at}
-use Rattle.good_sim.specs.Effect.{forces}
+use Rattle.single_faults.specs.Effect.{forces}
 use Rattle.good_sim.specs.PointValues.{captured_rows_over}
 use Rattle.good_sim.proofs.observe.captured_rows.Given as goal
 

@@ -1,7 +1,7 @@
 use Rattle.scan_model.specs.ChainShift.{value_at}
 use Rattle.scan_model.specs.NetValue.{seen}
 use Rattle.scan_model.specs.Response.{output_pin}
-use Rattle.good_sim.specs.Effect.{forces}
+use Rattle.single_faults.specs.Effect.{forces}
 use Rattle.good_sim.proofs.Evaluated.{mapped_more}
 use Rattle.good_sim.proofs.observe.output_values.Goals as goal
 

@@ -3,7 +3,7 @@ use Rattle.std.specs.List.{range_with_len}
 use Rattle.scan_model.specs.ChainShift.{value_at}
 use Rattle.scan_model.specs.NetValue.{seen}
 use Rattle.scan_model.specs.Response.{output_pin}
-use Rattle.good_sim.specs.Effect.{forces}
+use Rattle.single_faults.specs.Effect.{forces}
 use Rattle.good_sim.proofs.observe.output_values.Given as goal
 
 abbrev pub invariant-loop-output : goal.invariant-loop-output

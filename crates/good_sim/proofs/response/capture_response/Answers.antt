@@ -1,7 +1,7 @@
 use Rattle.std.proofs.lemmas.List.{get_or_default}
 use Rattle.scan_model.specs.ChainShift.{value_at}
 use Rattle.scan_model.specs.ScanTest.{no_pattern}
-use Rattle.good_sim.specs.Effect.{forces}
+use Rattle.single_faults.specs.Effect.{forces}
 use Rattle.good_sim.proofs.Shifting.{sits_within}
 use Rattle.good_sim.proofs.Observing.{loads_fit, rows_fit, captured_fit, length-outputs, have_points, capture_is}
 use Rattle.good_sim.proofs.response.capture_response.Goals as goal

@@ -1,5 +1,5 @@
 use Rattle.std.proofs.Common.{arith}
-use Rattle.good_sim.proofs.force.bridge_value.Goals as goal
+use Rattle.single_faults.proofs.values.bridge_value.Goals as goal
 
 pub returns : goal.returns
 returns c = c.value.ensures 0 (omega arith)

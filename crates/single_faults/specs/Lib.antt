@@ -1,0 +1,2 @@
+-- What the contracts of single faults say.
+pub mod Effect
