@@ -10,7 +10,7 @@ use Rattle.scan_model.specs.Walks.{IsEvaluationOrder}
 use Rattle.scan_model.specs.NetValue.{values_of, net_node, nothing_forced}
 use Rattle.scan_model.proofs.NetValues.{values_of-is, net_node_local, driven_leaf, driven_gate}
 use Rattle.scan_model.proofs.FanSweeps.{reads_in_range}
-use Rattle.lane_rows.specs.Planes.{Planes, held}
+use Rattle.value_rows.specs.Planes.{Planes, held}
 use Rattle.lane_rows.specs.Sources.{lane_values, no_planes}
 
 -- after k gates the values of these and of inputs and flops are known in each lane

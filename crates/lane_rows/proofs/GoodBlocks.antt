@@ -7,10 +7,11 @@ use Rattle.scan_model.specs.declared.parts.PatternKind.TheVariants.{Capture, Shi
 use Rattle.scan_model.specs.ScanTest.{ScanTest, IsScanTest, chain_at, pattern_at}
 use Rattle.scan_model.specs.NetValue.{values_of, nothing_forced}
 use Rattle.lane_rows.specs.declared.block.Block.{Block}
-use Rattle.lane_rows.specs.Lanes.{lane}
-use Rattle.lane_rows.specs.Planes.{Planes}
+use Rattle.value_rows.specs.Lanes.{lane, pattern_of}
+use Rattle.value_rows.specs.Planes.{Planes}
 use Rattle.lane_rows.specs.Sources.{lane_values, row_source, row_value}
-use Rattle.lane_rows.specs.GoodRows.{same_kind, pattern_of, AreBlockRows, AreLanesOf, no_block}
+use Rattle.lane_rows.specs.GoodRows.{AreBlockRows, AreLanesOf, no_block}
+use Rattle.value_rows.specs.Kinds.{same_kind}
 use Rattle.lane_rows.proofs.GoodValues.{capture_is_good, same_sources}
 use Rattle.scan_model.specs.ScanTest.{no_pattern}
 use Rattle.scan_model.proofs.Cells.{cell_is_flop_of, cell_is_leaf}

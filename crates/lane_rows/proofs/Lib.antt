@@ -1,6 +1,5 @@
-pub mod LaneOps
-pub mod LaneCounts
-pub mod LaneValues
+pub mod BytePuts
+pub mod WordValues
 pub mod GateFolds
 pub mod GatesInOrder
 pub mod Assigning
@@ -13,3 +12,4 @@ pub mod RenamedGroups
 pub mod Once
 pub mod Sinks
 pub mod Written
+pub use Rattle.value_rows.proofs.LaneCounts

@@ -5,7 +5,9 @@ use Rattle.scan_model.specs.declared.parts.PatternKind.{PatternKind}
 use Rattle.scan_model.specs.declared.parts.PatternKind.TheVariants.{Capture, Shift}
 use Rattle.scan_model.specs.ScanTest.{ScanTest, pattern_at}
 use Rattle.lane_rows.specs.declared.block.Block.{Block}
-use Rattle.lane_rows.specs.GoodRows.{AreGoodRows, same_kind, pattern_of}
+use Rattle.lane_rows.specs.GoodRows.{AreGoodRows}
+use Rattle.value_rows.specs.Kinds.{same_kind}
+use Rattle.value_rows.specs.Lanes.{pattern_of}
 use Rattle.lane_rows.specs.Stimuli.{AreRowsOf, captures, stimuli_of}
 
 capture_kind : (k : PatternKind) → same_kind Capture k ≡ true → k ≡ Capture

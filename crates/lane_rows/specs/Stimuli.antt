@@ -6,9 +6,10 @@ use Rattle.scan_model.specs.Netlist.{Netlist}
 use Rattle.scan_model.specs.ScanTest.{ScanTest, pattern_at}
 use Rattle.scan_model.specs.NetValue.{values_of, source_of, nothing_forced}
 use Rattle.lane_rows.specs.declared.block.Block.{Block}
-use Rattle.lane_rows.specs.Lanes.{lane}
+use Rattle.value_rows.specs.Lanes.{lane, pattern_of}
 use Rattle.lane_rows.specs.Sources.{lane_values}
-use Rattle.lane_rows.specs.GoodRows.{same_kind, pattern_of, no_block}
+use Rattle.lane_rows.specs.GoodRows.{no_block}
+use Rattle.value_rows.specs.Kinds.{same_kind}
 
 -- How many patterns there are, which of them capture, and what drives inputs and flops in each.
 pub record Stimuli : Type 0 where

@@ -2,7 +2,7 @@
 use Rattle.std.specs.Prelude.{◌≡◌, ℕ, ◌<◌, List, map, false, ◌==◌, ◌&&◌}
 use Rattle.std.specs.Int.{bit_at}
 use Rattle.scan_model.specs.declared.values.Tri.{Tri}
-use Rattle.lane_rows.specs.Planes.{value_of_bits}
+use Rattle.value_rows.specs.Planes.{value_of_bits}
 
 pub record WordPlanes : Type 0 where
   pub ones : ℕ

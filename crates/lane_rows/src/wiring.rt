@@ -6,7 +6,7 @@ ghost use Rattle.scan_model.specs.Walks.{IsEvaluationOrder};
 ghost use Rattle.scan_model.specs.Marks.{is_marked};
 ghost use Rattle.lane_rows.specs.Wiring.{AreMarked, IsMadeFor, IsWiredFor, sink_key, sink_gate};
 
-use crate::groups::Groups;
+use crate::groups::{Groups, name_at};
 use scan_model::{Circuit, Driver, Net, NoMemory, Pin, PinPlace};
 use std::alloc::Global;
 
@@ -140,16 +140,11 @@ fn place_of(circuit: &Circuit, places: &[u32], pin: u32) -> u32
     requires { pin < length circuit.now.pins }
     ensures { result ≡ slice_index places.now (sink_gate circuit.now pin) }
 {
-    match circuit.pins().as_slice()[pin as usize].place {
-        PinPlace::Operand { net, .. } => match places.get(net as usize) {
-            Some(place) => *place,
-            None => 0,
-        },
-        PinPlace::Output { .. } => match places.first() {
-            Some(place) => *place,
-            None => 0,
-        },
-    }
+    let gate = match circuit.pins().as_slice()[pin as usize].place {
+        PinPlace::Operand { net, .. } => net,
+        PinPlace::Output { .. } => 0,
+    };
+    name_at(places, gate)
 }
 
 fn keys_of(alloc: Global, circuit: &Circuit, marks: &[bool]) -> Result<Vec<u32>, NoMemory>

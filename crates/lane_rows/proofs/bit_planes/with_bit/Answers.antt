@@ -1,4 +1,4 @@
-use Rattle.lane_rows.proofs.LaneOps.{byte_bit-put}
+use Rattle.lane_rows.proofs.BytePuts.{byte_bit-put}
 use Rattle.lane_rows.proofs.bit_planes.with_bit.Goals as goal
 
 pub returns : goal.returns

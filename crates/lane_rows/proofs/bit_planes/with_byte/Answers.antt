@@ -1,5 +1,5 @@
 use Rattle.std.proofs.Common.{arith}
-use Rattle.lane_rows.proofs.LaneOps.{byte-put}
+use Rattle.lane_rows.proofs.BytePuts.{byte-put}
 use Rattle.lane_rows.proofs.bit_planes.with_byte.Goals as goal
 
 pub returns : goal.returns

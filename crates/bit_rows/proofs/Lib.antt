@@ -1,0 +1,2 @@
+pub mod LaneOps
+pub mod LaneCounts

@@ -1,0 +1,2 @@
+-- The specs of rows of 512 lanes.
+pub mod Lanes

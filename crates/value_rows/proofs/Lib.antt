@@ -1,0 +1,3 @@
+pub mod LaneValues
+pub use Rattle.bit_rows.proofs.LaneOps
+pub use Rattle.bit_rows.proofs.LaneCounts
