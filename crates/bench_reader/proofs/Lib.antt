@@ -1,6 +1,3 @@
-pub mod Names
-pub mod Strays
-pub mod Operands
 pub mod FirstRules
 pub mod FirstRound
 pub mod SecondRound

@@ -10,8 +10,7 @@ use Rattle.scan_model.specs.TextFaults.{lowest, fault_from, first_fault, refused
 use Rattle.scan_model.specs.declared.rules.TheConstants.{UNDEFINED_NET}
 use Rattle.scan_model.specs.NetlistLines.{Form, form_of, nothing}
 use Rattle.scan_model.specs.NetlistRules.{uses_undefined_first, first_rule, second_rule, early_fault, forms_of, form_at, uses_of, used_names, defined_names}
-use Rattle.bench_reader.specs.Lines.{is_nothing}
-use Rattle.bench_reader.specs.NetlistDrafts.{filled_from, first_line, uses_undefined}
+use Rattle.bench_reader.specs.NetlistDrafts.{is_nothing, filled_from, first_line, uses_undefined}
 use Rattle.bench_reader.specs.NetUses.{IsUndefined}
 use Rattle.text_parts.specs.ReadResults.{Fails}
 use Rattle.text_parts.specs.declared.fault.ReadFault.{ReadFault}

@@ -1,7 +1,4 @@
 -- What the contracts of netlists' texts say.
-pub mod Tokens
-pub mod Lines
-pub mod NameLists
 pub mod FirstRules
 pub mod NetUses
 pub mod NetlistDrafts

@@ -1,15 +1,19 @@
 -- The draft of a netlist: what its lines so far say.
-use Rattle.std.specs.Prelude.{ℕ, ◌≡◌, ◌≤◌, Bool, not, if◌then◌else◌, List, [], ◌∷◌, ◌++◌, length, map, filter, flat_map, Option, Some, None}
+use Rattle.std.specs.Prelude.{ℕ, ◌≡◌, ◌≤◌, Bool, true, false, not, if◌then◌else◌, List, [], ◌∷◌, ◌++◌, length, map, filter, flat_map, Option, Some, None}
 use Rattle.std.specs.List.{list_any, enumerate_from}
 use Rattle.scan_model.specs.declared.circuit.Driver.{Driver}
 use Rattle.scan_model.specs.declared.circuit.Driver.TheVariants.{Input}
 use Rattle.scan_model.specs.Words.{has_word}
-use Rattle.scan_model.specs.NetlistLines.{Form}
+use Rattle.scan_model.specs.NetlistLines.{Form, nothing}
 use Rattle.scan_model.specs.NetlistRules.{nets_of, uses_of, new_output, defined_names, outputs_of, pins_after, net_limit, pin_limit}
 use Rattle.scan_model.specs.NetlistText.{line_nets, nets_after, inputs_of}
-use Rattle.bench_reader.specs.Lines.{is_nothing}
 use Rattle.bench_reader.specs.NetUses.{use_views, operand_use, line_uses, uses_after, inputs_after}
 use Rattle.bench_reader.specs.declared.first_round.NetlistDraft.{NetlistDraft}
+
+-- nothing stands outside the line's comment
+abbrev pub is_nothing : Form → Bool
+is_nothing nothing = true
+is_nothing f = false
 
 -- the lines of these forms, numbered from n on, that are not empty
 abbrev pub filled_from : ℕ → List Form → List (ℕ × Form)

@@ -8,13 +8,11 @@ ghost use Rattle.scan_model.specs.TextFaults.{lowest};
 ghost use Rattle.scan_model.specs.NetlistLines.{form_of, output};
 ghost use Rattle.scan_model.specs.NetlistRules.{nets_of, pins_of, is_no_form, has_unknown_word, has_wrong_count, has_long_name, defines_among, first_rules, makes_past, net_limit, pin_limit};
 ghost use Rattle.text_parts.specs.Views.{nows};
-ghost use Rattle.bench_reader.specs.Lines.{kind_view, line_view, HasItsDriver, HasItsComment};
+ghost use Rattle.bench_lines.specs.Lines.{kind_view, line_view, HasItsDriver, HasItsComment};
 ghost use Rattle.bench_reader.specs.FirstRules.{own_rules, passes_limit};
 ghost use Rattle.bench_reader.specs.NetUses.{use_views, operand_use};
 
-use crate::driver::takes_one;
-use crate::line::{Kind, Line};
-use crate::token::Token;
+use bench_lines::{Kind, Line, takes_one};
 use scan_model::{Driver, Name, Net, NoMemory, PinPlace, rules};
 use std::alloc::{AllocError, Global};
 use text_parts::{Names, has_refused_byte};
@@ -78,18 +76,6 @@ fn has_long_name(line: &Line<'_, '_>) -> bool
     }
 }
 
-fn has_refused(bytes: &[u8], line: &Line<'_, '_>) -> bool
-    requires form { line_view line.now ≡ form_of bytes.now }
-    requires comment { HasItsComment bytes.now line.now }
-    ensures { result ≡ has_refused_byte bytes.now }
-{
-    if is_no_form(line) {
-        return has_refused_byte(bytes);
-    }
-    // A refused byte outside the comment is a token of no form.
-    has_refused_byte(line.comment)
-}
-
 // The lowest of rules 1 to 5, which look at the line alone, that it breaks.
 fn own_rule(bytes: &[u8], line: &Line<'_, '_>) -> Option<u32>
     requires form { line_view line.now ≡ form_of bytes.now }
@@ -97,7 +83,7 @@ fn own_rule(bytes: &[u8], line: &Line<'_, '_>) -> Option<u32>
     requires driver { HasItsDriver line.now.kind }
     ensures { result ≡ lowest (own_rules bytes.now) }
 {
-    if has_refused(bytes, line) {
+    if has_refused_byte(line.comment) {
         return Some(rules::REFUSED_BYTE);
     }
     if is_no_form(line) {
@@ -142,13 +128,6 @@ fn makes_past(earlier: usize, made: usize, limit: usize) -> bool
     ensures fits { result ≡ false → earlier + made ≤ limit }
 {
     made > limit - earlier
-}
-
-/// Room for the tokens and the operands of a line, taken once for all lines.
-#[derive(Drop)]
-pub struct LineBuffers<'a> {
-    pub tokens: Vec<Token<'a>>,
-    pub operands: Vec<&'a [u8]>,
 }
 
 /// A use of a net: the number of its line, counted from 1, the net's name, and where the pin is that it makes.
@@ -370,10 +349,11 @@ impl<'a> NetlistDraft<'a> {
     }
 
     /// Takes the line of this number, or answers the lowest rule that it breaks. After a rule no more lines are to come.
+    /// The line's operands take the place of those found before.
     pub fn take_line(
         &mut self,
         alloc: Global,
-        buffers: &mut LineBuffers<'a>,
+        operands: &mut Vec<&'a [u8]>,
         number: u64,
         bytes: &'a [u8],
     ) -> Result<Option<u32>, NoMemory>
@@ -382,11 +362,10 @@ impl<'a> NetlistDraft<'a> {
         ensures taken { result ≡ Ok None → Takes self.old self.new number (form_of bytes.now) }
         ensures within { result ≡ Ok None → IsWithin self.new }
     {
-        let comment = Token::refill(&mut buffers.tokens, bytes)?;
-        let kind = Kind::of_tokens(&mut buffers.operands, &buffers.tokens)?;
+        let (kind, comment) = Kind::of_line(operands, bytes)?;
         let line = Line {
             kind,
-            operands: &buffers.operands,
+            operands: &*operands,
             comment,
         };
         let rule = self.add_sound_names(number, bytes, &line)?;

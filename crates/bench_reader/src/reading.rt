@@ -13,7 +13,7 @@ ghost use Rattle.bench_reader.specs.NetlistDrafts.{IsAfter, IsWithin};
 ghost use Rattle.bench_reader.specs.NetUses.{use_views, uses_after};
 ghost use Rattle.bench_reader.specs.FaultlessLines.{IsRead};
 
-use crate::first_round::{LineBuffers, NetlistDraft};
+use crate::first_round::NetlistDraft;
 use crate::second_round::{numbers_of, pins_of};
 use scan_model::{Circuit, MakeFault, Net, Pin, Rows, rules};
 use std::alloc::Global;
@@ -30,13 +30,10 @@ fn take_lines<'a>(
     ensures fault { Gives (λ done. use_views draft.new.uses.items) result (refused_or (first_fault (first_rule (nows texts.now)) (length (nows texts.now))) (uses_after 1 0 [] (forms_of (nows texts.now)))) }
     ensures read { OnOk result (IsRead draft.new (forms_of (nows texts.now))) }
 {
-    let mut buffers = LineBuffers {
-        tokens: Vec::new(alloc),
-        operands: Vec::new(alloc),
-    };
+    let mut operands = Vec::new(alloc);
     for (i, text) in texts.iter().enumerate() {
         let line = i as u64 + 1;
-        if let Some(rule) = draft.take_line(alloc, &mut buffers, line, text)? {
+        if let Some(rule) = draft.take_line(alloc, &mut operands, line, text)? {
             return Err(ReadFault::Text(TextFault { line, rule }));
         }
     }

@@ -1,5 +1,5 @@
 use Rattle.std.proofs.Common.{length, true, refl, sym, ◌∙◌}
-use Rattle.bench_reader.specs.Lines.{line_view}
+use Rattle.bench_lines.specs.Lines.{line_view}
 use Rattle.bench_reader.proofs.FirstRules.{rule_after_own, is_taken_name, is_new_name}
 use Rattle.bench_reader.proofs.first_round.NetlistDraft.add_sound_names.Goals as goal
 

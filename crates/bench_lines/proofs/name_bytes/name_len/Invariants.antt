@@ -1,7 +1,7 @@
 use Rattle.std.proofs.Common.{◌≡◌, ◌+◌, drop}
 use Rattle.std.specs.List.{prefix_len}
 use Rattle.scan_model.specs.Words.{is_name_byte}
-use Rattle.bench_reader.proofs.name_bytes.name_len.Given as goal
+use Rattle.bench_lines.proofs.name_bytes.name_len.Given as goal
 
 abbrev pub invariant-loop-b : goal.invariant-loop-b
 invariant-loop-b l = record {

@@ -1,12 +1,11 @@
 -- Lines without where they lie in memory.
-use Rattle.scan_model.specs.NetlistLines.{Form, nothing, input, output, definition, no_form, driver_named, form_of}
-use Rattle.std.specs.Prelude.{ℕ, ◌≡◌, Bool, true, false, List}
+use Rattle.scan_model.specs.NetlistLines.{Form, nothing, input, output, definition, no_form, driver_named}
+use Rattle.std.specs.Prelude.{ℕ, ◌≡◌, List}
 use Rattle.scan_model.specs.Lines.{has_refused_byte}
-use Rattle.scan_model.specs.NetlistRules.{is_no_form}
 use Rattle.text_parts.specs.Views.{nows}
-use Rattle.bench_reader.specs.declared.line.Kind.{Kind}
-use Rattle.bench_reader.specs.declared.line.Kind.TheVariants.{Nothing, Input, Output, Definition, NoForm}
-use Rattle.bench_reader.specs.declared.line.Line.{Line}
+use Rattle.bench_lines.specs.declared.line.Kind.{Kind}
+use Rattle.bench_lines.specs.declared.line.Kind.TheVariants.{Nothing, Input, Output, Definition, NoForm}
+use Rattle.bench_lines.specs.declared.line.Line.{Line}
 
 -- what a line is, with these operands if it is a definition
 abbrev pub kind_view : List (List ℕ) → Kind → Form
@@ -24,11 +23,6 @@ abbrev pub HasItsDriver : Kind → Type 0
 HasItsDriver (Definition n word driver) = driver ≡ driver_named word.now
 HasItsDriver k = Unit {0}
 
--- if the line has a form, then it has a refused byte where its comment has one
+-- the refused bytes of a line are in its comment
 abbrev pub HasItsComment : List ℕ → Line → Type 0
-HasItsComment bytes l = is_no_form (form_of bytes) ≡ false → has_refused_byte l.comment.now ≡ has_refused_byte bytes
-
--- nothing stands outside the line's comment
-abbrev pub is_nothing : Form → Bool
-is_nothing nothing = true
-is_nothing f = false
+HasItsComment bytes l = has_refused_byte l.comment.now ≡ has_refused_byte bytes

@@ -1,0 +1,3 @@
+-- What the contracts of a netlist's lines say.
+pub mod Parts
+pub mod Lines
