@@ -113,8 +113,13 @@ impl Case {
         requires die { is_tag die.now ≡ true }
         ensures { IfOk result (λ case. case ≡ record { design = design.now; die = die.now; test = parts; logs = [] }) }
     {
-        let made = prepare(alloc, design, die, &parts)?;
-        Ok(Case::whole(alloc, parts, made))
+        match prepare(alloc, design, die, &parts) {
+            Ok(made) => Ok(Case::whole(alloc, parts, made)),
+            Err(refused) => {
+                drop(parts);
+                Err(refused)
+            }
+        }
     }
 
     /// What the design stands for.

@@ -247,7 +247,13 @@ pub fn design_with(
         patterns,
         neighbours,
     };
-    let named = named_bundle(alloc, name, &texts)?;
+    let named = match named_bundle(alloc, name, &texts) {
+        Ok(named) => named,
+        Err(refused) => {
+            drop(parts);
+            return Err(refused);
+        }
+    };
     let made = with_responses(alloc, parts)?;
     Ok(Design::whole(named.name, named.text, made))
 }

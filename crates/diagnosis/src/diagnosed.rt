@@ -1,7 +1,8 @@
 //! The diagnosis of a die from its logs.
-ghost use Rattle.std.specs.Prelude.{◌≡◌, All, length, map, IfOk};
+ghost use Rattle.std.specs.Prelude.{◌≡◌, ◌<◌, All, length, map, IfOk};
 ghost use Rattle.std.specs.Arc.{arc_value};
 ghost use Rattle.scan_model.specs.ScanTest.{points_of};
+ghost use Rattle.scan_model.specs.Universe.{universe};
 ghost use Rattle.scan_model.specs.MatchCounts.{candidates};
 ghost use Rattle.scan_model.specs.Ranking.{ranked};
 ghost use Rattle.log_join.specs.Joining.{StandsFor, IsJoinedOf};
@@ -52,6 +53,64 @@ pub fn joined_of(alloc: Global, parts: &Parts, logs: &[Arc<ReadLog>]) -> Result<
     Ok(joined)
 }
 
+// The head of a report over so many logs.
+fn head_of(alloc: Global, design: &[u8], die: &[u8], logs: u64) -> Result<Head, NoMemory>
+    ensures design { IfOk result (λ head. head.design ≡ design.now) }
+    ensures die { IfOk result (λ head. head.die ≡ die.now) }
+    ensures logs { IfOk result (λ head. head.logs ≡ logs) }
+{
+    let design = Name::copy_of(alloc, design)?;
+    let die = Name::copy_of(alloc, die)?;
+    Ok(Head { design, die, logs })
+}
+
+// The report over the logs of a die, joined, given its candidates in order.
+fn report_over(
+    alloc: Global,
+    subject: &Subject<'_>,
+    joined: &Joined,
+    rows: &Rows<Scored>,
+) -> Result<Report, NoMemory>
+    requires subject { IsSubject subject.now }
+    requires size { IsJoinedOf (length subject.now.parts.now.patterns) (length (points_of subject.now.parts.now)) joined.now }
+    requires stands { StandsFor (facts_of (subject_case subject.now).logs) joined.now }
+    requires places { All (λ row. row.place < length (universe subject.now.parts.now)) rows.now }
+    requires ranked { rows.now ≡ ranked (candidates subject.now.parts.now (facts_of (subject_case subject.now).logs)) }
+    ensures { IfOk result (λ report. report ≡ case_lines (subject_case subject.now)) }
+{
+    let head = head_of(
+        alloc,
+        subject.design,
+        subject.die,
+        subject.logs.len() as u64,
+    )?;
+    let (parts, expected) = (subject.parts, subject.expected);
+    make_text(alloc, parts, &head, expected, joined, rows)
+}
+
+// The diagnosis of a die from its logs, joined.
+fn diagnosis_over<R: Threads + Sync>(
+    rt: &R,
+    alloc: Global,
+    subject: &Subject<'_>,
+    joined: &Joined,
+) -> Result<Diagnosis, NoMemory>
+    requires subject { IsSubject subject.now }
+    requires size { IsJoinedOf (length subject.now.parts.now.patterns) (length (points_of subject.now.parts.now)) joined.now }
+    requires stands { StandsFor (facts_of (subject_case subject.now).logs) joined.now }
+    ensures lines { IfOk result (λ d. d.report ≡ case_lines (subject_case subject.now)) }
+    ensures candidates { IfOk result (λ d. d.candidates ≡ ranked (candidates subject.now.parts.now (facts_of (subject_case subject.now).logs))) }
+{
+    let (parts, good, expected) = (subject.parts, subject.good, subject.expected);
+    let mut rows = counts(rt, alloc, parts, good, expected, joined)?;
+    rank(&mut rows);
+    let report = report_over(alloc, subject, joined, &rows)?;
+    Ok(Diagnosis {
+        report,
+        candidates: rows,
+    })
+}
+
 /// The diagnosis of a die.
 pub fn diagnosis_of<R: Threads + Sync>(
     rt: &R,
@@ -62,25 +121,8 @@ pub fn diagnosis_of<R: Threads + Sync>(
     ensures lines { IfOk result (λ d. d.report ≡ case_lines (subject_case subject.now)) }
     ensures candidates { IfOk result (λ d. d.candidates ≡ ranked (candidates subject.now.parts.now (facts_of (subject_case subject.now).logs))) }
 {
-    let Subject {
-        design,
-        die,
-        parts,
-        good,
-        expected,
-        logs,
-    } = *subject;
-    let joined = joined_of(alloc, parts, logs)?;
-    let mut rows = counts(rt, alloc, parts, good, expected, &joined)?;
-    rank(&mut rows);
-    let head = Head {
-        design: Name::copy_of(alloc, design)?,
-        die: Name::copy_of(alloc, die)?,
-        logs: logs.len() as u64,
-    };
-    let report = make_text(alloc, parts, &head, expected, &joined, &rows)?;
-    Ok(Diagnosis {
-        report,
-        candidates: rows,
-    })
+    let joined = joined_of(alloc, subject.parts, subject.logs)?;
+    let diagnosis = diagnosis_over(rt, alloc, subject, &joined);
+    drop(joined);
+    diagnosis
 }

@@ -21,6 +21,11 @@ pub(crate) fn simulated(alloc: Global, parts: &Parts) -> Result<Simulation, NoMe
     ensures expected { IfOk result (λ made. made.expected ≡ expected_rows parts.now) }
 {
     let good = PackedGood::make(alloc, parts)?;
-    let expected = expected_at_points(alloc, parts, good.rows())?;
-    Ok(Simulation { good, expected })
+    match expected_at_points(alloc, parts, good.rows()) {
+        Ok(expected) => Ok(Simulation { good, expected }),
+        Err(refused) => {
+            drop(good);
+            Err(refused)
+        }
+    }
 }

@@ -203,9 +203,14 @@ fn read_with<O, S: TextSource<O>>(
     ensures later { S.faults outside.old ≤ S.faults outside.new }
 {
     let NamedCircuit { circuit, names } = named;
-    match read_behind(alloc, source, outside, netlist, &circuit, &names) {
+    let over = read_behind(alloc, source, outside, netlist, &circuit, &names);
+    drop(names);
+    match over {
         Ok(over) => Ok(DesignReadings { circuit, over }),
-        Err(stop) => Err(stop),
+        Err(stop) => {
+            drop(circuit);
+            Err(stop)
+        }
     }
 }
 
