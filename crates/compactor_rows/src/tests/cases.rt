@@ -97,7 +97,11 @@ fn holds(rt: &impl Abort, alloc: Global, parts: &Parts, channels: &[u8], rows: &
         expected: &expected,
         joined: &joined,
     };
-    are_rows(case, rows)
+    let are_due = are_rows(case, rows);
+    drop(expected);
+    drop(joined);
+    drop(compact);
+    are_due
 }
 
 const NETLIST: &[u8] =
@@ -149,7 +153,9 @@ fn all_hold(rt: &impl Abort, alloc: Global, parts: &Parts) -> bool {
 
 fn four_chains_hold(rt: &impl Abort, alloc: Global) -> bool {
     let parts = four_chains(rt, alloc);
-    all_hold(rt, alloc, &parts)
+    let hold = all_hold(rt, alloc, &parts);
+    drop(parts);
+    hold
 }
 
 #[test]
