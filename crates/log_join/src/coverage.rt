@@ -114,6 +114,9 @@ fn cover_tested(words: &mut [u64], points: usize, word: usize, mask: u64, ends: 
     ensures { (w k : ℕ) → k < points → table_bit words.new points w k
         ≡ ((w / 64 == word) && ((bit_at mask (w % 64) == 1) && nat_lt w (slice_index_or ends.now k 0)) || table_bit words.old points w k) }
 {
+    if mask == 0 {
+        return;
+    }
     if word < least as usize / 64 {
         cover_whole_word(words, points, word, mask);
     } else {
@@ -142,9 +145,7 @@ fn cover_words(words: &mut [u64], points: usize, tested: &[u64], ends: &[u32])
 {
     let least = least_end(ends);
     for word in 0..tested.len() {
-        if tested[word] != 0 {
-            cover_tested(words, points, word, tested[word], ends, least);
-        }
+        cover_tested(words, points, word, tested[word], ends, least);
     }
 }
 
