@@ -1,72 +1,11 @@
--- Steps of the loops that find what a log covers.
-use Rattle.std.proofs.Common.{◌≡◌, ℕ, ◌+◌, ◌*◌, ◌/◌, ◌%◌, ◌<◌, Bool, true, false, not, cond, ◌||◌, ◌&&◌, eqb, ltb, leb, List, [], ◌∷◌, length, get_or, set, take, min, refl, sym, ap, ◌∙◌, inl, inr, arith}
-use Rattle.std.specs.Prelude.{All, bit_and}
+-- Steps of the loops that cover words of patterns.
+use Rattle.std.proofs.Common.{◌≡◌, ℕ, ◌+◌, ◌*◌, ◌/◌, ◌%◌, Bool, true, false, ◌||◌, ◌&&◌, eqb, ltb, leb, List, get_or, refl, sym, ap, ◌∙◌, inl, inr, arith}
+use Rattle.std.specs.Prelude.{bit_and}
 use Rattle.std.specs.Int.{bit_at}
-use Rattle.std.specs.List.{list_any}
 use Rattle.std.proofs.lemmas.Bool.{cases_lt, cases_eq, eq-eqb, ne_eqb, lt-ltb, le-ltb, le-leb}
-use Rattle.std.proofs.lemmas.Grind.{get_or-set_at}
-use Rattle.std.proofs.lemmas.List.{get_or-set_other}
-use Rattle.std.proofs.lemmas.List.Elements.{All-head, All-tail}
-use Rattle.std.proofs.lemmas.List.Folds.{list_any_more}
-use Rattle.scan_model.specs.Coverage.{has_point}
+use Rattle.scan_model.specs.BitTable.{table_bit}
 use Rattle.scan_model.proofs.BitTables.{bit_of_and}
 
--- ---- a group is cut
-min_of : (w a b : ℕ) → ltb w (min a b) ≡ (ltb w a && ltb w b)
-min_of w a b = elim (cases_lt w a) [
-  | inr no_first ↦ rw (le-ltb w a no_first, le-ltb w (min a b) (omega arith)) refl
-  | inl first ↦ elim (cases_lt w b) [
-    | inl second ↦ rw (lt-ltb w a first, lt-ltb w b second, lt-ltb w (min a b) (omega arith)) refl
-    | inr no_second ↦ rw (lt-ltb w a first, le-ltb w b no_second, le-ltb w (min a b) (omega arith)) refl
-  ]
-]
-
-cut_here : (old has reached : Bool) → ((old && (not has || reached)) && reached) ≡ (old && (not (has || true) || reached))
-cut_here true true true = refl
-cut_here true true false = refl
-cut_here true false true = refl
-cut_here true false false = refl
-cut_here false has reached = refl
-
-or_false : (b : Bool) → (b || false) ≡ b
-or_false true = refl
-or_false false = refl
-
--- one more point of the group
-pub cut_on : (ends0 ends1 group : List ℕ) (i end w k : ℕ) (reached : Bool) → i < length group → get_or group i 0 < length ends1
-    → (k ≡ get_or group i 0 → ltb w end ≡ reached)
-    → ltb w (get_or ends1 k 0) ≡ (ltb w (get_or ends0 k 0) && (not (has_point (take i group) k) || reached))
-    → ltb w (get_or (set ends1 (get_or group i 0) (min (get_or ends1 (get_or group i 0) 0) end)) k 0) ≡ (ltb w (get_or ends0 k 0) && (not (has_point (take (i + 1) group) k) || reached))
-cut_on ends0 ends1 group i end w k reached lt inside ends so_far =
-    let p = get_or group i 0 in
-    let more = list_any_more (λ m. eqb k m) group i 0 lt in
-    elim (cases_eq k p) [
-      | inl same ↦
-          ap (λ (n : ℕ). ltb w n) (get_or-set_at ends1 p k (min (get_or ends1 p 0) end) 0 same inside)
-          ∙ min_of w (get_or ends1 p 0) end
-          ∙ ap (λ (b : Bool). b && ltb w end) (ap (λ (n : ℕ). ltb w (get_or ends1 n 0)) (sym same) ∙ so_far)
-          ∙ ap (λ (b : Bool). (ltb w (get_or ends0 k 0) && (not (has_point (take i group) k) || reached)) && b) (ends same)
-          ∙ cut_here (ltb w (get_or ends0 k 0)) (has_point (take i group) k) reached
-          ∙ sym (ap (λ (b : Bool). ltb w (get_or ends0 k 0) && (not b || reached)) (more ∙ ap (λ (b : Bool). has_point (take i group) k || b) (eq-eqb k p same)))
-      | inr other ↦
-          ap (λ (n : ℕ). ltb w n) (get_or-set_other ends1 p k (min (get_or ends1 p 0) end) 0 other) ∙ so_far
-          ∙ sym (ap (λ (b : Bool). ltb w (get_or ends0 k 0) && (not b || reached)) (more ∙ ap (λ (b : Bool). has_point (take i group) k || b) (ne_eqb k p other) ∙ or_false (has_point (take i group) k)))
-    ]
-
--- two tests that agree on each element of a list
-pub list_any_where : {X : Type 0} (p q : X → Bool) → (xs : List X) → All (λ x. p x ≡ q x) xs → list_any p xs ≡ list_any q xs
-list_any_where p q [] same = refl
-list_any_where p q (x ∷ xs) same = ap (λ (b : Bool). b || list_any p xs) (All-head (λ y. p y ≡ q y) x xs same) ∙ ap (λ (b : Bool). q x || b) (list_any_where p q xs (All-tail (λ y. p y ≡ q y) x xs same))
-
-pub marked : (has : Bool) (mark : Bool) → mark ≡ false → cond has true mark ≡ has
-marked true mark is = refl
-marked false mark is = is
-
-pub unmarked : (has : Bool) (mark : Bool) → mark ≡ false → cond has false (cond has true mark) ≡ false
-unmarked true mark is = refl
-unmarked false mark is = is
-
--- ---- words are covered
 no_place : (e m : Bool) (old : Bool) → (((e && false) && m) || old) ≡ old
 no_place true m old = refl
 no_place false m old = refl
@@ -90,3 +29,55 @@ covered_on w k word point ends mask before new so_far old is masks so_far_is = e
     | inr above ↦ rw (le-ltb k point above, le-ltb k (point + 1) (omega (arith, other))) refl
   ])
 ]
+
+-- ---- whole words
+one_more_place : (e here below m old : Bool) → (((e && here) && m) || (((e && below) && m) || old)) ≡ (((e && (below || here)) && m) || old)
+one_more_place false here below m old = refl
+one_more_place true true true true old = refl
+one_more_place true true true false old = refl
+one_more_place true true false true old = refl
+one_more_place true true false false old = refl
+one_more_place true false true m old = refl
+one_more_place true false false m old = refl
+
+below_next : (k point : ℕ) → ltb k (point + 1) ≡ (ltb k point || eqb k point)
+below_next k point = elim (cases_lt k point) [
+  | inl below ↦ rw (lt-ltb k point below, lt-ltb k (point + 1) (omega arith)) refl
+  | inr above ↦ elim (cases_eq k point) [
+    | inl same ↦ rw (le-ltb k point above, eq-eqb k point same, lt-ltb k (point + 1) (omega (arith, same))) refl
+    | inr other ↦ rw (le-ltb k point above, ne_eqb k point other, le-ltb k (point + 1) (omega (arith, other))) refl
+  ]
+]
+
+-- one more point of a word that is covered at all points
+pub whole_on : (w k word point mask : ℕ) (new so_far old : Bool)
+    → new ≡ (((eqb (w / 64) word && eqb k point) && eqb (bit_at mask (w % 64)) 1) || so_far)
+    → so_far ≡ (((eqb (w / 64) word && ltb k point) && eqb (bit_at mask (w % 64)) 1) || old)
+    → new ≡ (((eqb (w / 64) word && ltb k (point + 1)) && eqb (bit_at mask (w % 64)) 1) || old)
+whole_on w k word point mask new so_far old is so_far_is =
+    let e = eqb (w / 64) word in
+    let m = eqb (bit_at mask (w % 64)) 1 in
+    is ∙ ap (λ (b : Bool). ((e && eqb k point) && m) || b) so_far_is ∙ one_more_place e (eqb k point) (ltb k point) m old
+    ∙ sym (ap (λ (b : Bool). ((e && b) && m) || old) (below_next k point))
+
+-- one more word
+pub words_on : (tested ends : List ℕ) (w k word : ℕ) (new so_far old : Bool)
+    → new ≡ ((eqb (w / 64) word && (eqb (bit_at (get_or tested word 0) (w % 64)) 1 && ltb w (get_or ends k 0))) || so_far)
+    → so_far ≡ ((ltb (w / 64) word && (table_bit tested 1 w 0 && ltb w (get_or ends k 0))) || old)
+    → new ≡ ((ltb (w / 64) (word + 1) && (table_bit tested 1 w 0 && ltb w (get_or ends k 0))) || old)
+words_on tested ends w k word new so_far old is so_far_is =
+    let ends_later = ltb w (get_or ends k 0) in
+    let bit = λ (n : ℕ). eqb (bit_at (get_or tested n 0) (w % 64)) 1 in
+    elim (cases_eq (w / 64) word) [
+      | inl same ↦
+          let at : w / 64 * 1 + 0 ≡ word = omega (arith, same) in
+          is ∙ rw (so_far_is, eq-eqb (w / 64) word same, le-ltb (w / 64) word (omega (arith, same)))
+          (ap (λ (b : Bool). (b && ends_later) || old) (sym (ap bit at))
+          ∙ sym (ap (λ (b : Bool). (b && (table_bit tested 1 w 0 && ends_later)) || old) (lt-ltb (w / 64) (word + 1) (omega (arith, same)))))
+      | inr other ↦
+          is ∙ rw (so_far_is, ne_eqb (w / 64) word other, below_next (w / 64) word, ne_eqb (w / 64) word other) (kept (ltb (w / 64) word) (table_bit tested 1 w 0 && ends_later) old)
+    ]
+  where
+    kept : (below here old : Bool) → ((below && here) || old) ≡ (((below || false) && here) || old)
+    kept true here old = refl
+    kept false here old = refl

@@ -1,4 +1,3 @@
 -- What the contracts of joined logs say.
 pub mod Joining
-pub mod FailReach
 pub mod CoverageBits

@@ -5,10 +5,9 @@ ghost use Rattle.std.specs.Int.{bit_at};
 ghost use Rattle.scan_model.specs.BitTable.{table_bit};
 ghost use Rattle.scan_model.specs.Coverage.{bit_of, not_after, some_holds, has_point, group_goes_on, covers, FitsLog};
 ghost use Rattle.log_join.specs.CoverageBits.{IsCoverageOf, is_covered};
-ghost use Rattle.log_join.specs.FailReach.{reaches, HasEnds, FitsWords, AreUnmarked};
+ghost use Rattle.listed_bits.specs.FailReach.{reaches, HasEnds, FitsWords, AreUnmarked};
 
-use crate::ends::{cut_groups, set_ends};
-use crate::reach::{Reach, reach_of};
+use listed_bits::{Reach, cut_groups, reach_of, set_ends};
 use scan_model::{LogFacts, NoMemory, Range, mark_patterns, pattern_mask, set_bits};
 use std::alloc::Global;
 use std::marker::Model;
@@ -27,7 +26,7 @@ pub struct Coverage {
 impl Model for Coverage {
     ghost use Rattle.std.specs.Prelude.{◌≡◌, vec_len};
     ghost use Rattle.log_join.specs.CoverageBits.{CoverageBits};
-    ghost use Rattle.log_join.specs.FailReach.{AreUnmarked};
+    ghost use Rattle.listed_bits.specs.FailReach.{AreUnmarked};
 
     ghost Value = { CoverageBits };
 
@@ -115,6 +114,9 @@ fn cover_tested(words: &mut [u64], points: usize, word: usize, mask: u64, ends: 
     ensures { (w k : ℕ) → k < points → table_bit words.new points w k
         ≡ ((w / 64 == word) && ((bit_at mask (w % 64) == 1) && nat_lt w (slice_index_or ends.now k 0)) || table_bit words.old points w k) }
 {
+    if mask == 0 {
+        return;
+    }
     if word < least as usize / 64 {
         cover_whole_word(words, points, word, mask);
     } else {
@@ -143,9 +145,7 @@ fn cover_words(words: &mut [u64], points: usize, tested: &[u64], ends: &[u32])
 {
     let least = least_end(ends);
     for word in 0..tested.len() {
-        if tested[word] != 0 {
-            cover_tested(words, points, word, tested[word], ends, least);
-        }
+        cover_tested(words, points, word, tested[word], ends, least);
     }
 }
 

@@ -11,7 +11,7 @@ ghost use Rattle.log_join.specs.Joining.{StandsFor, HaveSameLogs, IsJoinedOf, Fi
 ghost use Rattle.log_join.specs.CoverageBits.{IsCoverageOf, is_covered};
 
 use crate::coverage::Coverage;
-use crate::fails::{copy_bits, set_listed};
+use listed_bits::{copy_bits, set_listed};
 use scan_model::{Bit, BitClass, Expected, LogFacts, NoMemory, Tri, bit, pattern_mask};
 use std::alloc::Global;
 use std::marker::Model;

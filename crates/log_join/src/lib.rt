@@ -2,10 +2,7 @@
 #![tactic(auto)]
 
 mod coverage;
-mod ends;
-mod fails;
 mod joined;
-mod reach;
 
 pub use joined::Joined;
 pub use scan_model::BitClass;

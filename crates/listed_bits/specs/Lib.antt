@@ -1,0 +1,2 @@
+-- What the contracts of listed bits say.
+pub mod FailReach
