@@ -86,7 +86,9 @@ fn add_diagnosis<R: Threads + Sync>(
     let place = injected.place;
     add_fault(alloc, text, case.parts(), &injected)?;
     let diagnosis = diagnosis_of(rt, alloc, case, injected)?;
-    add_ranking(alloc, text, &diagnosis, place)
+    let added = add_ranking(alloc, text, &diagnosis, place);
+    drop(diagnosis);
+    added
 }
 
 // Adds the lines of what was found.
@@ -140,7 +142,9 @@ fn text_of_design<R: Threads + Sync>(
     ensures { IfOk result (IsText demo.seed demo.blocks parts) }
 {
     let mut case = Case::make(alloc, b"demo", b"demo", parts)?;
-    text_over(rt, alloc, demo, &mut case, draws)
+    let text = text_over(rt, alloc, demo, &mut case, draws);
+    drop(case);
+    text
 }
 
 // The scan test of the texts that were made.
@@ -180,5 +184,7 @@ pub fn demo_text<R: Threads + Sync>(rt: &R, alloc: Global, demo: Demo) -> Result
 {
     let mut made = made_design(alloc, demo.seed, demo.blocks)?;
     let parts = parts_of_made(alloc, &made)?;
-    text_of_design(rt, alloc, demo, parts, &mut made.draws)
+    let text = text_of_design(rt, alloc, demo, parts, &mut made.draws);
+    drop(made);
+    text
 }

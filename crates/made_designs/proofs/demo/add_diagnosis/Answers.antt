@@ -25,10 +25,10 @@ returns g c =
     let told : t2 ≡ t1 ++ count_line (codes "fails") (length log.facts.fails) =
     c.in_ok-add_fault.ensures
     ∙ ap (λ (t : ScanTest). (c.args.text.now ++ line (codes "injected" ∷ decimal place ∷ fault_words t (fault_of t place))) ++ count_line (codes "fails") (length log.facts.fails)) c.parts.ensures in
-    on_ok_weaker c.add_ranking.result
+    on_ok_weaker c.add_ranking-added.result
     (
     diagnosis_added t place (length log.facts.fails) (length made.candidates) made.candidates (concatenated made.report)
-    c.args.text.now t1 t2 t3 t4 c.add_ranking.new.text
+    c.args.text.now t1 t2 t3 t4 c.add_ranking-added.new.text
     fails c.in_ok-diagnosis.ensures.candidates c.in_ok-diagnosis.ensures.report refl refl told refl refl
     )
-    c.add_ranking.ensures
+    c.add_ranking-added.ensures
