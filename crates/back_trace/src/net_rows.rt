@@ -8,7 +8,7 @@ use std::alloc::Global;
 use std::marker::Model;
 
 /// A row for each net, where most nets have none. Nets without lanes share the first row. Contracts see a row for each net.
-#[derive(Debug, Drop)]
+#[derive(Drop)]
 pub(crate) struct NetRows {
     slots: Vec<usize>,
     rows: Vec<Row>,

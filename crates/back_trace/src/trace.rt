@@ -5,7 +5,7 @@ use lane_rows::Row;
 use scan_model::Rows;
 
 /// From where the failing bits of a block can be reached.
-#[derive(Debug, Drop)]
+#[derive(Drop)]
 pub(crate) struct Trace {
     /// By point: the lanes whose bit fails.
     pub fails: Rows<Row>,

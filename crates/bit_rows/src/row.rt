@@ -10,7 +10,7 @@ use std::marker::Model;
 use std::simd::prelude::*;
 
 /// 512 lanes, each set or not. Contracts see eight words of 64.
-#[derive(Clone, Copy, Debug)]
+#[derive(Clone, Copy)]
 pub struct Row {
     words: u64x8,
 }

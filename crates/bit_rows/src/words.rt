@@ -8,7 +8,7 @@ use std::marker::Model;
 
 /// Lanes that are written one at a time: a `Row` is a vector, and to change one lane of it is to write it whole. Contracts
 /// see eight words of 64.
-#[derive(Clone, Copy, Debug)]
+#[derive(Clone, Copy)]
 pub struct LaneWords {
     words: [u64; 8],
 }

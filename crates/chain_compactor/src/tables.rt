@@ -16,7 +16,7 @@ use std::alloc::Global;
 
 /// For each chain the channels that show it and the nets that its cells observe, and for each channel its compact point in each
 /// cycle.
-#[derive(Debug, Drop)]
+#[derive(Drop)]
 pub struct Tables {
     pub channels: Vec<Vec<u32>>,
     pub places: Vec<Vec<u32>>,

@@ -7,14 +7,14 @@ use scan_model::{Name, Point, Rows};
 use std::marker::Model;
 
 /// A channel: its name, and the numbers of the chains whose XOR it shows.
-#[derive(Debug, Drop)]
+#[derive(Drop)]
 pub struct Channel {
     pub name: Name,
     pub chains: Rows<u32>,
 }
 
 /// The channels in file order, and the compact points in their order. Contracts see a `Compactor`.
-#[derive(Debug, Drop)]
+#[derive(Drop)]
 pub struct Compact {
     channels: Rows<Channel>,
     points: Rows<Point>,

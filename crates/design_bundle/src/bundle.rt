@@ -13,7 +13,7 @@ use text_parts::{TextFault, is_ended};
 
 /// The profile of a design and its four texts, as they stand in its bundle or in files of their
 /// own.
-#[derive(Clone, Copy, Debug)]
+#[derive(Clone, Copy)]
 pub struct Sections<'a> {
     pub profile: Profile,
     pub netlist: &'a [u8],

@@ -10,7 +10,7 @@ use crate::head::method::Method;
 use httparse::spans::Span;
 
 /// Why a head is refused before a route is looked for.
-#[derive(Clone, Copy, Debug, PartialEq, Eq)]
+#[derive(Clone, Copy, PartialEq, Eq)]
 pub enum HeadFault {
     /// It isn't the head of a request, a Content-Length isn't digits alone or differs from another, or the target isn't `/` followed by
     /// letters, digits, `_`, `-`, `.` and `/`.
@@ -26,7 +26,7 @@ pub enum HeadFault {
 }
 
 /// A head that asks for something: how long it is, and what it asks for.
-#[derive(Clone, Copy, Debug, PartialEq, Eq)]
+#[derive(Clone, Copy, PartialEq, Eq)]
 pub struct Head {
     /// The number of its bytes, with its empty line: the body begins there.
     pub length: usize,
@@ -42,7 +42,7 @@ pub struct Head {
 }
 
 /// What stands at the front of bytes.
-#[derive(Clone, Copy, Debug, PartialEq, Eq)]
+#[derive(Clone, Copy, PartialEq, Eq)]
 pub enum HeadSeen {
     /// No whole head yet.
     Unended,

@@ -16,7 +16,7 @@ use desk_outside::{Link, LinkRead};
 use scan_model::NoMemory;
 
 /// How reading up to the end of a head ended.
-#[derive(Clone, Copy, Debug, PartialEq, Eq)]
+#[derive(Clone, Copy, PartialEq, Eq)]
 pub enum HeadRead {
     /// A head that is refused stands at the front.
     Refused(HeadFault),
@@ -31,7 +31,7 @@ pub enum HeadRead {
 }
 
 /// How reading up to the end of a body ended.
-#[derive(Clone, Copy, Debug, PartialEq, Eq)]
+#[derive(Clone, Copy, PartialEq, Eq)]
 pub enum BodyRead {
     /// All its bytes are there.
     Whole,
@@ -44,7 +44,7 @@ pub enum BodyRead {
 }
 
 // Why a read brought no bytes.
-#[derive(Clone, Copy, Debug, PartialEq, Eq)]
+#[derive(Clone, Copy, PartialEq, Eq)]
 enum ReadStop {
     End,
     LinkFault,

@@ -10,14 +10,14 @@ use crate::keeper::{KeepFault, Keeper};
 use scan_model::{Name, Rows};
 
 /// A keeper as it was handed out: the name that it was asked for by, and its deeds.
-#[derive(Debug, Drop)]
+#[derive(Drop)]
 pub struct HandedKeeper {
     pub name: Name,
     pub rows: Rows<Deed>,
 }
 
 /// A keeper that is home: its deeds, and its count of faults.
-#[derive(Debug, Drop)]
+#[derive(Drop)]
 pub struct KeeperHome {
     pub rows: Rows<Deed>,
     pub faults: u64,

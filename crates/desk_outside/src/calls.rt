@@ -9,7 +9,7 @@ use std::alloc::Global;
 pub struct Failed;
 
 // How many calls there were, which of them fail, and how often a call failed.
-#[derive(Debug, Drop)]
+#[derive(Drop)]
 pub struct Calls {
     pub made: u64,
     pub failing: Rows<u64>,

@@ -5,14 +5,14 @@ use scan_model::{Digest, Name, NoMemory};
 use std::alloc::Global;
 
 /// One accepted change of the book, and the number of the seat that made it.
-#[derive(Debug, Drop)]
+#[derive(Drop)]
 pub struct Deed {
     pub by: u32,
     pub what: DeedKind,
 }
 
 /// What was accepted.
-#[derive(Debug, Drop)]
+#[derive(Drop)]
 pub enum DeedKind {
     /// A design by its name, and the text of its bundle.
     Design {

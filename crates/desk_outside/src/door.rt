@@ -8,7 +8,7 @@ use crate::link::Link;
 use scan_model::Name;
 
 /// A connection that is home: the bytes that were sent, and whether it has failed.
-#[derive(Debug, Drop)]
+#[derive(Drop)]
 pub struct LinkHome {
     pub sent: Name,
     pub failed: bool,

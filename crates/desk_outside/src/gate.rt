@@ -7,7 +7,7 @@ pub trait Gate: Drop {
 }
 
 /// A gate that does nothing.
-#[derive(Clone, Copy, Debug, PartialEq, Eq)]
+#[derive(Clone, Copy, PartialEq, Eq)]
 pub struct OpenGate;
 
 impl Gate for OpenGate {

@@ -9,7 +9,7 @@ ghost use Rattle.desk_outside.specs.LinkReads.{HasRoomFor, Takes};
 use crate::calls::Failed;
 
 /// How a read of a connection ended.
-#[derive(Clone, Copy, Debug, PartialEq, Eq)]
+#[derive(Clone, Copy, PartialEq, Eq)]
 pub enum LinkRead {
     /// That many bytes were read.
     Got(usize),

@@ -13,7 +13,7 @@ use scan_model::{Name, NoMemory, Rows};
 use std::alloc::Global;
 
 /// How a read ended.
-#[derive(Clone, Copy, Debug, PartialEq, Eq)]
+#[derive(Clone, Copy, PartialEq, Eq)]
 pub enum ShelfAnswer {
     /// All bytes of the file were read.
     Read,
@@ -28,7 +28,7 @@ pub enum ShelfAnswer {
 }
 
 /// A file in memory: the bytes of its name, and those of its text.
-#[derive(Debug, Drop)]
+#[derive(Drop)]
 pub struct File {
     pub name: Name,
     pub text: Name,
@@ -107,7 +107,7 @@ fn read_from(files: &[File], name: &str, limit: u64, into: &mut Vec<u8>) -> Shel
 }
 
 /// Files in memory. The reads that are listed fail.
-#[derive(Debug, Drop)]
+#[derive(Drop)]
 pub struct MemShelf {
     files: Rows<File>,
     calls: Calls,
@@ -176,7 +176,7 @@ impl Shelf for MemShelf {
 }
 
 /// Files in memory. No read fails.
-#[derive(Debug, Drop)]
+#[derive(Drop)]
 pub struct SureShelf {
     files: Rows<File>,
 }

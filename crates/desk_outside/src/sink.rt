@@ -43,7 +43,7 @@ pub fn write_all<O: Sink>(out: &mut O, bytes: &[u8]) -> Result<(), Failed>
 }
 
 /// Bytes in memory. The writes that are listed fail, and so does one for which there is no memory.
-#[derive(Debug, Drop)]
+#[derive(Drop)]
 pub struct MemSink {
     written: Rows<u8>,
     calls: Calls,
@@ -123,7 +123,7 @@ impl Sink for MemSink {
 }
 
 /// Takes all bytes, and keeps none. No write fails.
-#[derive(Debug, Drop)]
+#[derive(Drop)]
 pub struct SureSink {}
 
 impl SureSink {

@@ -10,7 +10,7 @@ use scan_model::{Name, Rows};
 
 /// A door that is home: the bytes that each of its links had left when it was handed out, the links that came home to
 /// it, and whether the door has failed.
-#[derive(Debug, Drop)]
+#[derive(Drop)]
 pub struct DoorHome {
     pub given: Rows<Name>,
     pub done: Rows<LinkHome>,

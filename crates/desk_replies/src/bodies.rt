@@ -11,7 +11,7 @@ use scan_model::Digest;
 use text_parts::TextFault;
 
 /// A refusal whose body is fixed.
-#[derive(Clone, Copy, Debug, PartialEq, Eq)]
+#[derive(Clone, Copy, PartialEq, Eq)]
 pub enum Refusal {
     /// The head is refused.
     Head(HeadFault),
@@ -60,7 +60,7 @@ impl Refusal {
 }
 
 /// A text that may break a rule, by the word that a body has for it.
-#[derive(Clone, Copy, Debug, PartialEq, Eq)]
+#[derive(Clone, Copy, PartialEq, Eq)]
 pub enum TextKind {
     /// A bundle, a section of one, or a fail log.
     Section(Section),
@@ -226,7 +226,7 @@ pub fn text_fault_body(kind: TextKind, fault: TextFault) -> ShortText
 }
 
 /// What is put, by the body of the reply: that of a design is known, those of a log and a sign-off tell its number.
-#[derive(Debug, Drop)]
+#[derive(Drop)]
 pub enum Entry {
     Design(ShortText),
     Log,

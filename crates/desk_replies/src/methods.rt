@@ -5,7 +5,7 @@ ghost use Rattle.desk_replies.specs.Methods.{allows, methods_text};
 use desk_heads::Method;
 
 /// The methods of a route.
-#[derive(Clone, Copy, Debug, PartialEq, Eq)]
+#[derive(Clone, Copy, PartialEq, Eq)]
 pub enum Methods {
     /// GET alone.
     Get,

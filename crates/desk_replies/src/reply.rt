@@ -8,7 +8,7 @@ use crate::short::ShortText;
 use crate::status::Status;
 
 /// A final reply (RFC 9112, section 4), but for the bytes of its body.
-#[derive(Clone, Copy, Debug)]
+#[derive(Clone, Copy)]
 pub struct Reply {
     pub status: Status,
     /// The methods of the route, in a reply that refuses any other.

@@ -105,7 +105,7 @@ pub struct Response {
 }
 
 /// Why a request got no answer of its own. Nothing was done.
-#[derive(Clone, Copy, Debug, PartialEq, Eq)]
+#[derive(Clone, Copy, PartialEq, Eq)]
 pub enum AnswerFault {
     /// The keeper failed, and its count of faults rose.
     KeeperFault,

@@ -10,7 +10,7 @@ use scan_model::Digest;
 use std::marker::Model;
 
 /// A text of at most 256 bytes: contracts see its bytes as a list.
-#[derive(Debug, Drop)]
+#[derive(Drop)]
 pub struct ShortText {
     bytes: ArrayVec<u8, 256>,
 }

@@ -6,7 +6,7 @@ ghost use Rattle.desk_replies.specs.Statuses.{digits, phrase};
 use http::StatusCode;
 
 /// The statuses that the desk answers with, each of RFC 9110 but for two.
-#[derive(Clone, Copy, Debug, PartialEq, Eq)]
+#[derive(Clone, Copy, PartialEq, Eq)]
 pub enum Status {
     /// 200: it is there.
     Ok,

@@ -7,7 +7,7 @@ use desk_http::ShortText;
 use desk_outside::{Failed, Sink, write_all};
 
 /// How a run ended.
-#[derive(Clone, Copy, Debug, PartialEq, Eq)]
+#[derive(Clone, Copy, PartialEq, Eq)]
 pub enum Ending {
     /// All connections were served: so many sessions ended, and the store has so many deeds.
     Done { sessions: u64, deeds: u64 },

@@ -20,7 +20,7 @@ use std::thread::Threads;
 const MAX_DEEDS: u32 = 1_000_000;
 
 /// What `serve` is asked for.
-#[derive(Clone, Copy, Debug)]
+#[derive(Clone, Copy)]
 pub struct ServiceOrder<'a> {
     pub port: u16,
     /// From 1 to 64.

@@ -12,14 +12,14 @@ use std::marker::Model;
 const PAGE_LINES: usize = 100;
 
 /// A page was asked for that begins at no line of the report.
-#[derive(Clone, Copy, Debug, PartialEq, Eq)]
+#[derive(Clone, Copy, PartialEq, Eq)]
 pub struct PastEnd {
     /// The number of lines.
     pub lines: u64,
 }
 
 /// The report of a die. Contracts see its lines, each with its LF.
-#[derive(Debug, Drop)]
+#[derive(Drop)]
 pub struct Report {
     text: Name,
     ends: Rows<usize>,

@@ -27,7 +27,7 @@ const BIT_BYTES: usize = 32;
 const CANDIDATE_BYTES: usize = 80;
 
 /// What a report begins with: the tags of design and die, and the number of its logs.
-#[derive(Debug, Drop)]
+#[derive(Drop)]
 pub struct Head {
     pub design: Name,
     pub die: Name,

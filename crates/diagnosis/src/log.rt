@@ -14,7 +14,7 @@ use std::marker::Model;
 use text_parts::ReadFault;
 
 /// A fail log that was read: the names of its design and its die, its text, and what the text stands for.
-#[derive(Debug, Drop)]
+#[derive(Drop)]
 pub struct ReadLog {
     design: Name,
     die: Name,

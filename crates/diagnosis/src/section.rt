@@ -23,7 +23,7 @@ pub enum Section {
 }
 
 /// One of the four texts of a design.
-#[derive(Clone, Copy, Debug, PartialEq, Eq)]
+#[derive(Clone, Copy, PartialEq, Eq)]
 pub enum DesignText {
     Netlist,
     Scan,

@@ -3,7 +3,7 @@ use scan_model::{Digest, Name};
 
 /// A sign-off of a die: the revision, which is the number of logs that its report covers, who signed, and the SHA-256
 /// digest of the report's bytes.
-#[derive(Debug, Drop)]
+#[derive(Drop)]
 pub struct Sign {
     pub revision: u64,
     pub signer: Name,

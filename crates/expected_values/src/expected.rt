@@ -18,7 +18,7 @@ const BLOCK_PATTERNS: usize = 512;
 const BLOCK_WORDS: usize = 8;
 
 /// The responses of all places: a word for each place in the first 64 patterns, then in the next 64, and so on.
-#[derive(Debug, Drop)]
+#[derive(Drop)]
 struct ResponseWords {
     known: Rows<u64>,
     ones: Rows<u64>,

@@ -7,7 +7,7 @@ use std::marker::Model;
 use value_rows::Packed;
 
 /// A value of each of 64 lanes. Contracts see the lanes that are 1 and those that are 0.
-#[derive(Clone, Copy, Debug)]
+#[derive(Clone, Copy)]
 pub(crate) struct ValueWord {
     ones: u64,
     zeros: u64,

@@ -12,7 +12,7 @@ use std::alloc::Global;
 
 /// The gates of a circuit in an order of evaluation, and for each net who waits for it: the gates that read it and lead to an
 /// observed net.
-#[derive(Debug, Drop)]
+#[derive(Drop)]
 pub struct Wiring {
     /// The net of each gate, once each, behind the gates that it reads.
     pub order: Vec<u32>,

@@ -13,7 +13,7 @@ use std::alloc::Global;
 use std::marker::Model;
 
 /// The patterns that a log tested, and for each point the pattern before which the log covers it.
-#[derive(Debug, Drop)]
+#[derive(Drop)]
 pub struct Coverage {
     // A word for 64 patterns.
     tested: Vec<u64>,

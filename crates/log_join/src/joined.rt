@@ -17,7 +17,7 @@ use std::alloc::Global;
 use std::marker::Model;
 
 /// What the logs of a die say together of each bit. It stands for a list of logs, in any order and with repeats.
-#[derive(Debug, Drop)]
+#[derive(Drop)]
 pub struct Joined {
     patterns: u32,
     points: u32,

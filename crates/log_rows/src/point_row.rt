@@ -2,7 +2,7 @@
 use lane_rows::Row;
 
 /// The bits of a point in a block of 512 patterns: the lanes that are Failing, and those that are Passing.
-#[derive(Clone, Copy, Debug)]
+#[derive(Clone, Copy)]
 pub struct PointRow {
     pub failing: Row,
     pub passing: Row,

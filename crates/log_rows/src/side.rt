@@ -1,6 +1,6 @@
 //! The two classes of bits that count.
 /// The two classes of bits that count.
-#[derive(Clone, Copy, Debug)]
+#[derive(Clone, Copy)]
 pub enum Side {
     Failing,
     Passing,

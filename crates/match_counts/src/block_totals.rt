@@ -15,7 +15,7 @@ use std::alloc::Global;
 use std::marker::Model;
 
 /// What each suspect explains and mispredicts in the blocks so far, and how many Failing bits they have.
-#[derive(Debug, Drop)]
+#[derive(Drop)]
 pub struct BlockTotals {
     blocks: u32,
     failing: u64,

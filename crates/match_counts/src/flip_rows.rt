@@ -5,7 +5,7 @@ use lane_rows::Row;
 
 /// Where a flip of a net shows, a row for each place: the lanes whose bits are Failing, and those whose bits are Passing.
 /// Rows without a lane are left out.
-#[derive(Debug, Drop)]
+#[derive(Drop)]
 pub struct FlipRows {
     pub failing: Vec<Row>,
     pub passing: Vec<Row>,

@@ -10,7 +10,7 @@ use std::alloc::Global;
 use std::marker::Model;
 
 /// A count for each place of a block, with their sum.
-#[derive(Debug, Drop)]
+#[derive(Drop)]
 pub struct PlaceCounts {
     places: Vec<BlockCount>,
     sum: BlockCount,

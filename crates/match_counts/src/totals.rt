@@ -8,7 +8,7 @@ use crate::block_count::BlockCount;
 use fault_effects::Share;
 
 /// What a fault explains and mispredicts in the blocks so far.
-#[derive(Clone, Copy, Debug)]
+#[derive(Clone, Copy)]
 pub struct Total {
     pub tfsf: u64,
     pub tpsf: u64,

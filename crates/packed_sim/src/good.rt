@@ -4,7 +4,7 @@ use lane_rows::{GoodRows, Groups, Wiring};
 
 /// The fault-free values of all patterns, under whatever drives inputs and flops, and what is read off the circuit once:
 /// which gates wait for a net, and which points observe it.
-#[derive(Debug, Drop)]
+#[derive(Drop)]
 pub struct PackedGood {
     pub(crate) rows: GoodRows,
     pub(crate) wiring: Wiring,

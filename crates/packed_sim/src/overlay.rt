@@ -9,7 +9,7 @@ use std::alloc::Global;
 use std::marker::Model;
 
 /// Rows that stand for those of a block, net by net. A slot is 0, or one more than the place in the lists.
-#[derive(Debug, Drop)]
+#[derive(Drop)]
 pub struct Overlay {
     slots: Vec<u32>,
     nets: Vec<u32>,

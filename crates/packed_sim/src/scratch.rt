@@ -20,7 +20,7 @@ use std::alloc::Global;
 use std::sync::ledger::Ledger;
 
 /// What a change needs while it spreads: rows of the nets that it touched, and the places of the gates that wait.
-#[derive(Debug, Drop)]
+#[derive(Drop)]
 pub struct Scratch {
     pub overlay: Overlay,
     pub waiting: PlaceSet,

@@ -2,7 +2,7 @@
 use lane_rows::Row;
 
 /// The place of a fault, and the lanes of a block that it fits.
-#[derive(Clone, Copy, Debug)]
+#[derive(Clone, Copy)]
 pub struct Fit {
     pub place: u32,
     pub lanes: Row,

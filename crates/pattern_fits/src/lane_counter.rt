@@ -12,7 +12,7 @@ use std::marker::Model;
 const SLICES: usize = 24;
 
 /// A number below 2^24 in each of 512 lanes: slice i has the lanes whose number has bit i. Contracts see the slices.
-#[derive(Debug, Drop)]
+#[derive(Drop)]
 pub struct LaneCounter {
     slices: Vec<Row>,
 }

@@ -8,7 +8,7 @@ use std::marker::Model;
 
 /// A set of places, numbers from 0 up to a bound. Contracts see its words of 64 bits, by `has_place` and `room`. The places
 /// of `filled` are the words with a member, so that a look for the next member passes by 64 empty words at once.
-#[derive(Debug, Drop)]
+#[derive(Drop)]
 pub struct PlaceSet {
     words: Vec<u64>,
     filled: Vec<u64>,

@@ -7,7 +7,7 @@ use scan_model::{Name, NoMemory};
 use std::alloc::Global;
 
 /// The names of a design and of a die, and a revision of the die.
-#[derive(Debug, Drop, PartialEq, Eq, Hash)]
+#[derive(Drop, PartialEq, Eq, Hash)]
 pub(crate) struct ReportKey {
     design: Vec<u8>,
     die: Vec<u8>,

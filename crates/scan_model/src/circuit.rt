@@ -12,7 +12,7 @@ use crate::rows::{Name, NoMemory, Rows};
 use std::alloc::Global;
 use std::marker::Model;
 
-#[derive(Clone, Copy, Debug, PartialEq, Eq)]
+#[derive(Clone, Copy, PartialEq, Eq)]
 pub enum GateKind {
     And,
     Nand,
@@ -24,14 +24,14 @@ pub enum GateKind {
     Buf,
 }
 
-#[derive(Clone, Copy, Debug, PartialEq, Eq)]
+#[derive(Clone, Copy, PartialEq, Eq)]
 pub enum Driver {
     Input,
     Flop,
     Gate(GateKind),
 }
 
-#[derive(Debug, Drop)]
+#[derive(Drop)]
 pub struct Net {
     pub name: Name,
     pub driver: Driver,
@@ -39,13 +39,13 @@ pub struct Net {
     pub pin_count: u32,
 }
 
-#[derive(Clone, Copy, Debug, PartialEq, Eq)]
+#[derive(Clone, Copy, PartialEq, Eq)]
 pub enum PinPlace {
     Operand { net: u32, index: u32 },
     Output { place: u32 },
 }
 
-#[derive(Clone, Copy, Debug, PartialEq, Eq)]
+#[derive(Clone, Copy, PartialEq, Eq)]
 pub struct Pin {
     pub net: u32,
     pub place: PinPlace,
@@ -68,7 +68,7 @@ impl From<NoMemory> for MakeFault {
 }
 
 /// A circuit whose gates can be evaluated in one order. Contracts see its nets, pins, inputs and outputs.
-#[derive(Debug, Drop)]
+#[derive(Drop)]
 pub struct Circuit {
     nets: Rows<Net>,
     pins: Rows<Pin>,

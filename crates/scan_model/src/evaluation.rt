@@ -13,7 +13,7 @@ use std::alloc::Global;
 use std::marker::Model;
 
 /// How far the search has come with a net.
-#[derive(Clone, Copy, Debug, PartialEq, Eq)]
+#[derive(Clone, Copy, PartialEq, Eq)]
 enum Mark {
     /// A gate that the search has not met.
     Fresh,
@@ -24,7 +24,7 @@ enum Mark {
 }
 
 /// A depth-first search backwards through gates, with a stack of its own.
-#[derive(Debug, Drop)]
+#[derive(Drop)]
 struct Search {
     /// For each net, how many of its operands are still to be looked at, from the last to the first.
     left: Vec<u32>,

@@ -14,7 +14,7 @@ use std::alloc::Global;
 use std::marker::Model;
 
 /// The expected values, 64 patterns in a word. Contracts see a row for each pattern.
-#[derive(Debug, Drop)]
+#[derive(Drop)]
 pub struct Expected {
     patterns: u32,
     points: u32,

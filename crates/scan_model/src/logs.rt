@@ -3,35 +3,35 @@
 use crate::rows::Rows;
 
 /// A pattern at a point.
-#[derive(Clone, Copy, Debug, PartialEq, Eq)]
+#[derive(Clone, Copy, PartialEq, Eq)]
 pub struct Bit {
     pub pattern: u32,
     pub point: u32,
 }
 
 /// Tested patterns, from the first to the last.
-#[derive(Clone, Copy, Debug, PartialEq, Eq)]
+#[derive(Clone, Copy, PartialEq, Eq)]
 pub struct Range {
     pub first: u32,
     pub last: u32,
 }
 
 /// Whose bits a log lists: those of a test's points, or those of the points that a compactor leaves.
-#[derive(Clone, Copy, Debug, PartialEq, Eq)]
+#[derive(Clone, Copy, PartialEq, Eq)]
 pub enum LogForm {
     FailLog,
     CompactLog,
 }
 
 /// The version of a log's form.
-#[derive(Clone, Copy, Debug, PartialEq, Eq)]
+#[derive(Clone, Copy, PartialEq, Eq)]
 pub enum LogVersion {
     First,
     Second,
 }
 
 /// The points that a tester can cut on their own: the outputs, or the cells of the chain at a place.
-#[derive(Clone, Copy, Debug, PartialEq, Eq)]
+#[derive(Clone, Copy, PartialEq, Eq)]
 pub enum CutGroup {
     Outputs,
     Chain(u32),
@@ -39,7 +39,7 @@ pub enum CutGroup {
 
 /// What a fail log says: the ranges of tested patterns, whether the log was cut short, the failing bits in bit order, and
 /// for each group that the tester cut on its own the points of the group in rising order.
-#[derive(Debug, Drop)]
+#[derive(Drop)]
 pub struct LogFacts {
     pub ranges: Rows<Range>,
     pub truncated: bool,
@@ -48,7 +48,7 @@ pub struct LogFacts {
 }
 
 /// What the logs of a die say together of a bit.
-#[derive(Clone, Copy, Debug, PartialEq, Eq)]
+#[derive(Clone, Copy, PartialEq, Eq)]
 pub enum BitClass {
     Conflict,
     Masked,
@@ -58,7 +58,7 @@ pub enum BitClass {
 }
 
 /// How the predictions of a fault match the logs.
-#[derive(Clone, Copy, Debug, PartialEq, Eq)]
+#[derive(Clone, Copy, PartialEq, Eq)]
 pub struct Counts {
     pub tfsf: u64,
     pub tfsp: u64,
@@ -66,7 +66,7 @@ pub struct Counts {
 }
 
 /// A fault's place with its counts.
-#[derive(Clone, Copy, Debug, PartialEq, Eq)]
+#[derive(Clone, Copy, PartialEq, Eq)]
 pub struct Scored {
     pub place: u32,
     pub counts: Counts,

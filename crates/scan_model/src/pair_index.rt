@@ -8,7 +8,7 @@ use crate::rows::{NoMemory, Rows};
 use std::alloc::Global;
 
 /// The nets of a kept pair in one number, the first in its upper half, and the pair's place in the list.
-#[derive(Clone, Copy, Debug, PartialEq, Eq)]
+#[derive(Clone, Copy, PartialEq, Eq)]
 pub struct PairPlace {
     pub nets: u64,
     pub place: u32,

@@ -15,19 +15,19 @@ use std::alloc::Global;
 use std::marker::Model;
 
 /// A scan chain. Position 0 is nearest to scan-in.
-#[derive(Debug, Drop)]
+#[derive(Drop)]
 pub struct Chain {
     pub name: Name,
     pub cells: Rows<u32>,
 }
 
-#[derive(Clone, Copy, Debug, PartialEq, Eq)]
+#[derive(Clone, Copy, PartialEq, Eq)]
 pub enum PatternKind {
     Capture,
     Shift,
 }
 
-#[derive(Debug, Drop)]
+#[derive(Drop)]
 pub struct Pattern {
     pub kind: PatternKind,
     pub inputs: Rows<Tri>,
@@ -35,28 +35,28 @@ pub struct Pattern {
 }
 
 /// Two neighbouring nets, and the row of the list that first names them.
-#[derive(Clone, Copy, Debug, PartialEq, Eq)]
+#[derive(Clone, Copy, PartialEq, Eq)]
 pub struct Pair {
     pub a: u32,
     pub b: u32,
     pub row: u64,
 }
 
-#[derive(Debug, Drop)]
+#[derive(Drop)]
 pub struct Pairs {
     pub kept: Rows<Pair>,
     pub left_out: Rows<Pair>,
 }
 
 /// Where a value is observed.
-#[derive(Clone, Copy, Debug, PartialEq, Eq)]
+#[derive(Clone, Copy, PartialEq, Eq)]
 pub enum Point {
     Output { place: u32 },
     Cell { chain: u32, pos: u32 },
 }
 
 /// A circuit with all that is tested on it. Contracts see a scan test.
-#[derive(Debug, Drop)]
+#[derive(Drop)]
 pub struct Parts {
     profile: Profile,
     circuit: Circuit,

@@ -27,7 +27,7 @@ impl<T: Drop> From<AllocFailed<T>> for NoMemory {
 }
 
 /// A list of items: contracts see the list.
-#[derive(Debug, Drop)]
+#[derive(Drop)]
 pub struct Rows<T> {
     items: Vec<T>,
 }

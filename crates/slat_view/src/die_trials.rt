@@ -31,7 +31,7 @@ pub(crate) struct DieTrials<'a> {
 }
 
 /// The lanes of the failing patterns of a block, and what the suspects fit in it.
-#[derive(Debug, Drop)]
+#[derive(Drop)]
 pub(crate) struct BlockFits {
     pub failing: Row,
     pub fits: Rows<Fit>,

@@ -14,7 +14,7 @@ use std::alloc::Global;
 use std::thread::Threads;
 
 /// The counts of a die, and the fits of each block of 512 patterns, where these aren't too many to be kept.
-#[derive(Debug, Drop)]
+#[derive(Drop)]
 pub struct WholeSlat {
     pub slat: Slat,
     pub(crate) blocks: Option<Rows<Rows<Fit>>>,

@@ -13,14 +13,14 @@ use scan_model::{NoMemory, Parts, Stuck};
 use std::alloc::Global;
 
 /// The fault-free values of all patterns in the first frame and, with what a change spreads along, in the second.
-#[derive(Debug, Drop)]
+#[derive(Drop)]
 pub struct FrameGood {
     pub(crate) first: GoodRows,
     pub(crate) second: PackedGood,
 }
 
 /// What a change of the second frame needs while it spreads.
-#[derive(Debug, Drop)]
+#[derive(Drop)]
 pub struct FrameScratch {
     pub(crate) scratch: Scratch,
 }

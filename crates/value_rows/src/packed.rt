@@ -10,7 +10,7 @@ use scan_model::Tri;
 use std::marker::Model;
 
 /// A value of each of 512 lanes. Contracts see the lanes that are 1 and those that are 0.
-#[derive(Clone, Copy, Debug)]
+#[derive(Clone, Copy)]
 pub struct Packed {
     ones: Row,
     zeros: Row,

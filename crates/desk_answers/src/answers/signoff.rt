@@ -14,7 +14,7 @@ use std::alloc::Global;
 use text_parts::is_tag;
 
 /// Why a body wasn't taken.
-#[derive(Clone, Copy, Debug, PartialEq, Eq)]
+#[derive(Clone, Copy, PartialEq, Eq)]
 pub enum BodyFault {
     /// Rule 91: it isn't an object of just the members `revision`, `signer` and `digest`: a whole number from 0 to 2^64 - 1 in
     /// digits alone, a tag, and 64 hexadecimal digits.

@@ -1,7 +1,7 @@
 //! Methods.
 
 /// What a request wants done (RFC 9110, section 9). Letters of the other case make another method.
-#[derive(Clone, Copy, Debug, PartialEq, Eq)]
+#[derive(Clone, Copy, PartialEq, Eq)]
 pub enum Method {
     /// `GET`.
     Get,

@@ -32,7 +32,7 @@ use std::thread::Threads;
 const PIECE: usize = 65_536;
 
 /// How a session ended, with a mark for each final reply: the number of deeds at which it was given.
-#[derive(Debug, Drop)]
+#[derive(Drop)]
 pub struct SessionNote {
     pub end: SessionEnd,
     pub marks: Rows<u64>,

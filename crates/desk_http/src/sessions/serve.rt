@@ -16,7 +16,7 @@ use std::thread::Threads;
 
 /// What became of the sessions of a door: how many ended, how many of these had no memory to begin with, and whether the
 /// door failed.
-#[derive(Clone, Copy, Debug, PartialEq, Eq)]
+#[derive(Clone, Copy, PartialEq, Eq)]
 pub struct Served {
     pub ended: u32,
     pub unserved: u32,

@@ -16,7 +16,7 @@ use std::alloc::Global;
 
 /// A connection in memory. The calls of `read` and `write` that are listed fail, and so does a write for which there is
 /// no memory.
-#[derive(Debug, Drop)]
+#[derive(Drop)]
 pub struct MemLink {
     left: UnreadBytes,
     sent: Rows<u8>,
@@ -156,7 +156,7 @@ impl Link for MemLink {
 }
 
 /// A connection in memory that keeps no bytes that are sent. No call fails.
-#[derive(Debug, Drop)]
+#[derive(Drop)]
 pub struct SureLink {
     left: UnreadBytes,
 }

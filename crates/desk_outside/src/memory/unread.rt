@@ -7,7 +7,7 @@ use crate::link::LinkRead;
 use scan_model::Rows;
 
 // Bytes, those before `at` already read.
-#[derive(Debug, Drop)]
+#[derive(Drop)]
 pub struct UnreadBytes {
     bytes: Rows<u8>,
     at: usize,
