@@ -7,7 +7,7 @@ use Rattle.std.proofs.lemmas.List.Folds.{list_any-append}
 use Rattle.scan_model.specs.Netlist.{Netlist, IsNetlist, reads, net_at, pin_at}
 use Rattle.scan_model.specs.Walks.{IsEvaluationOrder}
 use Rattle.scan_model.proofs.FanSweeps.{first_reads, first_reads_more, IsSwept, swept_more}
-use Rattle.lane_rows.specs.Lanes.{lane}
+use Rattle.bit_rows.specs.Lanes.{lane}
 use Rattle.bridge_pairs.specs.PairRows.{has_pair}
 
 -- one more operand's lanes, where the operands are counted from the gate's first pin

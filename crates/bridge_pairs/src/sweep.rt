@@ -3,13 +3,13 @@
 ghost use Rattle.std.specs.Prelude.{◌≡◌, ◌<◌, ◌≤◌, ◌==◌, [], ◌∷◌, ◌++◌, ◌≢◌, ◌||◌, ℕ, if◌then◌else◌, length, filter, not, All, IfOk, OnOk, slice_index_or};
 ghost use Rattle.std.specs.List.{list_any};
 ghost use Rattle.scan_model.specs.Netlist.{reads};
-ghost use Rattle.lane_rows.specs.Lanes.{lane};
+ghost use Rattle.bit_rows.specs.Lanes.{lane};
 ghost use Rattle.bridge_pairs.specs.PairText.{is_feedback, parted};
 ghost use Rattle.bridge_pairs.specs.PairRows.{has_pair, IsBlank};
 ghost use Rattle.bridge_pairs.specs.Ranks.{IsRanked, start_of, target_of};
 
 use crate::ranks::{RankedCircuit, in_order, ranks_of, window};
-use lane_rows::Row;
+use bit_rows::Row;
 use scan_model::{Circuit, NoMemory, Pair, Pairs, Rows};
 use std::alloc::Global;
 

@@ -11,8 +11,7 @@ use Rattle.scan_model.specs.Response.{expected_rows}
 use Rattle.scan_model.specs.Coverage.{bit_of}
 use Rattle.scan_model.specs.Classes.{class_of}
 use Rattle.scan_model.proofs.ExpectedRows.{expected_row}
-use Rattle.lane_rows.specs.Lanes.{lane}
-use Rattle.lane_rows.specs.GoodRows.{pattern_of}
+use Rattle.bit_rows.specs.Lanes.{lane, pattern_of}
 use Rattle.log_rows.specs.declared.point_row.PointRow.{PointRow}
 use Rattle.log_rows.specs.declared.side.Side.{Side}
 use Rattle.log_rows.specs.declared.side.Side.TheVariants.{Failing, Passing}

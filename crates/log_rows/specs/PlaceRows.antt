@@ -2,8 +2,7 @@
 use Rattle.std.specs.Prelude.{◌≡◌, ℕ, ◌<◌, List, [], length, slice_index_or}
 use Rattle.scan_model.specs.declared.values.Tri.{Tri}
 use Rattle.scan_model.specs.declared.logs.LogFacts.{LogFacts}
-use Rattle.lane_rows.specs.Lanes.{lane}
-use Rattle.lane_rows.specs.GoodRows.{pattern_of}
+use Rattle.bit_rows.specs.Lanes.{lane, pattern_of}
 use Rattle.log_rows.specs.declared.point_row.PointRow.{PointRow}
 use Rattle.log_rows.specs.declared.side.Side.{Side}
 use Rattle.log_rows.specs.declared.side.Side.TheVariants.{Failing, Passing}

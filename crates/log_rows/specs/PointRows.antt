@@ -8,8 +8,7 @@ use Rattle.scan_model.specs.ChainShift.{value_at}
 use Rattle.scan_model.specs.ScanTest.{ScanTest, points_of}
 use Rattle.scan_model.specs.Coverage.{bit_of}
 use Rattle.scan_model.specs.Classes.{class, class_of, is_failing, is_passing}
-use Rattle.lane_rows.specs.Lanes.{lane}
-use Rattle.lane_rows.specs.GoodRows.{pattern_of}
+use Rattle.bit_rows.specs.Lanes.{lane, pattern_of}
 use Rattle.log_rows.specs.declared.point_row.PointRow.{PointRow}
 use Rattle.log_rows.specs.declared.side.Side.{Side}
 use Rattle.log_rows.specs.declared.side.Side.TheVariants.{Failing, Passing}

@@ -3,13 +3,12 @@ ghost use Rattle.std.specs.Prelude.{◌≡◌, ℕ, ◌+◌, ◌*◌, ◌^◌, �
 ghost use Rattle.std.specs.Int.{bit_at};
 ghost use Rattle.scan_model.specs.declared.logs.LogFacts.{LogFacts};
 ghost use Rattle.log_join.specs.Joining.{StandsFor, FitsExpected};
-ghost use Rattle.lane_rows.specs.Lanes.{lane};
-ghost use Rattle.lane_rows.specs.GoodRows.{pattern_of};
+ghost use Rattle.bit_rows.specs.Lanes.{lane, pattern_of};
 ghost use Rattle.log_rows.specs.PointRows.{is_on_at};
 ghost use Rattle.log_rows.specs.PlaceRows.{AreSideLanes};
 
 use crate::side::Side;
-use lane_rows::Row;
+use bit_rows::Row;
 use log_join::Joined;
 use scan_model::{Expected, NoMemory, Rows};
 use std::alloc::Global;

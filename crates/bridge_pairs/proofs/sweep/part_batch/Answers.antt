@@ -1,7 +1,7 @@
 use Rattle.std.proofs.Common.{◌≡◌, ℕ, ◌<◌, List, [], length, get_or, ap, ◌∙◌, arith}
 use Rattle.std.proofs.lemmas.List.{get_or_default}
 use Rattle.scan_model.specs.declared.parts.Pair.{Pair}
-use Rattle.lane_rows.specs.Lanes.{lane}
+use Rattle.bit_rows.specs.Lanes.{lane}
 use Rattle.bridge_pairs.specs.PairText.{is_feedback}
 use Rattle.bridge_pairs.specs.PairRows.{has_pair}
 use Rattle.bridge_pairs.specs.Ranks.{target_of}

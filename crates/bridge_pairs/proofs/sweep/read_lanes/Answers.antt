@@ -3,7 +3,7 @@ use Rattle.std.specs.List.{list_any}
 use Rattle.std.proofs.lemmas.List.{get_or_default}
 use Rattle.scan_model.specs.Netlist.{net_at, pin_at, no_net, no_pin}
 use Rattle.scan_model.proofs.FanSweeps.{first_reads}
-use Rattle.lane_rows.specs.Lanes.{lane}
+use Rattle.bit_rows.specs.Lanes.{lane}
 use Rattle.bridge_pairs.specs.PairRows.{has_pair}
 use Rattle.bridge_pairs.proofs.PairRows.{lanes_more}
 use Rattle.bridge_pairs.proofs.sweep.read_lanes.Goals as goal

@@ -2,7 +2,7 @@ use Rattle.std.proofs.Common.{◌≡◌, ℕ, ◌<◌, ◌-◌}
 use Rattle.std.specs.List.{list_any}
 use Rattle.scan_model.specs.Netlist.{net_at}
 use Rattle.scan_model.proofs.FanSweeps.{first_reads}
-use Rattle.lane_rows.specs.Lanes.{lane}
+use Rattle.bit_rows.specs.Lanes.{lane}
 use Rattle.bridge_pairs.specs.PairRows.{has_pair}
 use Rattle.bridge_pairs.proofs.sweep.read_lanes.Given as goal
 

@@ -1,6 +1,6 @@
 use Rattle.std.proofs.Common.{◌≡◌, ℕ, ◌+◌, ◌*◌, ◌<◌, List, [], length, get_or, ap, ◌∙◌, arith}
 use Rattle.std.proofs.lemmas.List.{length_push}
-use Rattle.lane_rows.specs.Lanes.{lane}
+use Rattle.bit_rows.specs.Lanes.{lane}
 use Rattle.log_rows.specs.PointRows.{is_on_at}
 use Rattle.log_rows.proofs.SideRows.{each_pushed}
 use Rattle.log_rows.proofs.sides.side_rows.Goals as goal
