@@ -11,6 +11,9 @@ use Rattle.scan_model.specs.ChainShift.{value_at}
 use Rattle.scan_model.specs.Faults.{forced_net, forced_pin}
 use Rattle.scan_model.specs.NetValue.{Forced, seen, values_of, nothing_forced}
 use Rattle.scan_model.specs.Response.{output_pin, data_pin}
+use Rattle.scan_model.specs.ScanTest.{ScanTest, points_of}
+use Rattle.good_sim.specs.declared.chains.Direction.TheVariants.{Out}
+use Rattle.good_sim.specs.Shifts.{shifted_rows}
 
 -- what a fault forces, over the fault-free values that a source gives
 abbrev pub forced_over : Netlist → (ℕ → Tri) → Option Fault → Forced
@@ -30,6 +33,10 @@ captured_rows_over c forced value chains = map (λ h. captured_over c forced val
 abbrev pub shown_at : List Tri → List (List Tri) → Point → Tri
 shown_at outputs rows (Output k) = value_at outputs k
 shown_at outputs rows (Cell h i) = value_at (slice_index_or rows h []) i
+
+-- what the points show, where the chains unload past a fault what they hold
+abbrev pub shown_past : ScanTest → Option Fault → List Tri → List (List Tri) → List Tri
+shown_past t f outputs held = map (shown_at outputs (shifted_rows Out f held)) (points_of t)
 
 -- the point has its value in them
 abbrev pub HasPoint : List Tri → List (List Tri) → Point → Type 0
