@@ -127,6 +127,27 @@ fn share_kinds<O: ChainObserver, L: Ledger>(
     Ok(())
 }
 
+/// Adds the shares of the suspects of all four kinds, with notes of its own.
+fn share_cells<O: ChainObserver, L: Ledger>(
+    alloc: Global,
+    work: &BlockWork<'_, O>,
+    scratch: &mut Scratch,
+    group: &[u32],
+    shares: &mut Rows<Share<O::Part>>,
+    steps: &mut Steps<L>,
+) -> Result<(), NoMemory>
+    requires work { IsSound O.test O.model O.block O.clean O.ready work.now }
+    requires chains { IsChainWork O.test O.good O.block O.model O.ready work.now }
+    requires scratch { IsScratchIn work.now.good.now scratch.old }
+    requires group { All (IsOwned work.now.parts.now work.now.suspects.now (length work.now.parts.now.netlist.nets + 2)) group.now }
+    ensures { OnOk result (Shares (O.means work.now.observer.now) (O.model work.now.observer.now) (O.block work.now.observer.now) work.now.suspects.now (IsAmong group.now (length group.now)) shares.old shares.new) }
+{
+    let mut notes = no_notes(alloc, work.observer)?;
+    let shared = share_kinds(work, scratch, group, &mut notes, shares, steps);
+    drop(notes);
+    shared
+}
+
 /// `cell_piece` with a ledger for its steps of simulation.
 fn piece_in<O: ChainObserver, L: Ledger>(
     alloc: Global,
@@ -144,17 +165,17 @@ fn piece_in<O: ChainObserver, L: Ledger>(
 {
     let mut steps = Steps::<L>::open(blank);
     let mut scratch = Scratch::make(alloc, work.good)?;
-    let mut notes = no_notes(alloc, work.observer)?;
     let mut shares = Rows::new(alloc);
-    share_kinds(
-        work,
-        &mut scratch,
-        items,
-        &mut notes,
-        &mut shares,
-        &mut steps,
-    )?;
-    Ok(shares)
+    let shared = share_cells(alloc, work, &mut scratch, items, &mut shares, &mut steps);
+    drop(scratch);
+    drop(steps);
+    match shared {
+        Ok(()) => Ok(shares),
+        Err(refused) => {
+            drop(shares);
+            Err(refused)
+        }
+    }
 }
 
 /// The shares of one piece of the work of shift paths, with a scratch of its own: the suspects that are cells of chains. The only error is want of memory.

@@ -30,10 +30,8 @@ fn push_upstream(
     ensures { OnOk result (All (λ n. n < length parts.now.netlist.nets) due.new.items) }
 {
     let circuit = parts.circuit();
-    let gate = &circuit.nets().as_slice()[gate as usize];
-    let pins = circuit.pins().as_slice();
-    for pin in gate.first_pin..gate.first_pin + gate.pin_count {
-        let net = pins[pin as usize].net;
+    for i in 0..circuit.read_count(gate) {
+        let net = circuit.read_at(gate, i);
         if let Reads::Once(_) = reads[net as usize] {
             due.push(net)?;
         }

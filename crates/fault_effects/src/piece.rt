@@ -65,7 +65,7 @@ fn piece_in<O: Observer, L: Ledger>(
     let mut steps = Steps::<L>::open(blank);
     let mut scratch = Scratch::make(alloc, work.good)?;
     let mut shares = Rows::new(alloc);
-    share_items(
+    let shared = share_items(
         alloc,
         work,
         kind,
@@ -73,8 +73,16 @@ fn piece_in<O: Observer, L: Ledger>(
         &mut scratch,
         &mut shares,
         &mut steps,
-    )?;
-    Ok(shares)
+    );
+    drop(scratch);
+    drop(steps);
+    match shared {
+        Ok(()) => Ok(shares),
+        Err(refused) => {
+            drop(shares);
+            Err(refused)
+        }
+    }
 }
 
 /// The shares of one piece of the work of the logic, with a scratch of its own: nets, pins or bridges. The only error is want of memory.
@@ -92,6 +100,37 @@ pub fn logic_piece<O: Observer>(
     piece_in::<O, Brand>(alloc, work, kind, items, Blank::new(1))
 }
 
+/// Adds the shares of all suspects of the logic: those that nets own in the order of the nets, then pins and bridges.
+fn share_logic<O: Observer, L: Ledger>(
+    alloc: Global,
+    work: &BlockWork<'_, O>,
+    nets: &[u32],
+    scratch: &mut Scratch,
+    shares: &mut Rows<Share<O::Part>>,
+    steps: &mut Steps<L>,
+) -> Result<(), NoMemory>
+    requires work { IsSound O.test O.model O.block O.clean O.ready work.now }
+    requires nets { All (λ n. n < length work.now.parts.now.netlist.nets) nets.now }
+    requires all { (i : ℕ) → i < length work.now.suspects.now → owner work.now.parts.now (suspect_at work.now.suspects.now i).fault < length work.now.parts.now.netlist.nets → Contains nets.now (owner work.now.parts.now (suspect_at work.now.suspects.now i).fault) }
+    requires scratch { O.clean work.now.observer.now scratch.old }
+    ensures { OnOk result (Shares (O.means work.now.observer.now) (O.model work.now.observer.now) (O.block work.now.observer.now) work.now.suspects.now (λ i. owner work.now.parts.now (suspect_at work.now.suspects.now i).fault < length work.now.parts.now.netlist.nets + 2) shares.old shares.new) }
+{
+    let count = work.parts.circuit().nets().len() as u32;
+    let pins = work.owners.group(count);
+    let bridges = work.owners.group(count + 1);
+    share_items(alloc, work, WorkKind::Nets, nets, scratch, shares, steps)?;
+    share_items(alloc, work, WorkKind::Pins, pins, scratch, shares, steps)?;
+    share_items(
+        alloc,
+        work,
+        WorkKind::Bridges,
+        bridges,
+        scratch,
+        shares,
+        steps,
+    )
+}
+
 /// `logic_parts` with a ledger for its steps of simulation.
 fn parts_in<O: Observer, L: Ledger>(
     alloc: Global,
@@ -107,40 +146,19 @@ fn parts_in<O: Observer, L: Ledger>(
     requires some { 0 < blank.parts }
     ensures { IfOk result (Shares (O.means work.now.observer.now) (O.model work.now.observer.now) (O.block work.now.observer.now) work.now.suspects.now (λ i. owner work.now.parts.now (suspect_at work.now.suspects.now i).fault < length work.now.parts.now.netlist.nets + 2) []) }
 {
-    let count = work.parts.circuit().nets().len() as u32;
-    let pins = work.owners.group(count);
-    let bridges = work.owners.group(count + 1);
     let mut steps = Steps::<L>::open(blank);
     let mut scratch = Scratch::make(alloc, work.good)?;
     let mut shares = Rows::new(alloc);
-    share_items(
-        alloc,
-        work,
-        WorkKind::Nets,
-        nets,
-        &mut scratch,
-        &mut shares,
-        &mut steps,
-    )?;
-    share_items(
-        alloc,
-        work,
-        WorkKind::Pins,
-        pins,
-        &mut scratch,
-        &mut shares,
-        &mut steps,
-    )?;
-    share_items(
-        alloc,
-        work,
-        WorkKind::Bridges,
-        bridges,
-        &mut scratch,
-        &mut shares,
-        &mut steps,
-    )?;
-    Ok(shares)
+    let shared = share_logic(alloc, work, nets, &mut scratch, &mut shares, &mut steps);
+    drop(scratch);
+    drop(steps);
+    match shared {
+        Ok(()) => Ok(shares),
+        Err(refused) => {
+            drop(shares);
+            Err(refused)
+        }
+    }
 }
 
 /// The shares of all suspects of the logic in a block, with one scratch: those that nets own in the order of the nets, then

@@ -1,44 +1,4 @@
-use Rattle.std.proofs.Common.{◌≡◌, ℕ, ◌+◌, ◌<◌, List, [], length, get_or, ap, subst, ◌∙◌, inl, inr, arith}
-use Rattle.std.proofs.lemmas.Bool.{cases_eq}
-use Rattle.scan_model.specs.Netlist.{Netlist}
-use Rattle.fault_effects.specs.declared.share.Share.{Share}
-use Rattle.fault_effects.specs.declared.work_kind.WorkKind.TheVariants.{Nets, Pins, Bridges}
-use Rattle.fault_effects.specs.Owners.{owner, suspect_at}
-use Rattle.fault_effects.specs.Shares.{Shares}
-use Rattle.fault_effects.specs.Pieces.{IsServed}
-use Rattle.fault_effects.proofs.ShareLists.{shares_join}
-use Rattle.fault_effects.proofs.OwnerGroups.{owned_in}
 use Rattle.fault_effects.proofs.piece.parts_in.Goals as goal
 
-pub returns : goal.returns
-returns g c =
-    let w = c.args.work.now in
-    let o = w.observer.now in
-    let t = w.parts.now in
-    let means = g.O.Observer.means o in
-    let m = g.O.Observer.model o in
-    let b = g.O.Observer.block o in
-    let suspects = w.suspects.now in
-    let groups = w.owners.now in
-    let N = length t.netlist.nets in
-    let owner_at : ℕ → ℕ = λ i. owner t (suspect_at suspects i).fault in
-    let none = c.new-shares.result in
-    let one = c.share_items.new.shares in
-    let two = c.share_items-2.new.shares in
-    let three = c.share_items-3.new.shares in
-    let count : c.len-count.result ≡ N = c.len-count.ensures ∙ ap length (c.nets.ensures.value ∙ ap (λ (n : Netlist). n.nets) c.circuit.ensures.value) in
-    let pins = c.group-pins.result.now in
-    let bridges = c.group-bridges.result.now in
-    let pins_are : pins ≡ get_or groups N [] = c.group-pins.ensures ∙ ap (λ (n : ℕ). get_or groups n []) count in
-    let bridges_are : bridges ≡ get_or groups (N + 1) [] = c.group-bridges.ensures ∙ ap (λ (n : ℕ). get_or groups (n + 1) []) count in
-    let with_pins = shares_join means m b suspects (IsServed t suspects Nets c.args.nets.now) (IsServed t suspects Pins pins) (λ i. owner_at i < N + 1) none one two c.in_ok-share_items.ensures.shares c.in_ok-share_items-2.ensures.shares
-    (λ i lt below. elim (cases_eq (owner_at i) N) [
-      | inl same ↦ inr (owned_in t suspects groups N pins c.requires.work.owners pins_are i lt same)
-      | inr other ↦ inl (c.requires.all i lt (omega (arith, below, other)))
-    ]) in
-    let Part : List (Share g.row.O-Part.Denot) → Type 0 = λ old. Shares means m b suspects (λ i. owner_at i < N + 2) old three in
-    subst Part c.new-shares.ensures (shares_join means m b suspects (λ i. owner_at i < N + 1) (IsServed t suspects Bridges bridges) (λ i. owner_at i < N + 2) none two three with_pins c.in_ok-share_items-3.ensures.shares
-    (λ i lt below. elim (cases_eq (owner_at i) (N + 1)) [
-      | inl same ↦ inr (owned_in t suspects groups (N + 1) bridges c.requires.work.owners bridges_are i lt same)
-      | inr other ↦ inl (omega (arith, below, other))
-    ]))
+pub returns-in-Ok : goal.returns-in-Ok
+returns-in-Ok g c = rw c.new-shares.ensures at c.in-Ok.ensures

@@ -2,7 +2,7 @@ use Rattle.std.proofs.Common.{◌≡◌, ℕ, List, length, get_or, sym, ap, sub
 use Rattle.std.proofs.lemmas.Bool.{cases_eq}
 use Rattle.scan_model.specs.declared.fault.Fault.TheVariants as fault
 use Rattle.scan_model.specs.declared.parts.Point.TheVariants.{Cell}
-use Rattle.scan_model.specs.Netlist.{pin_at}
+use Rattle.scan_model.specs.Netlist.{Netlist, pin_at}
 use Rattle.scan_model.specs.Response.{data_pin}
 use Rattle.scan_model.specs.Suspect.{observed_net}
 use Rattle.scan_model.proofs.Cells.{cell_is_flop_of}
@@ -46,3 +46,15 @@ loop-cell-preserved g c =
         | inr other ↦ net_kept m b f t old new c.note_net.ensures.renoted (observed_net t (Cell h i)) (c.loop-cell.invariant.fresh i (omega arith))
       ];
     }
+
+pub note_net-requires-clause-net : goal.note_net-requires-clause-net
+note_net-requires-clause-net g c = omega (arith, c.data_net-net.ensures.in_range, ap (λ (n : Netlist). length n.nets) c.circuit-circuit.ensures.value)
+
+pub returns-clause-notes : goal.returns-clause-notes
+returns-clause-notes g c = c.loop-cell.invariant.notes
+
+pub returns-clause-renoted : goal.returns-clause-renoted
+returns-clause-renoted g c = c.loop-cell.invariant.renoted
+
+pub returns-clause-fresh : goal.returns-clause-fresh
+returns-clause-fresh g c = λ i lt. c.loop-cell.invariant.fresh i (omega (arith, lt, c.loop-cell-test.false, ap length c.chain_cells-cells.ensures))
