@@ -12,3 +12,4 @@ pub mod NetPoints
 pub mod WalkNotes
 pub mod WalkStart
 pub mod WalkSteps
+pub mod WalkScratch
