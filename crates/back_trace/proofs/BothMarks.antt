@@ -5,7 +5,7 @@ use Rattle.std.proofs.lemmas.List.{get_or-set_same, get_or-set_other}
 use Rattle.scan_model.specs.Marks.{is_marked}
 use Rattle.scan_model.specs.ScanTest.{ScanTest}
 use Rattle.scan_model.specs.Universe.{universe}
-use Rattle.back_trace.specs.Traces.{no_fault}
+use Rattle.back_trace.specs.SuspectMarks.{no_fault}
 use Rattle.back_trace.specs.CommonPatterns.{explains_both, AreBothMarked}
 
 module _ (t : ScanTest) (b : ℕ) (ones others : List (List ℕ)) where

@@ -1,11 +1,6 @@
-pub mod Ranges
-pub mod SweptBack
 pub mod NetRows
-pub mod Points
 pub mod ChainTraces
-pub mod Explained
 pub mod SuspectMarks
-pub mod Slots
 pub mod Unreached
 pub mod Standing
 pub mod BothMarks

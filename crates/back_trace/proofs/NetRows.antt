@@ -12,10 +12,10 @@ use Rattle.scan_model.specs.Cone.{in_fan_in}
 use Rattle.scan_model.specs.Suspect.{observed_net, net_reaches}
 use Rattle.scan_model.proofs.FanSweeps.{same_answer}
 use Rattle.lane_rows.specs.Lanes.{lane}
-use Rattle.back_trace.specs.Fails.{any_fail, fails_at}
-use Rattle.back_trace.specs.Keys.{is_key, IsKeyBelow, AreKeys}
-use Rattle.back_trace.specs.Traces.{lane_at, observes}
-use Rattle.back_trace.proofs.Ranges.{any_at, any_there, any_same, any_more}
+use Rattle.explained_lanes.specs.Fails.{any_fail, fails_at}
+use Rattle.back_trace.specs.Keys.{is_key, IsKeyBelow, AreKeys, observes}
+use Rattle.explained_lanes.specs.Traces.{lane_at}
+use Rattle.explained_lanes.proofs.Ranges.{any_at, any_there, any_same, any_more}
 
 -- lanes added to the row of one net
 pub lanes_added : (rows : List (List ℕ)) (at : ℕ) (row : List ℕ) (j : ℕ) (added : Bool) → at < length rows → lane row j ≡ (lane_at rows j at || added) → (n : ℕ) → lane_at (set rows at row) j n ≡ (lane_at rows j n || (added && eqb at n))

@@ -18,8 +18,7 @@ use Rattle.fault_universe.proofs.BranchPlaces.{length-branches_of}
 use Rattle.fault_universe.proofs.BridgePlaces.{length-bridges_of, faults_counted, pairs_within}
 use Rattle.fault_universe.proofs.CellPlaces.{length-cells_from, cell_stands, chain_room}
 use Rattle.fault_universe.proofs.UniversePlaces.{in_first, in_second, in_third, in_fourth}
-use Rattle.back_trace.specs.Traces.{no_fault}
-use Rattle.back_trace.specs.SuspectMarks.{StandAt}
+use Rattle.back_trace.specs.SuspectMarks.{no_fault, StandAt}
 
 module _ (t : ScanTest) where
   abbrev pins : List ℕ

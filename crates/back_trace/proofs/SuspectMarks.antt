@@ -27,9 +27,10 @@ use Rattle.lane_rows.specs.GoodRows.{pattern_of, AreBlockRows}
 use Rattle.log_rows.specs.declared.side.Side.TheVariants.{Failing}
 use Rattle.log_rows.specs.PlaceRows.{AreSideLanes}
 use Rattle.log_rows.proofs.SideRows.{on_side_of}
-use Rattle.back_trace.specs.Fails.{fails_at, fails_in, explains_in, AreFailRows, IsWithin, Tells}
-use Rattle.back_trace.specs.Traces.{AreMarked, no_fault}
-use Rattle.back_trace.proofs.Ranges.{any_at, any_there}
+use Rattle.explained_lanes.specs.Fails.{fails_at, explains_in, IsWithin, Tells}
+use Rattle.back_trace.specs.FailRows.{fails_in, AreFailRows}
+use Rattle.back_trace.specs.SuspectMarks.{AreMarked, no_fault}
+use Rattle.explained_lanes.proofs.Ranges.{any_at, any_there}
 
 -- ---- bits by pattern and point
 

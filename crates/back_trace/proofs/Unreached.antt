@@ -26,11 +26,11 @@ use Rattle.scan_model.specs.Suspect.{net_reaches, place_reaches, operand_reaches
 use Rattle.lane_rows.specs.declared.block.Block.{Block}
 use Rattle.lane_rows.specs.Lanes.{lane}
 use Rattle.lane_rows.specs.GoodRows.{AreBlockRows, pattern_of}
-use Rattle.back_trace.specs.declared.trace.Trace.{Trace}
-use Rattle.back_trace.specs.Fails.{any_fail, explains_in, IsWithin}
-use Rattle.back_trace.specs.Traces.{lane_at, IsPlaceIn, AreMarked, no_fault}
-use Rattle.back_trace.specs.SuspectMarks.{IsUnreached, IsTraced, StandAt, MarksOn}
-use Rattle.back_trace.proofs.Explained.{logic_is, one_site_is, two_sites_are, operand_is, input_reaches_none}
+use Rattle.explained_lanes.specs.declared.trace.Trace.{Trace}
+use Rattle.explained_lanes.specs.Fails.{any_fail, explains_in, IsWithin}
+use Rattle.explained_lanes.specs.Traces.{lane_at, IsPlaceIn}
+use Rattle.back_trace.specs.SuspectMarks.{AreMarked, no_fault, IsUnreached, IsTraced, StandAt, MarksOn}
+use Rattle.explained_lanes.proofs.Explained.{logic_is, one_site_is, two_sites_are, operand_is, input_reaches_none}
 use Rattle.back_trace.proofs.Standing.{fault_there}
 use Rattle.fault_universe.proofs.BridgePlaces.{faults_counted}
 

@@ -4,8 +4,8 @@ use Rattle.scan_model.specs.declared.fault.Fault.{Fault}
 use Rattle.scan_model.specs.Marks.{is_marked}
 use Rattle.scan_model.specs.ScanTest.{ScanTest}
 use Rattle.scan_model.specs.Universe.{universe}
-use Rattle.back_trace.specs.Fails.{explains_in}
-use Rattle.back_trace.specs.Traces.{no_fault}
+use Rattle.explained_lanes.specs.Fails.{explains_in}
+use Rattle.back_trace.specs.SuspectMarks.{no_fault}
 
 -- in lane j of block b the fault can explain a bit of each kind
 abbrev pub explains_both : ScanTest → Fault → ℕ → List (List ℕ) → List (List ℕ) → ℕ → Bool

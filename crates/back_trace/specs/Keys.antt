@@ -2,6 +2,7 @@
 use Rattle.std.specs.Prelude.{◌≡◌, ℕ, ◌<◌, List, length, Bool, false, ◌==◌, Option, Some, None, slice_index_or}
 use Rattle.scan_model.specs.declared.parts.Point.{Point}
 use Rattle.scan_model.specs.ScanTest.{ScanTest, point_at}
+use Rattle.scan_model.specs.Suspect.{observed_net}
 
 abbrev pub is_key : Option ℕ → ℕ → Bool
 is_key None n = false
@@ -16,3 +17,7 @@ pub record AreKeys (t : ScanTest) (belongs : ℕ → Point → Bool) (count : �
   pub len : length keys ≡ count
   pub below : (k : ℕ) → k < count → IsKeyBelow (length t.netlist.nets) (slice_index_or keys k None)
   pub key : (k n : ℕ) → k < count → is_key (slice_index_or keys k None) n ≡ belongs n (point_at t k)
+
+-- the net is the one that the point observes
+abbrev pub observes : ScanTest → ℕ → Point → Bool
+observes t n point = observed_net t point == n

@@ -1,15 +1,29 @@
 -- The marks on faults that can explain a failing bit, after a block.
-use Rattle.std.specs.Prelude.{◌≡◌, ℕ, ◌+◌, ◌<◌, List, length, Bool, false, slice_get}
+use Rattle.std.specs.Prelude.{◌≡◌, ◌⊎◌, ℕ, ◌+◌, ◌<◌, List, length, Bool, true, false, slice_get, slice_index_or}
 use Rattle.scan_model.specs.declared.circuit.PinPlace.{PinPlace}
 use Rattle.scan_model.specs.declared.circuit.PinPlace.TheVariants as place
 use Rattle.scan_model.specs.declared.fault.Fault.{Fault}
+use Rattle.scan_model.specs.declared.fault.Fault.TheVariants as fault
+use Rattle.scan_model.specs.declared.fault.Stuck.TheVariants as stuck
+use Rattle.scan_model.specs.Marks.{is_marked}
 use Rattle.scan_model.specs.ScanTest.{ScanTest, IsScanTest, points_of}
 use Rattle.scan_model.specs.Universe.{universe}
 use Rattle.lane_rows.specs.declared.block.Block.{Block}
 use Rattle.lane_rows.specs.GoodRows.{AreBlockRows}
-use Rattle.back_trace.specs.declared.trace.Trace.{Trace}
-use Rattle.back_trace.specs.Fails.{IsWithin}
-use Rattle.back_trace.specs.Traces.{lane_at, IsTraceOf, AreMarked}
+use Rattle.explained_lanes.specs.declared.trace.Trace.{Trace}
+use Rattle.explained_lanes.specs.Fails.{explains_in, IsWithin}
+use Rattle.explained_lanes.specs.Traces.{lane_at, IsTraceOf}
+
+-- what stands past the end of the faults
+abbrev pub no_fault : Fault
+no_fault = fault.Stem 0 stuck.Zero
+
+-- of the first faults, those are marked that were, and those that can explain a failing bit of block b; the rest keep their marks
+pub record AreMarked (t : ScanTest) (b : ℕ) (rows : List (List ℕ)) (faults : List Fault) (count : ℕ) (old new : List Bool) : Type 0 where
+  pub len : length new ≡ length old
+  pub found : (p : ℕ) → is_marked new p ≡ true → (is_marked old p ≡ true) ⊎ ((p < count) × ((j : ℕ) × (j < 512) × (explains_in t (slice_index_or faults p no_fault) b rows j ≡ true)))
+  pub kept : (p : ℕ) → is_marked old p ≡ true → is_marked new p ≡ true
+  pub all : (p j : ℕ) → p < count → j < 512 → explains_in t (slice_index_or faults p no_fault) b rows j ≡ true → is_marked new p ≡ true
 
 abbrev pub IsPlaceBelow : ℕ → PinPlace → Type 0
 IsPlaceBelow nets (place.Operand n i) = n < nets

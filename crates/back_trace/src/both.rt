@@ -1,18 +1,18 @@
 //! Marks of the faults that in one pattern of a block can explain a bit of each of two kinds.
 ghost use Rattle.std.specs.Prelude.{◌≡◌, ℕ, ◌<◌, true, length, slice_index_or, OnOk};
 ghost use Rattle.scan_model.specs.ScanTest.{HasSite, points_of};
+ghost use Rattle.scan_model.specs.Suspect as definition;
 ghost use Rattle.scan_model.specs.Universe as listed;
 ghost use Rattle.lane_rows.specs.GoodRows.{AreBlockRows};
-ghost use Rattle.back_trace.specs.Fails.{IsWithin};
-ghost use Rattle.back_trace.specs.Traces.{no_fault};
-ghost use Rattle.back_trace.specs.SuspectMarks.{IsTraced};
+ghost use Rattle.explained_lanes.specs.Fails.{IsWithin};
+ghost use Rattle.back_trace.specs.Keys.{AreKeys, observes};
+ghost use Rattle.back_trace.specs.SuspectMarks.{no_fault, IsTraced};
 ghost use Rattle.back_trace.specs.CommonPatterns as both;
 ghost use Rattle.back_trace.specs.CommonPatterns.{AreBothMarked};
 
-use crate::explain::explaining_lanes;
 use crate::keys::{cell_keys, observed_keys};
-use crate::trace::Trace;
 use crate::tracing::trace_back;
+use explained_lanes::{Trace, explaining_lanes};
 use fault_universe::{fault_at, universe_len};
 use lane_rows::{Block, Row};
 use scan_model::{Fault, NoMemory, Parts, Rows};
@@ -63,6 +63,37 @@ fn mark_traced(marks: &mut [bool], parts: &Parts, block: &Block, ones: &Trace, o
     }
 }
 
+/// Marks the faults that in one pattern of a block can explain a bit of each of two kinds, by the net that each point observes
+/// and the net of each cell.
+fn mark_by_keys(
+    alloc: Global,
+    parts: &Parts,
+    block: &Block,
+    ones: Rows<Row>,
+    others: Rows<Row>,
+    observed: &[Option<u32>],
+    own: &[Option<u32>],
+    marks: &mut [bool],
+) -> Result<(), NoMemory>
+    requires ones { length ones ≡ length (points_of parts.now) }
+    requires others { length others ≡ length (points_of parts.now) }
+    requires observed { AreKeys parts.now (observes parts.now) (length (points_of parts.now)) observed.now }
+    requires own { AreKeys parts.now (definition.is_cell parts.now) (length (points_of parts.now)) own.now }
+    requires values { length block.now.values ≡ length parts.now.netlist.nets }
+    requires marks { length marks.old ≡ length (listed.universe parts.now) }
+    ensures { OnOk result ((b : ℕ) → AreBlockRows parts.now b block.now → IsWithin parts.now b ones → IsWithin parts.now b others
+        → AreBothMarked parts.now b ones others (length (listed.universe parts.now)) marks.old marks.new) }
+{
+    let _ = parts.circuit();
+    let _ = universe_len(parts);
+    let ones = trace_back(alloc, parts, block, ones, observed, own)?;
+    let others = trace_back(alloc, parts, block, others, observed, own)?;
+    mark_traced(marks, parts, block, &ones, &others);
+    drop(others);
+    drop(ones);
+    Ok(())
+}
+
 /// Marks the faults that in one pattern of a block can explain a bit of each of two kinds, which are given as a row of
 /// lanes for each point. The only error is want of memory.
 pub fn mark_both(
@@ -80,12 +111,7 @@ pub fn mark_both(
     ensures { OnOk result ((b : ℕ) → AreBlockRows parts.now b block.now → IsWithin parts.now b ones → IsWithin parts.now b others
         → AreBothMarked parts.now b ones others (length (listed.universe parts.now)) marks.old marks.new) }
 {
-    let _ = parts.circuit();
-    let _ = universe_len(parts);
     let observed = observed_keys(alloc, parts)?;
     let own = cell_keys(alloc, parts)?;
-    let ones = trace_back(alloc, parts, block, ones, &observed, &own)?;
-    let others = trace_back(alloc, parts, block, others, &observed, &own)?;
-    mark_traced(marks, parts, block, &ones, &others);
-    Ok(())
+    mark_by_keys(alloc, parts, block, ones, others, &observed, &own, marks)
 }

@@ -2,10 +2,10 @@
 ghost use Rattle.std.specs.Prelude.{◌≡◌, ℕ, ◌<◌, length, Bool, ◌&&◌, ◌||◌, nat_lt, nat_le, None, slice_index_or, All, IfOk};
 ghost use Rattle.scan_model.specs.ScanTest.{points_of, chain_at, IsPoint};
 ghost use Rattle.lane_rows.specs.Lanes.{lane};
-ghost use Rattle.back_trace.specs.Fails.{Tells};
-ghost use Rattle.back_trace.specs.Traces.{is_shifted_through, is_from, IsFirst, IsLastReached};
+ghost use Rattle.explained_lanes.specs.Fails.{Tells};
+ghost use Rattle.explained_lanes.specs.Traces.{is_shifted_through, is_from, IsFirst, IsLastReached};
 
-use crate::net_rows::NetRows;
+use explained_lanes::NetRows;
 use lane_rows::Row;
 use scan_model::{NoMemory, Parts, Point, Rows};
 use std::alloc::Global;

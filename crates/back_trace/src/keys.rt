@@ -3,8 +3,7 @@ ghost use Rattle.std.specs.Prelude.{◌≡◌, ℕ, ◌<◌, length, IfOk};
 ghost use Rattle.scan_model.specs.ScanTest.{IsPoint, points_of};
 ghost use Rattle.scan_model.specs.Loads.{cell};
 ghost use Rattle.scan_model.specs.Suspect as reach;
-ghost use Rattle.back_trace.specs.Keys.{is_key, IsKeyBelow, AreKeys};
-ghost use Rattle.back_trace.specs.Traces.{observes};
+ghost use Rattle.back_trace.specs.Keys.{is_key, IsKeyBelow, AreKeys, observes};
 
 use scan_model::{NoMemory, Parts, Point};
 use std::alloc::Global;

@@ -3,12 +3,9 @@
 
 mod both;
 mod chains;
-mod explain;
 mod keys;
 mod marks;
-mod net_rows;
 mod reach;
-mod trace;
 mod tracing;
 
 pub use both::mark_both;

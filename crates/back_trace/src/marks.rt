@@ -3,8 +3,7 @@ ghost use Rattle.std.specs.Prelude.{◌≡◌, ℕ, ◌+◌, ◌*◌, ◌<◌, �
 ghost use Rattle.scan_model.specs.Universe as listed;
 ghost use Rattle.back_trace.specs.SuspectMarks.{IsPlaceBelow, IsUnreached, IsTraced, StandAt, MarksOn};
 
-use crate::explain::{is_explained, pin_of};
-use crate::trace::Trace;
+use explained_lanes::{Trace, is_explained, pin_of};
 use fault_universe::{bridge_count, faults_of_pair, faults_per_pair};
 use lane_rows::Block;
 use scan_model::{CellKind, Fault, Pair, Parts, PinPlace, Stuck};

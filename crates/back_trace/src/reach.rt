@@ -5,9 +5,9 @@ ghost use Rattle.scan_model.specs.Netlist.{reads, net_numbers};
 ghost use Rattle.scan_model.specs.Cone.{in_fan_in};
 ghost use Rattle.lane_rows.specs.Lanes.{lane};
 ghost use Rattle.back_trace.specs.Keys.{is_key, IsKeyBelow};
-ghost use Rattle.back_trace.specs.Traces.{lane_at};
+ghost use Rattle.explained_lanes.specs.Traces.{lane_at};
 
-use crate::net_rows::NetRows;
+use explained_lanes::NetRows;
 use lane_rows::Row;
 use scan_model::{Circuit, NoMemory};
 use std::alloc::Global;

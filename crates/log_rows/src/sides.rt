@@ -61,7 +61,8 @@ pub(crate) fn side_row(
     Row::of_words(words)
 }
 
-/// The lanes of one side of each place of the joined logs in a block, by rows of expected values.
+/// The lanes of one side of each place of the joined logs in a block, by rows of expected values. The suspects are traced
+/// back from all bits that this gives of the Failing side.
 pub fn side_rows(
     alloc: Global,
     joined: &Joined,

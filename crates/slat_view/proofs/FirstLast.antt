@@ -5,7 +5,7 @@ use Rattle.std.proofs.lemmas.Bool.{cases_Bool, and_from}
 use Rattle.std.proofs.lemmas.List.{get_or_append_left, get_or-append-add, get_or-set_same, get_or-set_other}
 use Rattle.lane_rows.specs.Lanes.{lane}
 use Rattle.log_rows.specs.declared.point_row.PointRow.{PointRow}
-use Rattle.back_trace.specs.Fails.{fails_at}
+use Rattle.explained_lanes.specs.Fails.{fails_at}
 use Rattle.slat_view.specs.Ends.{is_failing_at, any_before, any_from, is_first, is_last}
 use Rattle.slat_view.specs.Trials.{any_failing}
 use Rattle.slat_view.proofs.Ranges.{any_more}

@@ -19,8 +19,8 @@ use Rattle.lane_rows.specs.GoodRows.{pattern_of}
 use Rattle.log_rows.specs.declared.point_row.PointRow.{PointRow}
 use Rattle.log_rows.specs.PointRows.{ArePointRows}
 use Rattle.back_trace.specs.CommonPatterns.{AreBothMarked}
-use Rattle.back_trace.specs.Fails.{fails_at, explains_in, IsWithin}
-use Rattle.back_trace.proofs.Ranges.{any_at}
+use Rattle.explained_lanes.specs.Fails.{fails_at, explains_in, IsWithin}
+use Rattle.explained_lanes.proofs.Ranges.{any_at}
 use Rattle.diag_report.specs.PredictedLog.{fault_of}
 use Rattle.slat_view.specs.Ends.{is_failing_at, any_before, any_from, AreFirsts, AreLasts}
 use Rattle.slat_view.specs.FitMarks.{HaveFitsUpTo, AreFitsMarked}

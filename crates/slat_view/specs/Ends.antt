@@ -4,7 +4,7 @@ use Rattle.std.specs.List.{list_any, range_with_len}
 use Rattle.lane_rows.specs.Lanes.{lane}
 use Rattle.log_rows.specs.declared.point_row.PointRow.{PointRow}
 use Rattle.match_counts.specs.Flips.{point_row_at}
-use Rattle.back_trace.specs.Fails.{fails_at}
+use Rattle.explained_lanes.specs.Fails.{fails_at}
 
 -- point k is Failing in lane j
 abbrev pub is_failing_at : List PointRow → ℕ → ℕ → Bool

@@ -1,7 +1,7 @@
 use Rattle.std.proofs.Common.{not, ap, ◌∙◌, inl, inr}
 use Rattle.std.proofs.lemmas.Bool.{cases_Bool, both_ways, and_parts, and_from}
 use Rattle.lane_rows.specs.Lanes.{lane}
-use Rattle.back_trace.specs.Fails.{explains_in}
+use Rattle.explained_lanes.specs.Fails.{explains_in}
 use Rattle.back_trace.proofs.both.explains_both.Goals as goal
 
 pub returns-then-is_empty : goal.returns-then-is_empty

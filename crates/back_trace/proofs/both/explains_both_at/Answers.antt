@@ -3,7 +3,7 @@ use Rattle.std.proofs.lemmas.Option.{get_or_from_slice_get}
 use Rattle.scan_model.specs.declared.fault.Fault.{Fault}
 use Rattle.scan_model.specs.Universe.{universe}
 use Rattle.back_trace.specs.CommonPatterns as both
-use Rattle.back_trace.specs.Traces.{no_fault}
+use Rattle.back_trace.specs.SuspectMarks.{no_fault}
 use Rattle.back_trace.proofs.both.explains_both_at.Goals as goal
 
 pub returns : goal.returns

@@ -1,6 +1,6 @@
 use Rattle.std.proofs.Common.{ℕ}
 use Rattle.lane_rows.specs.GoodRows.{AreBlockRows}
-use Rattle.back_trace.specs.Fails.{IsWithin}
+use Rattle.explained_lanes.specs.Fails.{IsWithin}
 use Rattle.back_trace.specs.CommonPatterns.{AreBothMarked}
 use Rattle.back_trace.proofs.both.mark_traced.Given as goal
 

@@ -1,4 +1,5 @@
-use Rattle.back_trace.proofs.ChainTraces.{some_lane, first_own, first_all}
+use Rattle.explained_lanes.proofs.ToldLanes.{some_lane}
+use Rattle.back_trace.proofs.ChainTraces.{first_own, first_all}
 use Rattle.back_trace.proofs.chains.first_of.Goals as goal
 
 pub returns-then-is_empty-2 : goal.returns-then-is_empty-2

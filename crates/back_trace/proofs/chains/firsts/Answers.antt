@@ -5,10 +5,10 @@ use Rattle.scan_model.specs.declared.parts.Point.TheVariants.{Output}
 use Rattle.scan_model.specs.declared.parts.Point.{Point}
 use Rattle.scan_model.specs.ScanTest.{point_at, points_of}
 use Rattle.lane_rows.specs.Lanes.{lane}
-use Rattle.back_trace.specs.Fails.{fails_at, Tells}
-use Rattle.back_trace.specs.Traces.{is_shifted_through, is_from}
-use Rattle.back_trace.proofs.Ranges.{any_more}
-use Rattle.back_trace.proofs.ChainTraces.{tells_same}
+use Rattle.explained_lanes.specs.Fails.{fails_at, Tells}
+use Rattle.explained_lanes.specs.Traces.{is_shifted_through, is_from}
+use Rattle.explained_lanes.proofs.Ranges.{any_more}
+use Rattle.explained_lanes.proofs.ToldLanes.{tells_same}
 use Rattle.back_trace.proofs.chains.firsts.Goals as goal
 
 pub loop-k-preserved : goal.loop-k-preserved

@@ -1,8 +1,8 @@
 use Rattle.std.proofs.Common.{◌≡◌, ℕ, ◌<◌, ◌&&◌, length, None, get_or}
 use Rattle.std.specs.List.{list_any, range_with_len}
 use Rattle.scan_model.specs.ScanTest.{point_at}
-use Rattle.back_trace.specs.Fails.{fails_at, Tells}
-use Rattle.back_trace.specs.Traces.{is_shifted_through, is_from}
+use Rattle.explained_lanes.specs.Fails.{fails_at, Tells}
+use Rattle.explained_lanes.specs.Traces.{is_shifted_through, is_from}
 use Rattle.back_trace.proofs.chains.firsts.Given as goal
 
 abbrev pub invariant-loop-k : goal.invariant-loop-k

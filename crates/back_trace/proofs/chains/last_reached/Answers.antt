@@ -1,5 +1,6 @@
 use Rattle.std.proofs.Common.{[], get_or, refl, arith}
-use Rattle.back_trace.proofs.ChainTraces.{last_here, last_stays, last_is, some_lane}
+use Rattle.explained_lanes.proofs.ToldLanes.{some_lane}
+use Rattle.back_trace.proofs.ChainTraces.{last_here, last_stays, last_is}
 use Rattle.back_trace.proofs.chains.last_reached.Goals as goal
 use Rattle.back_trace.proofs.chains.last_reached.Goals.{then-not-is_empty_at, else-not-is_empty_at}
 

@@ -4,7 +4,7 @@ use Rattle.std.proofs.lemmas.List.{get_or_default, get_or_append_left, get_or-ap
 use Rattle.scan_model.specs.declared.parts.Chain.{Chain}
 use Rattle.scan_model.specs.ScanTest.{chain_at, no_chain}
 use Rattle.scan_model.proofs.Cells.{cells_are_flops}
-use Rattle.back_trace.specs.Traces.{IsLastReached}
+use Rattle.explained_lanes.specs.Traces.{IsLastReached}
 use Rattle.back_trace.proofs.chains.lasts.Goals as goal
 
 pub last_reached-requires : goal.last_reached-requires

@@ -1,6 +1,6 @@
 use Rattle.std.proofs.Common.{◌≡◌, ℕ, ◌<◌, length, get_or}
 use Rattle.scan_model.specs.ScanTest.{chain_at}
-use Rattle.back_trace.specs.Traces.{IsLastReached}
+use Rattle.explained_lanes.specs.Traces.{IsLastReached}
 use Rattle.back_trace.proofs.chains.lasts.Given as goal
 
 abbrev pub invariant-loop-h : goal.invariant-loop-h

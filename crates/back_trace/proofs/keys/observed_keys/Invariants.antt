@@ -1,5 +1,4 @@
-use Rattle.back_trace.specs.Traces.{observes}
-use Rattle.back_trace.specs.Keys.{AreKeys}
+use Rattle.back_trace.specs.Keys.{observes, AreKeys}
 use Rattle.back_trace.proofs.keys.observed_keys.Given as goal
 
 abbrev pub invariant-loop-k : goal.invariant-loop-k

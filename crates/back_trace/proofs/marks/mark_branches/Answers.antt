@@ -3,8 +3,7 @@ use Rattle.std.specs.Prelude.{filter, slice_get}
 use Rattle.std.proofs.lemmas.Option.{slice_get-get_or}
 use Rattle.scan_model.specs.Netlist.{Netlist, is_branch, pin_numbers}
 use Rattle.scan_model.specs.Universe.{branches, branch_faults}
-use Rattle.back_trace.specs.SuspectMarks.{MarksOn, StandAt}
-use Rattle.back_trace.specs.Traces.{no_fault}
+use Rattle.back_trace.specs.SuspectMarks.{MarksOn, StandAt, no_fault}
 use Rattle.back_trace.proofs.Standing.{branch_stands, branch_count, site_there}
 use Rattle.back_trace.proofs.marks.mark_branches.Goals as goal
 

@@ -1,7 +1,6 @@
 use Rattle.std.proofs.Common.{◌≡◌, ℕ, ◌+◌, ◌*◌, subst, arith}
 use Rattle.scan_model.specs.Universe.{cell_faults}
-use Rattle.back_trace.specs.SuspectMarks.{MarksOn}
-use Rattle.back_trace.specs.Traces.{no_fault}
+use Rattle.back_trace.specs.SuspectMarks.{MarksOn, no_fault}
 use Rattle.back_trace.proofs.Standing.{place_there}
 use Rattle.back_trace.proofs.marks.mark_chain.Goals as goal
 

@@ -2,9 +2,8 @@ use Rattle.std.proofs.Common.{◌≡◌, ◌∙◌, ℕ, ◌+◌, ◌<◌, lengt
 use Rattle.std.proofs.lemmas.List.{get_or_default}
 use Rattle.scan_model.specs.declared.fault.Fault.{Fault}
 use Rattle.scan_model.specs.Universe.{universe}
-use Rattle.back_trace.specs.Traces.{no_fault, AreMarked}
-use Rattle.back_trace.specs.SuspectMarks.{MarksOn}
-use Rattle.back_trace.specs.Fails.{explains_in, Tells}
+use Rattle.back_trace.specs.SuspectMarks.{no_fault, AreMarked, MarksOn}
+use Rattle.explained_lanes.specs.Fails.{explains_in, Tells}
 use Rattle.back_trace.proofs.SuspectMarks.{one_marked, one_kept}
 use Rattle.back_trace.proofs.Standing.{place_there, fault_there, site_there}
 use Rattle.back_trace.proofs.marks.mark_each.Goals as goal

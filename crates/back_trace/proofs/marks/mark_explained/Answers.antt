@@ -2,7 +2,7 @@ use Rattle.std.proofs.Common.{◌≡◌, ◌∙◌, ℕ, ◌+◌, ◌*◌, List,
 use Rattle.std.specs.Prelude.{filter}
 use Rattle.scan_model.specs.Netlist.{Netlist, is_branch, pin_numbers}
 use Rattle.scan_model.specs.Universe.{universe, stems, branches, bridges}
-use Rattle.back_trace.specs.Traces.{AreMarked}
+use Rattle.back_trace.specs.SuspectMarks.{AreMarked}
 use Rattle.back_trace.proofs.Standing.{stem_count, branch_count, universe_count}
 use Rattle.back_trace.proofs.marks.mark_explained.Goals as goal
 

@@ -1,6 +1,6 @@
 use Rattle.std.proofs.Common.{◌≡◌, ◌∙◌, ℕ, ◌<◌, ◌&&◌, ◌||◌, ◌==◌, List, set, ap}
 use Rattle.lane_rows.specs.Lanes.{lane}
-use Rattle.back_trace.specs.Traces.{lane_at}
+use Rattle.explained_lanes.specs.Traces.{lane_at}
 use Rattle.back_trace.proofs.NetRows.{lanes_added, on_ok}
 use Rattle.back_trace.proofs.reach.add_lanes.Goals as goal
 

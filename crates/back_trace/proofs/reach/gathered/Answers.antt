@@ -2,7 +2,7 @@ use Rattle.std.proofs.Common.{◌≡◌, ◌∙◌, ℕ, ◌&&◌, ◌||◌, Boo
 use Rattle.std.proofs.lemmas.List.{get_or_default}
 use Rattle.lane_rows.specs.Lanes.{lane}
 use Rattle.back_trace.specs.Keys.{is_key}
-use Rattle.back_trace.specs.Traces.{lane_at}
+use Rattle.explained_lanes.specs.Traces.{lane_at}
 use Rattle.back_trace.proofs.NetRows.{gathered_more}
 use Rattle.back_trace.proofs.reach.gathered.Goals as goal
 

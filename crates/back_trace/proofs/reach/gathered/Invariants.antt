@@ -2,7 +2,7 @@ use Rattle.std.proofs.Common.{◌≡◌, ℕ, ◌<◌, ◌&&◌, length, None, g
 use Rattle.std.specs.List.{list_any, range_with_len}
 use Rattle.lane_rows.specs.Lanes.{lane}
 use Rattle.back_trace.specs.Keys.{is_key}
-use Rattle.back_trace.specs.Traces.{lane_at}
+use Rattle.explained_lanes.specs.Traces.{lane_at}
 use Rattle.back_trace.proofs.reach.gathered.Given as goal
 
 abbrev pub invariant-loop-k : goal.invariant-loop-k

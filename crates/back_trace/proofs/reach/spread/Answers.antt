@@ -1,7 +1,7 @@
 use Rattle.std.proofs.Common.{◌≡◌, ◌∙◌, ℕ, ◌&&◌, ◌||◌, Bool, sym, ap, ◌+◌, ◌∷◌, ◌++◌, []}
 use Rattle.scan_model.proofs.FanSweeps.{first_reads, first_reads_more}
 use Rattle.lane_rows.specs.Lanes.{lane}
-use Rattle.back_trace.specs.Traces.{lane_at}
+use Rattle.explained_lanes.specs.Traces.{lane_at}
 use Rattle.back_trace.proofs.NetRows.{reads_more, eqb_turned}
 use Rattle.back_trace.proofs.reach.spread.Goals as goal
 

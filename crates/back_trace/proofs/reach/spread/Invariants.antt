@@ -2,7 +2,7 @@ use Rattle.std.proofs.Common.{◌≡◌, ℕ, ◌<◌, ◌&&◌, ◌||◌, eqb, 
 use Rattle.std.specs.List.{list_any}
 use Rattle.scan_model.proofs.FanSweeps.{first_reads}
 use Rattle.lane_rows.specs.Lanes.{lane}
-use Rattle.back_trace.specs.Traces.{lane_at}
+use Rattle.explained_lanes.specs.Traces.{lane_at}
 use Rattle.back_trace.proofs.reach.spread.Given as goal
 
 abbrev pub invariant-loop-i : goal.invariant-loop-i

@@ -1,7 +1,7 @@
 use Rattle.std.proofs.Common.{◌≡◌, ◌∙◌, ℕ, ◌+◌, ◌-◌, refl, subst, arith}
 use Rattle.scan_model.specs.Walks.{IsEvaluationOrder}
-use Rattle.back_trace.specs.Traces.{lane_at}
-use Rattle.back_trace.proofs.SweptBack.{IsSweptBack, swept_back_none, swept_back_more, swept_back_all}
+use Rattle.explained_lanes.specs.Traces.{lane_at}
+use Rattle.explained_lanes.proofs.SweptBack.{IsSweptBack, swept_back_none, swept_back_more, swept_back_all}
 use Rattle.back_trace.proofs.reach.spread_back.Goals as goal
 
 pub loop-k-preserved : goal.loop-k-preserved

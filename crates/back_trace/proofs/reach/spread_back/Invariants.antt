@@ -1,6 +1,6 @@
 use Rattle.std.proofs.Common.{◌≡◌, ℕ, ◌<◌, ◌≤◌, length}
-use Rattle.back_trace.specs.Traces.{lane_at}
-use Rattle.back_trace.proofs.SweptBack.{IsSweptBack}
+use Rattle.explained_lanes.specs.Traces.{lane_at}
+use Rattle.explained_lanes.proofs.SweptBack.{IsSweptBack}
 use Rattle.back_trace.proofs.reach.spread_back.Given as goal
 
 abbrev pub invariant-loop-k : goal.invariant-loop-k

@@ -5,7 +5,8 @@ use Rattle.scan_model.specs.Cone.{in_fan_in}
 use Rattle.scan_model.specs.ScanTest.{point_at}
 use Rattle.scan_model.specs.Suspect.{is_cell}
 use Rattle.scan_model.proofs.counting.Shown.{observed_net-in_range, point_at-IsPoint}
-use Rattle.back_trace.specs.Traces.{lane_at, observes}
+use Rattle.explained_lanes.specs.Traces.{lane_at}
+use Rattle.back_trace.specs.Keys.{observes}
 use Rattle.back_trace.proofs.NetRows.{gathered_is, reached_is}
 use Rattle.back_trace.proofs.tracing.trace_back.Goals as goal
 

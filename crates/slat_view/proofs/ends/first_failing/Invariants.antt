@@ -1,6 +1,6 @@
 use Rattle.std.proofs.Common.{◌≡◌, ℕ, ◌<◌, length}
 use Rattle.lane_rows.specs.Lanes.{lane}
-use Rattle.back_trace.specs.Fails.{fails_at}
+use Rattle.explained_lanes.specs.Fails.{fails_at}
 use Rattle.slat_view.specs.Ends.{any_before, is_first}
 use Rattle.slat_view.proofs.ends.first_failing.Given as goal
 

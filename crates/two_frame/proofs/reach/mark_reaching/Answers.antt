@@ -10,7 +10,7 @@ use Rattle.scan_model.specs.Suspect.{observed_net}
 use Rattle.scan_model.specs.Classes.{is_failing}
 use Rattle.scan_model.proofs.counting.Shown.{point_at-IsPoint, observed_net-in_range}
 use Rattle.packed_sim.specs.PackedParts.{observed_at}
-use Rattle.back_trace.proofs.Ranges.{any_at}
+use Rattle.explained_lanes.proofs.Ranges.{any_at}
 use Rattle.two_frame.proofs.BlockReads.{net_read}
 use Rattle.two_frame.proofs.FrameResponses.{fits_frames}
 use Rattle.two_frame.proofs.FanInMarks.{class_is}

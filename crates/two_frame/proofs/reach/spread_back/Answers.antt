@@ -1,7 +1,7 @@
 use Rattle.std.proofs.Common.{◌≡◌, ◌∙◌, ℕ, ◌+◌, ◌-◌, refl, subst, arith}
 use Rattle.scan_model.specs.Marks.{is_marked}
 use Rattle.scan_model.specs.Walks.{IsEvaluationOrder}
-use Rattle.back_trace.proofs.SweptBack.{IsSweptBack, swept_back_none, swept_back_more, swept_back_all}
+use Rattle.explained_lanes.proofs.SweptBack.{IsSweptBack, swept_back_none, swept_back_more, swept_back_all}
 use Rattle.two_frame.proofs.reach.spread_back.Goals as goal
 
 pub loop-k-init : goal.loop-k-init

@@ -1,6 +1,6 @@
 use Rattle.std.proofs.Common.{◌≡◌, ◌≤◌, length}
 use Rattle.scan_model.specs.Marks.{is_marked}
-use Rattle.back_trace.proofs.SweptBack.{IsSweptBack}
+use Rattle.explained_lanes.proofs.SweptBack.{IsSweptBack}
 use Rattle.two_frame.proofs.reach.spread_back.Given as goal
 
 abbrev pub invariant-loop-k : goal.invariant-loop-k
