@@ -90,37 +90,6 @@ fn pair_part<O: Observer, L: Ledger>(
     }
 }
 
-/// Adds the shares of the suspects that are bridges, given what is kept of flips.
-fn share_pairs<O: Observer, L: Ledger>(
-    work: &BlockWork<'_, O>,
-    scratch: &mut Scratch,
-    kept: &mut PairFlips<O::Flip>,
-    group: &[u32],
-    shares: &mut Rows<Share<O::Part>>,
-    steps: &mut Steps<L>,
-) -> Result<(), NoMemory>
-    requires work { IsSound O.test O.model O.block O.clean O.ready work.now }
-    requires scratch { O.clean work.now.observer.now scratch.old }
-    requires kept { ArePairFlips (O.holds work.now.observer.now) (O.model work.now.observer.now) (O.block work.now.observer.now) kept.old }
-    requires group { All (IsOwned work.now.parts.now work.now.suspects.now (length work.now.parts.now.netlist.nets + 1)) group.now }
-    ensures scratch { O.clean work.now.observer.now scratch.new }
-    ensures shares { OnOk result (Shares (O.means work.now.observer.now) (O.model work.now.observer.now) (O.block work.now.observer.now) work.now.suspects.now (IsAmong group.now (length group.now)) shares.old shares.new) }
-{
-    let _ = work.parts.circuit();
-    for item in group {
-        let suspect = work.suspects[*item as usize];
-        let Fault::Bridge { a, b, kind } = suspect.fault else {
-            unreachable!()
-        };
-        let part = pair_part(work, scratch, kept, BridgeFault { a, b, kind }, steps)?;
-        shares.push(Share {
-            suspect: *item,
-            part,
-        })?;
-    }
-    Ok(())
-}
-
 /// Adds the shares of the suspects that are bridges.
 pub(crate) fn share_bridges<O: Observer, L: Ledger>(
     alloc: Global,
@@ -136,11 +105,21 @@ pub(crate) fn share_bridges<O: Observer, L: Ledger>(
     ensures scratch { O.clean work.now.observer.now scratch.new }
     ensures shares { OnOk result (Shares (O.means work.now.observer.now) (O.model work.now.observer.now) (O.block work.now.observer.now) work.now.suspects.now (IsAmong group.now (length group.now)) shares.old shares.new) }
 {
+    let _ = work.parts.circuit();
     let mut kept = PairFlips {
         low: CachedFlip::new(work.observer.new_flip(alloc)),
         high: CachedFlip::new(work.observer.new_flip(alloc)),
     };
-    let shared = share_pairs(work, scratch, &mut kept, group, shares, steps);
-    drop(kept);
-    shared
+    for item in group {
+        let suspect = work.suspects[*item as usize];
+        let Fault::Bridge { a, b, kind } = suspect.fault else {
+            unreachable!()
+        };
+        let part = pair_part(work, scratch, &mut kept, BridgeFault { a, b, kind }, steps)?;
+        shares.push(Share {
+            suspect: *item,
+            part,
+        })?;
+    }
+    Ok(())
 }

@@ -1,6 +1,6 @@
 use Rattle.fault_effects.specs.CachedFlips.{ArePairFlips}
 use Rattle.fault_effects.specs.Shares.{Shares, IsAmong}
-use Rattle.fault_effects.proofs.bridge_piece.share_pairs.Given as goal
+use Rattle.fault_effects.proofs.bridge_piece.share_bridges.Given as goal
 
 abbrev pub invariant-loop-item : goal.invariant-loop-item
 invariant-loop-item g l = record {

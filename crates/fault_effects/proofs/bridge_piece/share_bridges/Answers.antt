@@ -1,7 +1,7 @@
 use Rattle.std.proofs.Common.{◌≡◌, ℕ, ◌+◌, length, get_or, subst, arith}
 use Rattle.fault_effects.specs.Shares.{IsAmong, Shares}
 use Rattle.fault_effects.proofs.ShareLists.{shares_join, shares_push, among_more}
-use Rattle.fault_effects.proofs.bridge_piece.share_pairs.Goals as goal
+use Rattle.fault_effects.proofs.bridge_piece.share_bridges.Goals as goal
 
 pub loop-item-preserved : goal.loop-item-preserved
 loop-item-preserved g c =
