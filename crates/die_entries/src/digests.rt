@@ -10,6 +10,7 @@ ghost use Rattle.die_entries.specs.Revisions.{IsShowable, SignsReport, revision_
 use crate::sign::Sign;
 use crate::views::view_of;
 use diagnosis::{Design, ReadLog, check_report};
+use die_revisions::logs_at;
 use scan_model::{Digest, NoMemory};
 use std::alloc::Global;
 use std::sync::Arc;
@@ -72,6 +73,6 @@ pub fn digest_at<R: Threads + Sync>(
     if let Some(digest) = known_digest(signs, revision) {
         return Ok(Some(digest));
     }
-    let right = digest_of(rt, alloc, design, die, &logs[..revision as usize])?;
+    let right = digest_of(rt, alloc, design, die, logs_at(logs, revision))?;
     Ok(Some(right))
 }

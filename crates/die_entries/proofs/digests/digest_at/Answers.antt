@@ -13,7 +13,8 @@ pub digest_of-requires-after_bounds : goal.digest_of-requires-after_bounds
 digest_of-requires-after_bounds g c κs within =
     let low : 0 < c.args.revision = search rules in
     let high : c.args.revision ≤ length c.args.logs.now = search rules in
-    showable_at (arc_value c.args.design.now) c.args.die.now c.args.logs.now c.args.revision c.requires.showable low high
+    showable_at (arc_value c.args.design.now) c.args.die.now c.args.logs.now c.logs_at.result.now c.args.revision c.logs_at.ensures c.requires.showable low high
 
 pub returns-clause-right : goal.returns-clause-right
-returns-clause-right g c = c.in_ok-right.ensures ∙ ap sha256 (report_of_part (arc_value c.args.design.now) c.args.die.now c.args.logs.now c.args.revision)
+returns-clause-right g c =
+    c.in_ok-right.ensures ∙ ap sha256 (report_of_part (arc_value c.args.design.now) c.args.die.now c.args.logs.now c.logs_at.result.now c.args.revision c.logs_at.ensures)
