@@ -26,14 +26,18 @@ part_some logs revision low high =
     omega (arith, count)
 
 -- the first so many logs may be reported as all may
-pub showable_at : (d : DesignFacts) (die : List ℕ) (logs : List Log) (revision : ℕ) → IsShowable d die (arc_values logs) → 0 < revision → revision ≤ length logs → IsShowable d die (arc_values (take revision logs))
-showable_at d die logs revision all low high = record {
+part_showable : (d : DesignFacts) (die : List ℕ) (logs : List Log) (revision : ℕ) → IsShowable d die (arc_values logs) → 0 < revision → revision ≤ length logs → IsShowable d die (arc_values (take revision logs))
+part_showable d die logs revision all low high = record {
   tag = all.tag;
   some = part_some logs revision low high;
   each = subst (All (IsLogOf d die)) (take-map (λ (l : Log). arc_value l) revision logs) (All-take (IsLogOf d die) revision (arc_values logs) all.each);
   differ = subst (IsDistinct bytes_eq) (sym (texts_cut logs revision)) (distinct_take revision (texts_of (arc_values logs)) all.differ);
 }
 
+pub showable_at : (d : DesignFacts) (die : List ℕ) (logs part : List Log) (revision : ℕ) → part ≡ take revision logs → IsShowable d die (arc_values logs) → 0 < revision → revision ≤ length logs → IsShowable d die (arc_values part)
+showable_at d die logs part revision is all low high = subst (λ (ls : List Log). IsShowable d die (arc_values ls)) (sym is) (part_showable d die logs revision all low high)
+
 -- their report is that of the revision
-pub report_of_part : (d : DesignFacts) (die : List ℕ) (logs : List Log) (revision : ℕ) → view_report (record { design = d; die = die; logs = arc_values (take revision logs) }) ≡ revision_report d die (arc_values logs) revision
-report_of_part d die logs revision = ap (λ (ls : List ReadLogFacts). view_report (record { design = d; die = die; logs = ls })) (sym (take-map (λ (l : Log). arc_value l) revision logs))
+pub report_of_part : (d : DesignFacts) (die : List ℕ) (logs part : List Log) (revision : ℕ) → part ≡ take revision logs → view_report (record { design = d; die = die; logs = arc_values part }) ≡ revision_report d die (arc_values logs) revision
+report_of_part d die logs part revision is =
+    ap (λ (ls : List ReadLogFacts). view_report (record { design = d; die = die; logs = ls })) (ap (λ (ls : List Log). arc_values ls) is ∙ sym (take-map (λ (l : Log). arc_value l) revision logs))

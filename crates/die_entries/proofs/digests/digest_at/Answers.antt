@@ -1,10 +1,8 @@
-use Rattle.std.proofs.Common.{◌<◌, ◌≤◌, List, length, sym, ap, subst, ◌∙◌, rules}
+use Rattle.std.proofs.Common.{◌<◌, ◌≤◌, length, ap, ◌∙◌, rules}
 use Rattle.std.specs.Arc.{arc_value}
 use Rattle.sha2.specs.Sha256.{sha256}
-use Rattle.diagnosis.specs.Designs.{view_report}
 use Rattle.die_entries.specs.Entries.{arc_values}
-use Rattle.die_entries.specs.Revisions.{IsShowable, revision_report}
-use Rattle.die_entries.proofs.MoreLogs.{Log}
+use Rattle.die_entries.specs.Revisions.{revision_report}
 use Rattle.die_entries.proofs.Revisions.{showable_at, report_of_part}
 use Rattle.die_entries.proofs.digests.digest_at.Goals as goal
 
@@ -15,10 +13,8 @@ pub digest_of-requires-after_bounds : goal.digest_of-requires-after_bounds
 digest_of-requires-after_bounds g c κs within =
     let low : 0 < c.args.revision = search rules in
     let high : c.args.revision ≤ length c.args.logs.now = search rules in
-    let showable = showable_at (arc_value c.args.design.now) c.args.die.now c.args.logs.now c.args.revision c.requires.showable low high in
-    subst (λ (logs : List Log). IsShowable (arc_value c.args.design.now) c.args.die.now (arc_values logs)) (sym c.logs_at.ensures) showable
+    showable_at (arc_value c.args.design.now) c.args.die.now c.args.logs.now c.logs_at.result.now c.args.revision c.logs_at.ensures c.requires.showable low high
 
 pub returns-clause-right : goal.returns-clause-right
 returns-clause-right g c =
-    let report = λ (logs : List Log). sha256 (view_report (record { design = arc_value c.args.design.now; die = c.args.die.now; logs = arc_values logs })) in
-    c.in_ok-right.ensures ∙ ap report c.logs_at.ensures ∙ ap sha256 (report_of_part (arc_value c.args.design.now) c.args.die.now c.args.logs.now c.args.revision)
+    c.in_ok-right.ensures ∙ ap sha256 (report_of_part (arc_value c.args.design.now) c.args.die.now c.args.logs.now c.logs_at.result.now c.args.revision c.logs_at.ensures)
