@@ -2,7 +2,7 @@
 use Rattle.std.proofs.Common.{◌≡◌, ℕ, zero, suc, ◌+◌, ◌*◌, ◌<◌, ◌≤◌, Bool, true, false, not, cond, eqb, ◌&&◌, ◌||◌, List, [], ◌∷◌, length, get_or, set, drop, refl, sym, ap, ◌∙◌, arith}
 use Rattle.std.specs.List.{list_any}
 use Rattle.std.proofs.Math.Nat.{mul_assoc}
-use Rattle.lane_rows.specs.Lanes.{lane, differ}
+use Rattle.bit_rows.specs.Lanes.{lane, differ}
 use Rattle.pattern_fits.specs.LaneNumbers.{value, weight, one}
 
 -- one slice replaced

@@ -1,6 +1,6 @@
 -- The places of the faults that fit in a lane.
 use Rattle.std.specs.Prelude.{ℕ, List, map, filter}
-use Rattle.lane_rows.specs.Lanes.{lane}
+use Rattle.bit_rows.specs.Lanes.{lane}
 use Rattle.pattern_fits.specs.declared.fit.Fit.{Fit}
 
 -- the places of the fits that have lane j

@@ -1,6 +1,6 @@
 -- A number in each of 512 lanes, in slices.
 use Rattle.std.specs.Prelude.{ℕ, zero, suc, ◌+◌, ◌*◌, List, [], ◌∷◌, sum_by, Bool, cond}
-use Rattle.lane_rows.specs.Lanes.{lane}
+use Rattle.bit_rows.specs.Lanes.{lane}
 
 abbrev pub one : Bool → ℕ
 one b = cond b 1 0

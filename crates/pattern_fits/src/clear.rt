@@ -1,10 +1,10 @@
 //! The lanes in which no bit is against what a fault shows.
 ghost use Rattle.std.specs.Prelude.{◌≡◌, ℕ, ◌+◌, ◌^◌, ◌<◌, ◌≤◌, ◌&&◌, ◌==◌, IfOk};
-ghost use Rattle.lane_rows.specs.Lanes.{lane};
+ghost use Rattle.bit_rows.specs.Lanes.{lane};
 ghost use Rattle.pattern_fits.specs.LaneNumbers.{value, rows_with};
 
 use crate::lane_counter::LaneCounter;
-use lane_rows::Row;
+use bit_rows::Row;
 use scan_model::NoMemory;
 use std::alloc::Global;
 

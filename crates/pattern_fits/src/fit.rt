@@ -1,5 +1,5 @@
 //! A fault and the patterns of a block that it fits.
-use lane_rows::Row;
+use bit_rows::Row;
 
 /// The place of a fault, and the lanes of a block that it fits.
 #[derive(Clone, Copy)]

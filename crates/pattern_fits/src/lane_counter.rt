@@ -1,9 +1,9 @@
 //! A number in each of 512 lanes.
 ghost use Rattle.std.specs.Prelude.{◌≡◌, ℕ, ◌+◌, ◌*◌, ◌^◌, ◌<◌, ◌≤◌, ◌==◌, true, length, IfOk};
-ghost use Rattle.lane_rows.specs.Lanes.{lane};
+ghost use Rattle.bit_rows.specs.Lanes.{lane};
 ghost use Rattle.pattern_fits.specs.LaneNumbers.{value, weight, one, rows_with};
 
-use lane_rows::Row;
+use bit_rows::Row;
 use scan_model::NoMemory;
 use std::alloc::Global;
 use std::marker::Model;

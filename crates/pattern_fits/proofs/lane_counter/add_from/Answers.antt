@@ -1,6 +1,6 @@
 use Rattle.std.proofs.Common.{◌≡◌, ℕ, ◌+◌, ◌*◌, ◌&&◌, List, length, ap, sym, ◌∙◌, arith}
 use Rattle.std.proofs.lemmas.List.{length-set}
-use Rattle.lane_rows.specs.Lanes.{lane, differ}
+use Rattle.bit_rows.specs.Lanes.{lane, differ}
 use Rattle.pattern_fits.specs.LaneNumbers.{value, weight, one}
 use Rattle.pattern_fits.proofs.Carries.{carry_on, no_carry, none_carried}
 use Rattle.pattern_fits.proofs.lane_counter.add_from.Goals as goal

@@ -1,5 +1,5 @@
 use Rattle.std.proofs.Common.{◌≡◌, ◌+◌, ◌*◌, ◌<◌, ℕ, length}
-use Rattle.lane_rows.specs.Lanes.{lane}
+use Rattle.bit_rows.specs.Lanes.{lane}
 use Rattle.pattern_fits.specs.LaneNumbers.{value, weight, one}
 use Rattle.pattern_fits.proofs.lane_counter.add_from.Given as goal
 

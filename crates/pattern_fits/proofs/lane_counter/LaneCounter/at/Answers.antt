@@ -1,6 +1,6 @@
 use mir.Val.{bool_byte}
 use Rattle.std.proofs.Common.{◌≡◌, ℕ, suc, Bool, true, false, ◌+◌, ◌-◌, ◌*◌, ◌<◌, ◌≤◌, List, length, drop, get_or, sym, ap, refl, ◌∙◌, arith}
-use Rattle.lane_rows.specs.Lanes.{lane}
+use Rattle.bit_rows.specs.Lanes.{lane}
 use Rattle.pattern_fits.specs.LaneNumbers.{value, weight, one}
 use Rattle.pattern_fits.proofs.Carries.{value_drop, value_room, drop_less}
 use Rattle.pattern_fits.proofs.lane_counter.LaneCounter.at.Goals as goal

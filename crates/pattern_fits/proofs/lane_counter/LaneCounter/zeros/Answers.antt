@@ -2,7 +2,7 @@ use Rattle.std.proofs.Common.{◌≡◌, ℕ, ◌+◌, ◌-◌, ◌*◌, ◌||�
 use Rattle.std.specs.List.{list_any}
 use Rattle.std.proofs.lemmas.List.{take_all}
 use Rattle.std.proofs.lemmas.List.Folds.{list_any_more}
-use Rattle.lane_rows.specs.Lanes.{lane}
+use Rattle.bit_rows.specs.Lanes.{lane}
 use Rattle.pattern_fits.specs.LaneNumbers.{value}
 use Rattle.pattern_fits.proofs.Carries.{value_zero}
 use Rattle.pattern_fits.proofs.lane_counter.LaneCounter.zeros.Goals as goal

@@ -1,6 +1,6 @@
 use Rattle.std.proofs.Common.{◌≡◌, ℕ, ◌<◌, take}
 use Rattle.std.specs.List.{list_any}
-use Rattle.lane_rows.specs.Lanes.{lane}
+use Rattle.bit_rows.specs.Lanes.{lane}
 use Rattle.pattern_fits.proofs.lane_counter.LaneCounter.zeros.Given as goal
 
 abbrev pub invariant-loop-slice : goal.invariant-loop-slice
