@@ -2,16 +2,16 @@
 use Rattle.std.proofs.Common.{◌≡◌, ◌≢◌, ◌∙◌, ◌==◌, ℕ, Bool, true, false, List, Option, Some, None, refl, sym, ap, inl, inr, arith, true≢false}
 use Rattle.std.specs.Prelude.{◌||◌, is_some}
 use Rattle.desk_outside.specs.Faults.{Rose}
-use Rattle.desk_serve.specs.declared.ending.Ending.{Ending}
-use Rattle.desk_serve.specs.declared.ending.Ending.TheVariants.{Done, SinkFault, StoreFault, NoMemory, Spoiled, StreetFault}
-use Rattle.desk_serve.specs.Lines.{status_of}
+use Rattle.run_ends.specs.declared.ending.Ending.{Ending}
+use Rattle.run_ends.specs.declared.ending.Ending.TheVariants.{Done, SinkFault, StoreFault, NoMemory, Spoiled, StreetFault}
+use Rattle.run_ends.specs.Endings.{Ends, status_of}
 use Rattle.desk_serve.specs.Runs.{RunOrder, Outside, HasEnded, HasRun, IsWritten}
 use Rattle.command_words.specs.declared.command.Command.{Command}
 use Rattle.command_words.specs.declared.command.Command.TheVariants.{Make, Demo}
 use Rattle.command_words.specs.Invocations as words
 use Rattle.command_words.specs.CommandViews.{shown}
 use Rattle.desk_commands.specs.CommandEnds.{is_one_of, page_statuses}
-use Rattle.desk_run.specs.RunEnds.{Ends, statuses_of}
+use Rattle.desk_run.specs.RunEnds.{statuses_of}
 use Rattle.desk_run.specs.Words.{are_right}
 
 -- the statuses of files and words are none of `serve`

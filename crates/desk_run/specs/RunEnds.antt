@@ -1,7 +1,6 @@
 -- How a run may end.
 use Rattle.std.specs.Prelude.{◌≡◌, ◌⊎◌, ℕ, Bool, true, false, List, [], ◌∷◌, codes, Option}
-use Rattle.std.specs.Io.KnownBytes.{append_known}
-use Rattle.desk_outside.specs.Bytes.{AddsPart}
+use Rattle.run_ends.specs.Endings.{Ends}
 use Rattle.desk_commands.specs.Work.{Output}
 use Rattle.desk_commands.specs.CommandEnds.{IsDueOf, page_statuses}
 
@@ -9,11 +8,6 @@ use Rattle.desk_commands.specs.CommandEnds.{IsDueOf, page_statuses}
 abbrev pub statuses_of : Bool → List ℕ
 statuses_of true = 0 ∷ 6 ∷ 7 ∷ 8 ∷ 9 ∷ 10 ∷ []
 statuses_of false = 2 ∷ 6 ∷ 8 ∷ page_statuses
-
--- all the bytes were added; or the sink's count rose, and bytes from their front were added
-abbrev pub Ends : ℕ → List ℕ → ℕ → Option (List ℕ) → Option (List ℕ) → Type 0 → Type 0
-Ends status text result old new rose =
-    ((result ≡ status) × (new ≡ append_known old text)) ⊎ ((result ≡ 6) × AddsPart old new text × rose)
 
 -- a status and the bytes that go before it: those that are due, or those for want of memory
 abbrev pub MayEnd : Output → Type 0 → ℕ → List ℕ → Type 0

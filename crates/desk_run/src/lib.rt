@@ -4,4 +4,5 @@
 mod top;
 mod words;
 
-pub use top::{finish, run};
+pub use run_ends::finish;
+pub use top::run;

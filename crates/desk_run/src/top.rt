@@ -8,28 +8,18 @@ ghost use Rattle.desk_serve.specs.Runs.{HasRun};
 ghost use Rattle.desk_commands.specs.Commands.{work};
 ghost use Rattle.desk_commands.specs.CommandEnds.{is_one_of};
 ghost use Rattle.desk_run.specs.Words.{are_right, run_for};
-ghost use Rattle.desk_run.specs.RunEnds.{Ends, IsRunEnd, statuses_of};
+ghost use Rattle.desk_run.specs.RunEnds.{IsRunEnd, statuses_of};
 
 use crate::words::serving_of;
 use command_words::{command_of, is_serve, service_of};
 use desk_commands::page_of_command;
-use desk_outside::{Cabinet, Failed, Shelf, Sink, Street, write_all};
-use desk_serve::{Ending, ended, serve};
+use desk_outside::{Cabinet, Shelf, Sink, Street};
+use desk_serve::{ended, serve};
+use run_ends::{Ending, finish};
 use scan_model::NoMemory;
 use std::alloc::Global;
 use std::sync::Wait;
 use std::thread::Threads;
-
-/// Writes the bytes. The status is the one given, or 6 where the sink fails.
-pub fn finish<O: Sink>(out: &mut O, status: u8, text: &[u8]) -> u8
-    ensures ends { Ends status text.now result (O.written out.old) (O.written out.new) (Rose (O.faults out.old) (O.faults out.new)) }
-    ensures later { O.faults out.old ≤ O.faults out.new }
-{
-    match write_all(out, text) {
-        Ok(()) => status,
-        Err(Failed) => 6,
-    }
-}
 
 // What `serve` comes to, whose words these are.
 fn run_serve<R: Threads + Wait + Sync, O: Sink, S: Street, C: Cabinet>(

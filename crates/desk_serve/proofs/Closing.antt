@@ -11,9 +11,10 @@ use Rattle.book.specs.declared.opening.StartFault.{StartFault}
 use Rattle.book.specs.declared.opening.StartFault.TheVariants as fault
 use Rattle.book.specs.LegalDeeds.{spoiled_row}
 use Rattle.book.specs.Changes.{BookFacts}
-use Rattle.desk_serve.specs.declared.ending.Ending.{Ending}
-use Rattle.desk_serve.specs.declared.ending.Ending.TheVariants.{Done, SinkFault, StoreFault, NoMemory, Spoiled, StreetFault}
-use Rattle.desk_serve.specs.Lines.{Writes, first_line, line_of}
+use Rattle.run_ends.specs.declared.ending.Ending.{Ending}
+use Rattle.run_ends.specs.declared.ending.Ending.TheVariants.{Done, SinkFault, StoreFault, NoMemory, Spoiled, StreetFault}
+use Rattle.run_ends.specs.Endings.{Writes}
+use Rattle.desk_serve.specs.Lines.{first_line, line_of}
 use Rattle.desk_serve.specs.Refusals.{ending_of}
 use Rattle.desk_serve.specs.StreetEnd.{OverBook, IsOver}
 use Rattle.desk_serve.specs.Runs.{RunOrder, Outside, HasEnded, IsDue, IsFirstDue, IsUnused, WereServed, HasAll, HasAllUnlessFailed, HasNone, was_kept, max_deeds}

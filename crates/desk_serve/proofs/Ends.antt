@@ -14,7 +14,7 @@ use Rattle.std.proofs.lemmas.List.Elements.{All-nil}
 use Rattle.book.specs.LegalDeeds.{is_legal}
 use Rattle.desk_answers.specs.Seats.{IsPrefix}
 use Rattle.desk_answers.proofs.SeatSteps.{prefix_same}
-use Rattle.desk_serve.specs.declared.ending.Ending.{Ending}
+use Rattle.run_ends.specs.declared.ending.Ending.{Ending}
 use Rattle.desk_serve.specs.Doors.{DoorFacts, IsFreshDoor, Tells, has_failed, home_of, with_doors_out, with_doors_home}
 use Rattle.desk_serve.specs.Work.{Work, AllWorked, any_failed, any_unserved, instead_of}
 use Rattle.desk_serve.specs.StreetEnd.{AreFresh, StreetServed, IsOpened, opened_deeds, OverBook, IsOver}

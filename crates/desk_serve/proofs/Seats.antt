@@ -11,7 +11,7 @@ use Rattle.shared_desk.specs.StartAndEnd.{AreAllSeats, fresh_seat, HasOwn, IsFin
 use Rattle.desk_answers.specs.Seats.{IsPrefix}
 use Rattle.desk_answers.proofs.SeatSteps.{prefix_on}
 use Rattle.desk_serve.specs.Doors.{DoorFacts, Tells}
-use Rattle.desk_serve.specs.declared.ending.Ending.{Ending}
+use Rattle.run_ends.specs.declared.ending.Ending.{Ending}
 use Rattle.desk_serve.specs.Work.{Work, AllWorked, HasServed}
 use Rattle.desk_serve.specs.StreetEnd.{IsOpened, opened_deeds}
 use Rattle.desk_serve.specs.Runs.{max_deeds}

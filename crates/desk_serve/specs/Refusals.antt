@@ -1,8 +1,8 @@
 -- The ending where the store isn't opened.
 use Rattle.book.specs.declared.opening.StartFault.{StartFault}
 use Rattle.book.specs.declared.opening.StartFault.TheVariants as fault
-use Rattle.desk_serve.specs.declared.ending.Ending.{Ending}
-use Rattle.desk_serve.specs.declared.ending.Ending.TheVariants.{StoreFault, NoMemory, Spoiled}
+use Rattle.run_ends.specs.declared.ending.Ending.{Ending}
+use Rattle.run_ends.specs.declared.ending.Ending.TheVariants.{StoreFault, NoMemory, Spoiled}
 
 abbrev pub ending_of : StartFault → Ending
 ending_of (fault.Spoiled row) = Spoiled row

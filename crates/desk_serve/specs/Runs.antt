@@ -9,10 +9,11 @@ use Rattle.desk_outside.specs.Streets.{StreetTold}
 use Rattle.desk_outside.specs.Cabinets.{CabinetTold, keeper_handed, keeper_home}
 use Rattle.book.specs.LegalDeeds.{is_legal, spoiled_row}
 use Rattle.desk_answers.specs.Seats.{IsPrefix}
-use Rattle.desk_serve.specs.declared.ending.Ending.{Ending}
-use Rattle.desk_serve.specs.declared.ending.Ending.TheVariants.{Done, SinkFault, StoreFault, NoMemory, Spoiled, StreetFault}
+use Rattle.run_ends.specs.declared.ending.Ending.{Ending}
+use Rattle.run_ends.specs.declared.ending.Ending.TheVariants.{Done, SinkFault, StoreFault, NoMemory, Spoiled, StreetFault}
 use Rattle.desk_serve.specs.declared.serving.ServiceOrder.{ServiceOrder}
-use Rattle.desk_serve.specs.Lines.{first_line, line_of, status_of}
+use Rattle.run_ends.specs.Endings.{status_of}
+use Rattle.desk_serve.specs.Lines.{first_line, line_of}
 use Rattle.desk_serve.specs.HomeDoors.{AreServedBy}
 
 -- the most deeds that a store may have

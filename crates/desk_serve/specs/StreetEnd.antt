@@ -9,8 +9,8 @@ use Rattle.book.specs.Changes.{BookFacts}
 use Rattle.book.specs.LegalDeeds.{is_legal}
 use Rattle.shared_desk.specs.Seats.{DeskFacts, SeatFacts}
 use Rattle.shared_desk.specs.StartAndEnd.{AreAllSeats, fresh_seat}
-use Rattle.desk_serve.specs.declared.ending.Ending.{Ending}
-use Rattle.desk_serve.specs.declared.ending.Ending.TheVariants.{SinkFault, StreetFault, NoMemory}
+use Rattle.run_ends.specs.declared.ending.Ending.{Ending}
+use Rattle.run_ends.specs.declared.ending.Ending.TheVariants.{SinkFault, StreetFault, NoMemory}
 use Rattle.desk_serve.specs.Lines.{first_line}
 use Rattle.desk_serve.specs.Doors.{DoorFacts, IsFreshDoor, Tells}
 use Rattle.desk_serve.specs.Work.{HasServed}

@@ -8,8 +8,8 @@ use Rattle.desk_http.specs.declared.sessions.serve.Served.{Served}
 use Rattle.desk_answers.specs.DeskSeats.{of_desk, IsSeatOf}
 use Rattle.desk_http.specs.ServedConnections.{Serves, DidSome}
 use Rattle.report_cache.specs.Truth.{CacheFacts, IsTrueFor}
-use Rattle.desk_serve.specs.declared.ending.Ending.{Ending}
-use Rattle.desk_serve.specs.declared.ending.Ending.TheVariants.{NoMemory, StreetFault}
+use Rattle.run_ends.specs.declared.ending.Ending.{Ending}
+use Rattle.run_ends.specs.declared.ending.Ending.TheVariants.{NoMemory, StreetFault}
 use Rattle.desk_serve.specs.Doors.{DoorFacts}
 
 -- how many reports each worker keeps at most

@@ -3,11 +3,12 @@
 #![tactic(auto)]
 
 mod doors;
-mod ending;
+mod lines;
 mod room;
 mod serving;
 mod sessions;
 mod workers;
 
-pub use ending::{Ending, ended};
+pub use lines::ended;
+pub use run_ends::Ending;
 pub use serving::{ServiceOrder, serve};

@@ -3,14 +3,16 @@ ghost use Rattle.std.specs.Prelude.{◌≡◌, ◌⊎◌, ◌≤◌, ◌<◌, Li
 ghost use Rattle.desk_outside.specs.declared.deed.Deed.{Deed};
 ghost use Rattle.desk_outside.specs.Cabinets.{CabinetTold, keeper_home};
 ghost use Rattle.desk_outside.specs.Faults.{Rose};
-ghost use Rattle.desk_serve.specs.Lines.{Writes, line_of};
+ghost use Rattle.run_ends.specs.Endings.{Writes};
+ghost use Rattle.desk_serve.specs.Lines.{line_of};
 ghost use Rattle.desk_serve.specs.Refusals.{ending_of};
 ghost use Rattle.desk_serve.specs.Runs.{HasEnded, order_of};
 
-use crate::ending::{Ending, ended};
+use crate::lines::ended;
 use crate::sessions::serve_desk;
 use book::{StartFault, UnopenedBook};
 use desk_outside::{Cabinet, KeepFault, Sink, Street};
+use run_ends::Ending;
 use shared_desk::start;
 use std::alloc::Global;
 use std::sync::Wait;

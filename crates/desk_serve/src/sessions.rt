@@ -9,12 +9,13 @@ ghost use Rattle.desk_serve.specs.Runs.{order_of};
 ghost use Rattle.desk_serve.specs.Work.{HasServed, instead_of};
 
 use crate::doors::{hand_back, take_doors};
-use crate::ending::{Ending, first_line};
+use crate::lines::first_line;
 use crate::room::Room;
 use crate::serving::ServiceOrder;
 use crate::workers::{Worker, any_failed, any_unserved, parted, serve_all, workers_of};
 use book::Book;
 use desk_outside::{Door, Keeper, Sink, Street, write_all};
+use run_ends::Ending;
 use scan_model::{NoMemory, Rows};
 use shared_desk::{Desk, DeskSeat};
 use std::alloc::Global;

@@ -1,7 +1,7 @@
 use Rattle.std.proofs.Common.{◌≡◌, ◌∙◌, map, string_bytes, refl, ap, subst, inl, inr, arith}
 use Rattle.command_words.specs.Invocations.{asked}
 use Rattle.command_words.specs.CommandViews.{shown_service}
-use Rattle.desk_serve.specs.declared.ending.Ending.TheVariants.{NoMemory}
+use Rattle.run_ends.specs.declared.ending.Ending.TheVariants.{NoMemory}
 use Rattle.desk_serve.specs.Runs.{RunOrder, HasEnded}
 use Rattle.desk_serve.proofs.Closing.{no_keeper}
 use Rattle.desk_run.specs.Words.{run_for}

@@ -2,12 +2,13 @@ use Rattle.std.proofs.Common.{rules, ◌≡◌, ◌*◌, length, ap, sym, subst,
 use Rattle.std.specs.Prelude.{unwrap_or, is_some}
 use Rattle.desk_outside.specs.Faults.{Rose}
 use Rattle.desk_outside.specs.Cabinets.{keeper_handed, keeper_home}
-use Rattle.desk_serve.specs.declared.ending.Ending.{Ending}
-use Rattle.desk_serve.specs.declared.ending.Ending.TheVariants.{Done}
+use Rattle.run_ends.specs.declared.ending.Ending.{Ending}
+use Rattle.run_ends.specs.declared.ending.Ending.TheVariants.{Done}
 use Rattle.desk_serve.specs.Runs.{order_of}
 use Rattle.desk_serve.proofs.Closing.{no_keeper, not_opened, surely_home, keeper_rose, opened_ended}
 use Rattle.desk_serve.proofs.ComingHome.{rose_still, rose_later}
-use Rattle.desk_serve.specs.Lines.{Writes, line_of}
+use Rattle.run_ends.specs.Endings.{Writes}
+use Rattle.desk_serve.specs.Lines.{line_of}
 use Rattle.desk_serve.specs.StreetEnd.{opened_deeds}
 use Rattle.desk_outside.proofs.Out.{keeper_is_out}
 use Rattle.desk_serve.proofs.Seats.{opened_of}

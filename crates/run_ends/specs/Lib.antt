@@ -1,0 +1,2 @@
+-- How a run may end.
+pub mod Endings
