@@ -18,6 +18,7 @@ use Rattle.desk_serve.specs.Lines.{first_line, line_of}
 use Rattle.desk_serve.specs.Refusals.{ending_of}
 use Rattle.desk_serve.specs.StreetEnd.{OverBook, IsOver}
 use Rattle.desk_serve.specs.Runs.{RunOrder, Outside, HasEnded, IsDue, IsFirstDue, IsUnused, WereServed, HasAll, HasAllUnlessFailed, HasNone, was_kept, max_deeds}
+use Rattle.desk_serve.proofs.NoKeeper.{ends_alone}
 
 -- ---- bytes
 
@@ -47,11 +48,6 @@ only_rose (inr (sink, part, cause)) on = inr (sink, part, on cause)
 -- ---- the last bytes
 
 module _ (asked : RunOrder) (old new : Outside) (untouched : Type 0) (result : Ending) where
-  -- a line alone
-  pub ends_alone : (due : Ending) → IsDue asked old new untouched due (line_of due) → Writes due (line_of due) result old.written new.written (Rose old.sink_faults new.sink_faults) → HasEnded asked old new untouched result
-  ends_alone due is (inl (same, wrote)) = inl record { text = line_of due; is = subst (λ r. IsDue asked old new untouched r (line_of due)) (sym same) is; wrote = wrote }
-  ends_alone due is (inr (sink, part, rose)) = inr (sink, record { text = line_of due; is = inr (due, is); part = part; rose = rose })
-
   -- a line after the first
   pub ends_after : (due : Ending) (mid : Option (List ℕ)) (rose : Type 0) → mid ≡ append_known old.written (first_line asked.port) → IsDue asked old new untouched due (first_line asked.port ++ line_of due) → Writes due (line_of due) result mid new.written rose
       → (rose → Rose old.sink_faults new.sink_faults) → HasEnded asked old new untouched result
@@ -79,13 +75,6 @@ module _ (asked : RunOrder) (old new : Outside) (untouched : Type 0) (result : E
       inr (same, record { text = first_line asked.port; is = inl is; part = subst (λ w. AddsPart old.written w (first_line asked.port)) (sym none) part; rose = cause })
 
 -- ---- a store that wasn't opened
-
-pub no_keeper : (asked : RunOrder) (old new : Outside) (untouched : Type 0) (ending result : Ending) → untouched → ((told : CabinetTold) → old.cabinet ≡ Some told → IsUnused asked.store told new.cabinet)
-    → (ending ≡ StoreFault) ⊎ (ending ≡ NoMemory) → (ending ≡ StoreFault → Rose old.cabinet_faults new.cabinet_faults) → Writes ending (line_of ending) result old.written new.written (Rose old.sink_faults new.sink_faults) → HasEnded asked old new untouched result
-no_keeper asked old new untouched ending result same unused (inl is) rose writes =
-    ends_alone asked old new untouched result StoreFault (record { street = same; cabinet = unused }, rose is, refl) (subst (λ e. Writes e (line_of e) result old.written new.written (Rose old.sink_faults new.sink_faults)) is writes)
-no_keeper asked old new untouched ending result same unused (inr is) rose writes =
-    ends_alone asked old new untouched result NoMemory (inl (record { street = same; cabinet = unused }, refl)) (subst (λ e. Writes e (line_of e) result old.written new.written (Rose old.sink_faults new.sink_faults)) is writes)
 
 pub not_opened : (asked : RunOrder) (old new : Outside) (untouched : Type 0) (f : StartFault) (result : Ending) → untouched → ((told : CabinetTold) → old.cabinet ≡ Some told → IsUnused asked.store told new.cabinet)
     → ((row : ℕ) → f ≡ fault.Spoiled row → (told : CabinetTold) → old.cabinet ≡ Some told → (deeds : List Deed) × (faults : ℕ) × (new.cabinet ≡ Some (was_kept told asked.store deeds deeds faults)) × (spoiled_row max_deeds deeds ≡ Some row))

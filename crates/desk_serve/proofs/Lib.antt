@@ -6,4 +6,5 @@ pub mod ComingHome
 pub mod FreshCaches
 pub mod Seats
 pub mod Ends
+pub mod NoKeeper
 pub mod Closing

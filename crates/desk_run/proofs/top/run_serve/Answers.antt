@@ -3,7 +3,7 @@ use Rattle.command_words.specs.Invocations.{asked}
 use Rattle.command_words.specs.CommandViews.{shown_service}
 use Rattle.run_ends.specs.declared.ending.Ending.TheVariants.{NoMemory}
 use Rattle.desk_serve.specs.Runs.{RunOrder, HasEnded}
-use Rattle.desk_serve.proofs.Closing.{no_keeper}
+use Rattle.desk_serve.proofs.NoKeeper.{no_keeper}
 use Rattle.desk_run.specs.Words.{run_for}
 use Rattle.desk_run.proofs.Served.{same_service}
 use Rattle.desk_run.proofs.top.run_serve.Goals as goal

@@ -5,7 +5,8 @@ use Rattle.desk_outside.specs.Cabinets.{keeper_handed, keeper_home}
 use Rattle.run_ends.specs.declared.ending.Ending.{Ending}
 use Rattle.run_ends.specs.declared.ending.Ending.TheVariants.{Done}
 use Rattle.desk_serve.specs.Runs.{order_of}
-use Rattle.desk_serve.proofs.Closing.{no_keeper, not_opened, surely_home, keeper_rose, opened_ended}
+use Rattle.desk_serve.proofs.NoKeeper.{no_keeper}
+use Rattle.desk_serve.proofs.Closing.{not_opened, surely_home, keeper_rose, opened_ended}
 use Rattle.desk_serve.proofs.ComingHome.{rose_still, rose_later}
 use Rattle.run_ends.specs.Endings.{Writes}
 use Rattle.desk_serve.specs.Lines.{line_of}
