@@ -13,8 +13,8 @@ use Rattle.scan_model.specs.declared.logs.BitClass.{BitClass}
 use Rattle.scan_model.specs.declared.logs.BitClass.TheVariants.{Conflict, Masked, Failing, Passing, Uncounted}
 use Rattle.scan_model.specs.Coverage.{bit_of}
 use Rattle.scan_model.specs.Classes.{is_conflict, is_masked, is_failing, is_passing}
-use Rattle.lane_rows.specs.Lanes.{lane}
-use Rattle.lane_rows.proofs.LaneCounts.{count_more, count_bound}
+use Rattle.bit_rows.specs.Lanes.{lane}
+use Rattle.bit_rows.proofs.LaneCounts.{count_more, count_bound}
 use Rattle.log_join.specs.Joining.{is_set_aside}
 use Rattle.fault_universe.specs.BitRows.{row_bits}
 use Rattle.fault_universe.proofs.BitSteps.{row_bits_more}
