@@ -1,7 +1,6 @@
 -- Lines without where they lie in memory.
 use Rattle.scan_model.specs.NetlistLines.{Form, nothing, input, output, definition, no_form, driver_named}
 use Rattle.std.specs.Prelude.{ℕ, ◌≡◌, List}
-use Rattle.scan_model.specs.Lines.{has_refused_byte}
 use Rattle.text_parts.specs.Views.{nows}
 use Rattle.bench_lines.specs.declared.line.Kind.{Kind}
 use Rattle.bench_lines.specs.declared.line.Kind.TheVariants.{Nothing, Input, Output, Definition, NoForm}
@@ -22,7 +21,3 @@ line_view l = kind_view (nows l.operands.now) l.kind
 abbrev pub HasItsDriver : Kind → Type 0
 HasItsDriver (Definition n word driver) = driver ≡ driver_named word.now
 HasItsDriver k = Unit {0}
-
--- the refused bytes of a line are in its comment
-abbrev pub HasItsComment : List ℕ → Line → Type 0
-HasItsComment bytes l = has_refused_byte l.comment.now ≡ has_refused_byte bytes

@@ -8,8 +8,8 @@ ghost use Rattle.scan_model.specs.TextFaults.{lowest};
 ghost use Rattle.scan_model.specs.NetlistLines.{form_of, output};
 ghost use Rattle.scan_model.specs.NetlistRules.{nets_of, pins_of, is_no_form, has_unknown_word, has_wrong_count, has_long_name, defines_among, first_rules, makes_past, net_limit, pin_limit};
 ghost use Rattle.text_parts.specs.Views.{nows};
-ghost use Rattle.bench_lines.specs.Lines.{kind_view, line_view, HasItsDriver, HasItsComment};
-ghost use Rattle.bench_reader.specs.FirstRules.{own_rules, passes_limit};
+ghost use Rattle.bench_lines.specs.Lines.{kind_view, line_view, HasItsDriver};
+ghost use Rattle.bench_reader.specs.FirstRules.{own_rules, passes_limit, line_rules};
 ghost use Rattle.bench_reader.specs.NetUses.{use_views, operand_use};
 
 use bench_lines::{Kind, Line, takes_one};
@@ -77,11 +77,9 @@ fn has_long_name(line: &Line<'_, '_>) -> bool
 }
 
 // The lowest of rules 1 to 5, which look at the line alone, that it breaks.
-fn own_rule(bytes: &[u8], line: &Line<'_, '_>) -> Option<u32>
-    requires form { line_view line.now ≡ form_of bytes.now }
-    requires comment { HasItsComment bytes.now line.now }
-    requires driver { HasItsDriver line.now.kind }
-    ensures { result ≡ lowest (own_rules bytes.now) }
+fn own_rule(line: &Line<'_, '_>) -> Option<u32>
+    requires { HasItsDriver line.now.kind }
+    ensures { result ≡ lowest (own_rules (has_refused_byte line.now.comment.now) (line_view line.now)) }
 {
     if has_refused_byte(line.comment) {
         return Some(rules::REFUSED_BYTE);
@@ -322,19 +320,16 @@ impl<'a> NetlistDraft<'a> {
     fn add_sound_names(
         &mut self,
         number: u64,
-        bytes: &[u8],
         line: &Line<'_, 'a>,
     ) -> Result<Option<u32>, AllocError>
-        requires form { line_view line.now ≡ form_of bytes.now }
-        requires comment { HasItsComment bytes.now line.now }
         requires driver { HasItsDriver line.now.kind }
         requires within { IsWithin self.old }
-        ensures rule { IfOk result (λ r. r ≡ lowest (first_rules self.old.defined self.old.outputs (length self.old.uses.items) bytes.now)) }
+        ensures rule { IfOk result (λ r. r ≡ lowest (line_rules self.old.defined self.old.outputs (length self.old.uses.items) (has_refused_byte line.now.comment.now) (line_view line.now))) }
         ensures added { result ≡ Ok None → AddsNames self.old self.new number (nets_of (line_view line.now)) }
         ensures nets { result ≡ Ok None → length self.old.defined + length (nets_of (line_view line.now)) ≤ net_limit }
         ensures pins { result ≡ Ok None → length self.old.uses.items + length (pins_of self.old.outputs (line_view line.now)) ≤ pin_limit }
     {
-        if let Some(rule) = own_rule(bytes, line) {
+        if let Some(rule) = own_rule(line) {
             return Ok(Some(rule));
         }
         // Rule 9 counts the nets before this line, but rule 6 is the lower one.
@@ -368,7 +363,7 @@ impl<'a> NetlistDraft<'a> {
             operands: &*operands,
             comment,
         };
-        let rule = self.add_sound_names(number, bytes, &line)?;
+        let rule = self.add_sound_names(number, &line)?;
         if rule.is_none() {
             self.add(alloc, number, &line)?;
         }
