@@ -1,5 +1,5 @@
 //! Worked rows of calls that no command reaches: small designs and logs whose answers are known from
-//! outside, and the counts beside those by plain simulation.
+//! outside, and counts and explained patterns beside those that are made in another way.
 #![tactic(auto)]
 
 #[cfg(test)]

@@ -10,7 +10,9 @@ fn leads_to(rt: &impl Abort, circuit: &Circuit, net: u32, nets: &[u32]) -> bool
     requires { net < length circuit.now.nets }
 {
     let cone = circuit.cone_out(net).expect(rt, "memory");
-    cone.as_slice() == nets
+    let leads = cone.as_slice() == nets;
+    drop(cone);
+    leads
 }
 
 /// Whether these nets are the fan-in cone of a net.
@@ -18,7 +20,9 @@ fn comes_from(rt: &impl Abort, circuit: &Circuit, net: u32, nets: &[u32]) -> boo
     requires { net < length circuit.now.nets }
 {
     let cone = circuit.cone_in(net).expect(rt, "memory");
-    cone.as_slice() == nets
+    let comes = cone.as_slice() == nets;
+    drop(cone);
+    comes
 }
 
 // The fan-out cone of net 11, by number 6, and the fan-in cones of the input 3, by number 2, and of
@@ -34,4 +38,5 @@ fn are_cones(rt: &impl Abort, circuit: &Circuit) -> bool {
 fn cones_to_both_outputs_and_back_to_inputs(rt: HostRuntime) {
     let c17 = parts(&rt, rt.alloc(), &ONE17);
     assert!(rt; are_cones(&rt, c17.circuit()));
+    drop(c17);
 }

@@ -26,7 +26,10 @@ fn packed<R: Abort + Threads + Sync>(
 {
     let good = PackedGood::make(alloc, parts).expect(rt, "memory");
     let expected = expected_at_points(alloc, parts, good.rows()).expect(rt, "memory");
-    counts(rt, alloc, parts, &good, &expected, joined).expect(rt, "memory")
+    let rows = counts(rt, alloc, parts, &good, &expected, joined).expect(rt, "memory");
+    drop(expected);
+    drop(good);
+    rows
 }
 
 /// By plain simulation of the fault-free design too.
@@ -34,7 +37,9 @@ fn plain(rt: &impl Abort, alloc: Global, parts: &Parts, joined: &Joined) -> Rows
     requires { IsJoinedOf (length parts.now.patterns) (length (points_of parts.now)) joined.now }
 {
     let expected = expected_all(alloc, parts).expect(rt, "memory");
-    plain_counts(alloc, parts, &expected, joined).expect(rt, "memory")
+    let rows = plain_counts(alloc, parts, &expected, joined).expect(rt, "memory");
+    drop(expected);
+    rows
 }
 
 /// Whether both counts list the same rows, and some.
@@ -48,7 +53,10 @@ pub(crate) fn are_equal<R: Abort + Threads + Sync>(
 {
     let packed = packed(rt, alloc, parts, joined);
     let plain = plain(rt, alloc, parts, joined);
-    packed.as_slice() == plain.as_slice() && !packed.is_empty()
+    let are_equal = packed.as_slice() == plain.as_slice() && !packed.is_empty();
+    drop(packed);
+    drop(plain);
+    are_equal
 }
 
 // Fails of outputs of both blocks and of cells, in two words of patterns.
@@ -62,11 +70,19 @@ fn are_equal_over<R: Abort + Threads + Sync>(
     log: &[u8],
 ) -> bool {
     let joined = joined_of(rt, alloc, parts, log);
-    are_equal(rt, alloc, parts, &joined)
+    let are_equal = are_equal(rt, alloc, parts, &joined);
+    drop(joined);
+    are_equal
+}
+
+fn are_equal_of_demo<R: Abort + Threads + Sync>(rt: &R, alloc: Global) -> bool {
+    let parts = demo(rt, alloc);
+    let are_equal = are_equal_over(rt, alloc, &parts, DEMO_FAILS);
+    drop(parts);
+    are_equal
 }
 
 #[test]
 fn the_design_of_demo_7_2(rt: HostRuntime) {
-    let parts = demo(&rt, rt.alloc());
-    assert!(rt; are_equal_over(&rt, rt.alloc(), &parts, DEMO_FAILS));
+    assert!(rt; are_equal_of_demo(&rt, rt.alloc()));
 }

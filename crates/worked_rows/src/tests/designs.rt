@@ -5,11 +5,16 @@ use scan_model::{Parts, Profile};
 use std::alloc::Global;
 use std::process::Abort;
 
-const C17: &[u8] =
+/// The netlist of c17.
+pub(crate) const C17: &[u8] =
     b"INPUT(1)\nINPUT(2)\nINPUT(3)\nINPUT(6)\nINPUT(7)\nOUTPUT(22)\nOUTPUT(23)\n10 = NAND(1, 3)\n11 = NAND(3, 6)\n16 = NAND(2, 11)\n19 = NAND(11, 7)\n22 = NAND(10, 16)\n23 = NAND(16, 19)\n";
 
-const S27: &[u8] =
+/// The netlist of s27.
+pub(crate) const S27: &[u8] =
     b"INPUT(G0)\nINPUT(G1)\nINPUT(G2)\nINPUT(G3)\nOUTPUT(G17)\nG5 = DFF(G10)\nG6 = DFF(G11)\nG7 = DFF(G13)\nG14 = NOT(G0)\nG17 = NOT(G11)\nG8 = AND(G14, G6)\nG15 = OR(G12, G8)\nG16 = OR(G3, G8)\nG9 = NAND(G16, G15)\nG10 = NOR(G14, G11)\nG11 = NOR(G5, G9)\nG12 = NOR(G1, G7)\nG13 = NOR(G2, G12)\n";
+
+/// All its flops in one chain.
+pub(crate) const S27_CHAIN: &[u8] = b"CHAIN c0 G5 G6 G7\n";
 
 /// The texts of a design.
 #[derive(Clone, Copy)]
@@ -37,7 +42,7 @@ pub(crate) const PAIRS17: Texts = Texts {
 /// s27 with all its flops in one chain, and a pattern that captures.
 pub(crate) const CAPTURE27: Texts = Texts {
     netlist: S27,
-    scan: b"CHAIN c0 G5 G6 G7\n",
+    scan: S27_CHAIN,
     patterns: b"CAPTURE 0000 000\n",
     pairs: b"",
 };
@@ -69,7 +74,7 @@ pub(crate) fn c17_over(rt: &impl Abort, alloc: Global, patterns: &[u8]) -> Parts
 /// The design of `demo 7 2`.
 pub(crate) fn demo(rt: &impl Abort, alloc: Global) -> Parts {
     let made = made_design(alloc, 7, 2).expect(rt, "memory");
-    parts_of(
+    let parts = parts_of(
         alloc,
         Profile::One,
         made.netlist.as_slice(),
@@ -77,5 +82,7 @@ pub(crate) fn demo(rt: &impl Abort, alloc: Global) -> Parts {
         made.patterns.as_slice(),
         made.neighbours.as_slice(),
     )
-    .expect(rt, "a design")
+    .expect(rt, "a design");
+    drop(made);
+    parts
 }

@@ -31,5 +31,6 @@ pub(crate) fn joined_of(rt: &impl Abort, alloc: Global, parts: &Parts, log: &[u8
     let facts = facts_of(rt, alloc, parts, log);
     let mut joined = without_logs(rt, alloc, parts);
     joined.add(&facts);
+    drop(facts);
     joined
 }

@@ -3,43 +3,55 @@ use super::designs::{CAPTURE27, Texts, parts};
 use chain_faults::{faulty_load, faulty_unload};
 use fault_universe::fault_at;
 use good_sim::plain_response;
-use scan_model::{CellKind, NoMemory, Parts, Rows, Tri};
+use scan_model::{CellKind, Parts, Tri};
 use std::alloc::Global;
+use std::process::Abort;
 
 const X: Tri = Tri::Unknown;
 
-/// The response in the first pattern under the fault at a place; without a fault where there is
-/// none.
-fn first_response(alloc: Global, parts: &Parts, place: u32) -> Result<Rows<Tri>, NoMemory> {
-    if parts.patterns().is_empty() {
-        return Ok(Rows::new(alloc));
-    }
-    plain_response(alloc, parts, 0, fault_at(parts, place))
+/// Whether these are the values in the first pattern under the fault at a place; without a fault where there is none, as at 64 of
+/// s27.
+fn are_values(
+    rt: &impl Abort,
+    alloc: Global,
+    parts: &Parts,
+    place: u32,
+    values: &[Tri; 4],
+) -> bool {
+    assert!(rt; !parts.patterns().is_empty());
+    let response = plain_response(alloc, parts, 0, fault_at(parts, place)).expect(rt, "memory");
+    let are_values = response.as_slice() == values.as_slice();
+    drop(response);
+    are_values
 }
 
-// A pattern of s27, the place of a fault or past them, and the response: a capture of known values,
-// one with an unknown value, and a shift with a slow cell.
-const ROWS: [(&str, u32, [Tri; 4]); 3] = [
-    (
-        "CAPTURE 0000 000\n",
-        64,
-        [Tri::One, Tri::Zero, Tri::Zero, Tri::Zero],
-    ),
-    ("CAPTURE 0000 0X0\n", 64, [X, Tri::Zero, X, Tri::Zero]),
-    ("SHIFT 101\n", 58, [X, X, Tri::Zero, Tri::Zero]),
-];
+/// The same of s27 with a pattern.
+fn responds(
+    rt: &impl Abort,
+    alloc: Global,
+    pattern: &'static str,
+    place: u32,
+    values: &[Tri; 4],
+) -> bool {
+    let texts = Texts {
+        patterns: pattern.as_bytes(),
+        ..CAPTURE27
+    };
+    let parts = parts(rt, alloc, &texts);
+    let responds = are_values(rt, alloc, &parts, place, values);
+    drop(parts);
+    responds
+}
 
+// A capture of known values, one with an unknown value, and a shift with a slow cell.
 #[test]
 fn captures_and_a_shift_of_s27(rt: HostRuntime) {
-    for (pattern, place, values) in &ROWS {
-        let texts = Texts {
-            patterns: pattern.as_bytes(),
-            ..CAPTURE27
-        };
-        let parts = parts(&rt, rt.alloc(), &texts);
-        let response = first_response(rt.alloc(), &parts, *place).expect(&rt, "memory");
-        assert!(rt; response.as_slice() == values.as_slice(), "{pattern}");
-    }
+    let known = [Tri::One, Tri::Zero, Tri::Zero, Tri::Zero];
+    assert!(rt; responds(&rt, rt.alloc(), "CAPTURE 0000 000\n", 64, &known));
+    let unknown = [X, Tri::Zero, X, Tri::Zero];
+    assert!(rt; responds(&rt, rt.alloc(), "CAPTURE 0000 0X0\n", 64, &unknown));
+    let slow = [X, X, Tri::Zero, Tri::Zero];
+    assert!(rt; responds(&rt, rt.alloc(), "SHIFT 101\n", 58, &slow));
 }
 
 #[test]

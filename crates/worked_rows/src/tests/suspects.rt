@@ -22,5 +22,8 @@ pub(crate) fn are_suspects(
 {
     let expected = expected_all(alloc, parts).expect(rt, "memory");
     let found = suspects(alloc, parts, &expected, joined).expect(rt, "memory");
-    found.as_slice() == places
+    let are_due = found.as_slice() == places;
+    drop(found);
+    drop(expected);
+    are_due
 }

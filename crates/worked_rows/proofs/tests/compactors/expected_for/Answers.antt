@@ -1,4 +1,4 @@
-use Rattle.compactor_rows.proofs.tests.cases.expected_for.Goals as goal
+use Rattle.worked_rows.proofs.tests.compactors.expected_for.Goals as goal
 
 pub returns-clause-fits : goal.returns-clause-fits
 returns-clause-fits g c =

@@ -1,4 +1,5 @@
 //! The designs c17 and s27, and an odd one of which no benchmark is like.
+use super::super::designs::{C17, S27, S27_CHAIN};
 use diagnosis::{Design, design_of};
 use scan_model::Profile;
 use std::alloc::Global;
@@ -15,8 +16,8 @@ pub(crate) struct Row {
     pub(crate) logs: [&'static [u8]; 2],
 }
 
-const C17: Row = Row {
-    netlist: b"INPUT(1)\nINPUT(2)\nINPUT(3)\nINPUT(6)\nINPUT(7)\nOUTPUT(22)\nOUTPUT(23)\n10 = NAND(1, 3)\n11 = NAND(3, 6)\n16 = NAND(2, 11)\n19 = NAND(11, 7)\n22 = NAND(10, 16)\n23 = NAND(16, 19)\n",
+pub(crate) const C17_DIE: Row = Row {
+    netlist: C17,
     scan: b"",
     patterns: "CAPTURE 10110\nCAPTURE 01X01\nCAPTURE 00111\nCAPTURE 11011\nCAPTURE 0110X\n",
     pairs: b"net_a,net_b\n10,19\n11,10\n",
@@ -26,9 +27,9 @@ const C17: Row = Row {
     ],
 };
 
-pub(crate) const S27: Row = Row {
-    netlist: b"INPUT(G0)\nINPUT(G1)\nINPUT(G2)\nINPUT(G3)\nOUTPUT(G17)\nG5 = DFF(G10)\nG6 = DFF(G11)\nG7 = DFF(G13)\nG14 = NOT(G0)\nG17 = NOT(G11)\nG8 = AND(G14, G6)\nG15 = OR(G12, G8)\nG16 = OR(G3, G8)\nG9 = NAND(G16, G15)\nG10 = NOR(G14, G11)\nG11 = NOR(G5, G9)\nG12 = NOR(G1, G7)\nG13 = NOR(G2, G12)\n",
-    scan: b"CHAIN c0 G5 G6 G7\n",
+pub(crate) const S27_DIE: Row = Row {
+    netlist: S27,
+    scan: S27_CHAIN,
     patterns: "CAPTURE 0110 1X0\nSHIFT 101\nCAPTURE 1X01 011\nCAPTURE 0000 110\nSHIFT 0X1\n",
     pairs: b"net_a,net_b\nG14,G12\n",
     logs: [
@@ -38,7 +39,7 @@ pub(crate) const S27: Row = Row {
 };
 
 // A gate that reads a net twice, and a flop in no chain.
-const ODD: Row = Row {
+pub(crate) const ODD_DIE: Row = Row {
     netlist: b"INPUT(a)\nOUTPUT(y)\nf = DFF(y)\ng = DFF(n)\nh = DFF(f)\nn = XOR(a, a)\nm = AND(f, h)\ny = OR(m, n)\n",
     scan: b"CHAIN c g h\n",
     patterns: "CAPTURE 1 0X\nSHIFT 10\nCAPTURE X 11\nCAPTURE 0 10\nSHIFT X1\n",
@@ -49,12 +50,10 @@ const ODD: Row = Row {
     ],
 };
 
-pub(crate) const ROWS: [Row; 3] = [C17, S27, ODD];
-
 /// The design d of a row, in profile 2.
 pub(crate) fn design(rt: &impl Abort, alloc: Global, row: &Row) -> Design {
     let patterns = row.patterns.repeat(alloc, 14).expect(rt, "memory");
-    design_of(
+    let design = design_of(
         alloc,
         b"d",
         Profile::Two,
@@ -63,5 +62,7 @@ pub(crate) fn design(rt: &impl Abort, alloc: Global, row: &Row) -> Design {
         patterns.as_bytes(),
         row.pairs,
     )
-    .expect(rt, "a design")
+    .expect(rt, "a design");
+    drop(patterns);
+    design
 }

@@ -4,12 +4,10 @@ ghost use Rattle.log_join.specs.Joining.{IsJoinedOf, FitsExpected};
 ghost use Rattle.compact_points.specs.Channels.{IsCompactorOf};
 ghost use Rattle.compact_points.specs.Compaction.{compact_rows};
 
-use bench_reader::read_netlist;
-use bridge_pairs::read_pairs;
+use super::designs::{Texts, parts};
 use chain_compactor::{Compact, compact_expected, read_channels};
 use log_join::Joined;
-use scan_model::{Bit, Expected, Parts, Profile, Tri};
-use scan_text::{read_patterns, read_scan};
+use scan_model::{Bit, Expected, Parts, Tri};
 use std::alloc::Global;
 use std::process::Abort;
 
@@ -104,25 +102,13 @@ fn holds(rt: &impl Abort, alloc: Global, parts: &Parts, channels: &[u8], rows: &
     are_due
 }
 
-const NETLIST: &[u8] =
-    b"INPUT(a)\nINPUT(b)\nOUTPUT(y)\nOUTPUT(z)\nf = DFF(d)\ng = DFF(e)\nh = DFF(f)\ni = DFF(k)\nj = DFF(y)\nl = DFF(z)\nm = DFF(h)\nn = DFF(e)\nd = XOR(a, g)\ne = NAND(b, f, i)\nk = OR(d, h)\ny = AND(k, e)\nz = XNOR(k, f, l)\n";
-
-const SCAN: &[u8] = b"CHAIN c g f\nCHAIN p j h i\nCHAIN q l\nCHAIN r m\n";
-
-const PATTERNS: &[u8] =
-    b"CAPTURE 01 10 011 1 0\nSHIFT 01 101 0 1\nCAPTURE X1 0X 101 0 1\nCAPTURE 11 01 1X0 1 1\nSHIFT 1X 0X0 1 0\nCAPTURE 00 11 010 0 X\n";
-
-const PAIRS: &[u8] = b"net_a,net_b\ne,d\nk,b\nz,y\n";
-
 /// Four chains of unlike lengths, of which the first channels share one and leave one out. A flop is in no chain.
-fn four_chains(rt: &impl Abort, alloc: Global) -> Parts {
-    let circuit = read_netlist(alloc, NETLIST).expect(rt, "a netlist");
-    let chains = read_scan(alloc, &circuit, SCAN).expect(rt, "chains");
-    let patterns = read_patterns(alloc, &circuit, &chains, PATTERNS).expect(rt, "patterns");
-    let pairs = read_pairs(alloc, &circuit, PAIRS).expect(rt, "pairs");
-    let _ = circuit.nets();
-    Parts::make(alloc, Profile::One, circuit, chains, patterns, pairs).expect(rt, "memory")
-}
+const FOUR_CHAINS: Texts = Texts {
+    netlist: b"INPUT(a)\nINPUT(b)\nOUTPUT(y)\nOUTPUT(z)\nf = DFF(d)\ng = DFF(e)\nh = DFF(f)\ni = DFF(k)\nj = DFF(y)\nl = DFF(z)\nm = DFF(h)\nn = DFF(e)\nd = XOR(a, g)\ne = NAND(b, f, i)\nk = OR(d, h)\ny = AND(k, e)\nz = XNOR(k, f, l)\n",
+    scan: b"CHAIN c g f\nCHAIN p j h i\nCHAIN q l\nCHAIN r m\n",
+    patterns: b"CAPTURE 01 10 011 1 0\nSHIFT 01 101 0 1\nCAPTURE X1 0X 101 0 1\nCAPTURE 11 01 1X0 1 1\nSHIFT 1X 0X0 1 0\nCAPTURE 00 11 010 0 X\n",
+    pairs: b"net_a,net_b\ne,d\nk,b\nz,y\n",
+};
 
 /// Two channels of unlike lengths with a chain in both and two in none; and three channels. Behind each a row for each
 /// pattern, by an independent model: the outputs, and the channels cycle by cycle.
@@ -152,7 +138,7 @@ fn all_hold(rt: &impl Abort, alloc: Global, parts: &Parts) -> bool {
 }
 
 fn four_chains_hold(rt: &impl Abort, alloc: Global) -> bool {
-    let parts = four_chains(rt, alloc);
+    let parts = parts(rt, alloc, &FOUR_CHAINS);
     let hold = all_hold(rt, alloc, &parts);
     drop(parts);
     hold

@@ -4,7 +4,7 @@ ghost use Rattle.std.specs.Prelude.{◌<◌, length};
 ghost use Rattle.diagnosis.specs.Designs.{facts_of};
 ghost use Rattle.slat_view.specs.WholeCounts.{IsWholeOf};
 
-use super::designs::{ROWS, Row, design};
+use super::designs::{C17_DIE, ODD_DIE, Row, S27_DIE, design};
 use super::dies::{add_text, die_of};
 use diagnosis::DieView;
 use slat_view::{Slat, WholeSlat, slat_counts, slat_places, whole_slat};
@@ -25,7 +25,10 @@ fn are_same_places<R: Abort + Threads + Sync>(
 {
     let kept = whole.places(rt, alloc, view, pattern).expect(rt, "memory");
     let told = slat_places(rt, alloc, view, pattern).expect(rt, "memory");
-    kept.as_slice() == told.as_slice()
+    let are_same = kept.as_slice() == told.as_slice();
+    drop(kept);
+    drop(told);
+    are_same
 }
 
 /// The same of all patterns.
@@ -58,7 +61,10 @@ fn are_same_counts(kept: &Slat, told: &Slat) -> bool {
 fn agrees_over<R: Abort + Threads + Sync>(rt: &R, alloc: Global, view: &DieView) -> bool {
     let whole = whole_slat(rt, alloc, view).expect(rt, "memory");
     let told = slat_counts(rt, alloc, view).expect(rt, "memory");
-    are_same_counts(&whole.slat, &told) && are_all_same(rt, alloc, view, &whole)
+    let agrees = are_same_counts(&whole.slat, &told) && are_all_same(rt, alloc, view, &whole);
+    drop(told);
+    drop(whole);
+    agrees
 }
 
 fn agrees<R: Abort + Threads + Sync>(rt: &R, alloc: Global, row: &Row) -> bool {
@@ -66,12 +72,14 @@ fn agrees<R: Abort + Threads + Sync>(rt: &R, alloc: Global, row: &Row) -> bool {
     for log in &row.logs {
         add_text(rt, alloc, &mut view, *log);
     }
-    agrees_over(rt, alloc, &view)
+    let agrees = agrees_over(rt, alloc, &view);
+    drop(view);
+    agrees
 }
 
 #[test]
 fn patterns_of_three_designs(rt: HostRuntime) {
-    for (place, row) in ROWS.iter().enumerate() {
-        assert!(rt; agrees(&rt, rt.alloc(), row), "design {place}");
-    }
+    assert!(rt; agrees(&rt, rt.alloc(), &C17_DIE));
+    assert!(rt; agrees(&rt, rt.alloc(), &S27_DIE));
+    assert!(rt; agrees(&rt, rt.alloc(), &ODD_DIE));
 }

@@ -39,6 +39,7 @@ fn read_lists(rt: &impl Abort, alloc: Global, circuit: &Circuit) -> Lists
     let text = PATTERNS.repeat(alloc, 9).expect(rt, "memory");
     let chains = read_scan(alloc, circuit, SCAN).expect(rt, "chains");
     let patterns = read_two_frame(alloc, circuit, &chains, text.as_bytes()).expect(rt, "patterns");
+    drop(text);
     let pairs = read_pairs(alloc, circuit, b"").expect(rt, "pairs");
     Lists {
         chains,

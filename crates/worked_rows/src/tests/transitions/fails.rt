@@ -46,6 +46,8 @@ fn fails<L: Ledger>(
     let mut steps = Steps::<L>::open(blank);
     let mut out = [false; 4];
     good.fails_of(parts, &mut scratch, place, pattern, &mut out, &mut steps);
+    drop(scratch);
+    drop(good);
     out
 }
 

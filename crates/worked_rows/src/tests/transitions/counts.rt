@@ -1,13 +1,8 @@
 //! Counts of transition faults over one log. The report over it is among the examples (examples/rows).
-ghost use Rattle.std.specs.Prelude.{length};
-ghost use Rattle.scan_model.specs.ScanTest.{points_of};
-ghost use Rattle.scan_model.specs.Coverage.{FitsLog};
-ghost use Rattle.log_join.specs.Joining.{IsJoinedOf};
 ghost use Rattle.two_frame.specs.FrameRows.{AllCapture};
 
-use fail_logs::read_log;
-use log_join::Joined;
-use scan_model::{LogFacts, Parts, Rows, Scored};
+use super::super::logs::joined_of;
+use scan_model::{Parts, Rows, Scored};
 use std::alloc::Global;
 use std::process::Abort;
 use two_frame::{frame_counts, frame_expected};
@@ -50,36 +45,13 @@ fn has_counts(row: &Scored, due: &[u8; 4]) -> bool {
 
 /// Whether the rows are those of the candidates.
 fn are_counts(rows: &[Scored]) -> bool {
-    for (row, due) in rows.iter().zip(&COUNTS) {
-        if !has_counts(row, due) {
-            return false;
+    for (place, row) in rows.iter().enumerate() {
+        match COUNTS.get(place) {
+            Some(due) if has_counts(row, due) => {}
+            _ => return false,
         }
     }
     rows.len() == COUNTS.len()
-}
-
-fn facts_of(rt: &impl Abort, alloc: Global, parts: &Parts) -> LogFacts
-    ensures { FitsLog (length parts.now.patterns) (length (points_of parts.now)) result }
-{
-    read_log(alloc, parts, b"d", b"D1", LOG).expect(rt, "a log")
-}
-
-fn without_logs(rt: &impl Abort, alloc: Global, parts: &Parts) -> Joined
-    ensures { IsJoinedOf (length parts.now.patterns) (length (points_of parts.now)) result }
-{
-    let patterns = parts.patterns().len() as u32;
-    let points = parts.points().len() as u32;
-    Joined::make(alloc, patterns, points).expect(rt, "memory")
-}
-
-/// The log, joined.
-fn joined_of(rt: &impl Abort, alloc: Global, parts: &Parts) -> Joined
-    ensures { IsJoinedOf (length parts.now.patterns) (length (points_of parts.now)) result }
-{
-    let facts = facts_of(rt, alloc, parts);
-    let mut joined = without_logs(rt, alloc, parts);
-    joined.add(&facts);
-    joined
 }
 
 /// The candidates of the log.
@@ -87,8 +59,11 @@ fn candidates(rt: &impl Abort, alloc: Global, parts: &Parts) -> Rows<Scored>
     requires { AllCapture parts.now }
 {
     let expected = frame_expected(alloc, parts).expect(rt, "memory");
-    let joined = joined_of(rt, alloc, parts);
-    frame_counts(alloc, parts, &expected, &joined).expect(rt, "memory")
+    let joined = joined_of(rt, alloc, parts, LOG);
+    let rows = frame_counts(alloc, parts, &expected, &joined).expect(rt, "memory");
+    drop(expected);
+    drop(joined);
+    rows
 }
 
 /// The candidates of the log must have these counts.
@@ -97,4 +72,5 @@ pub(crate) fn every_count(rt: &impl Abort, alloc: Global, parts: &Parts)
 {
     let rows = candidates(rt, alloc, parts);
     assert!(rt; are_counts(rows.as_slice()));
+    drop(rows);
 }

@@ -1,4 +1,4 @@
-//! The tests: fails and counts of all transition faults, beside those of an independent model.
+//! Fails and counts of all transition faults, beside those of an independent model.
 use self::counts::every_count;
 use self::design::made;
 use self::fails::every_fail;
@@ -9,11 +9,12 @@ mod counts;
 mod design;
 mod fails;
 
-// The design is owned here alone, since each place where it is dropped takes long to prove.
+// The design is owned here alone.
 fn are_due(rt: &impl Abort, alloc: Global) {
     let parts = made(rt, alloc);
     every_fail(rt, alloc, &parts);
     every_count(rt, alloc, &parts);
+    drop(parts);
 }
 
 #[test]

@@ -1,6 +1,6 @@
 use Rattle.std.proofs.Common.{ℕ, List, subst}
 use Rattle.diagnosis.specs.Designs.{DesignFacts, IsLogOf}
-use Rattle.slat_rows.proofs.tests.dies.add_text.Goals as goal
+use Rattle.worked_rows.proofs.tests.explained.dies.add_text.Goals as goal
 
 pub add-requires : goal.add-requires
 add-requires g c =

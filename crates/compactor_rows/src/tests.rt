@@ -1,2 +1,0 @@
-//! The tests: expected values, beside those of an independent model.
-mod cases;
