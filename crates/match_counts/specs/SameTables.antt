@@ -7,7 +7,7 @@ use Rattle.std.proofs.lemmas.List.Elements.{All-cons, All-nil}
 use Rattle.std.proofs.lemmas.List.Folds.{fold-map}
 use Rattle.std.proofs.lemmas.List.FromFn.{fill_by_all, length-map-range_with_len, get_or-map-range_with_len}
 use Rattle.lane_rows.specs.Lanes.{lane}
-use Rattle.lane_rows.proofs.LaneCounts.{same_lanes}
+use Rattle.bit_rows.proofs.LaneCounts.{same_lanes}
 use Rattle.log_rows.specs.declared.point_row.PointRow.{PointRow}
 use Rattle.log_rows.specs.declared.side.Side.{Side}
 use Rattle.fault_effects.specs.FaultModel.{Table}
