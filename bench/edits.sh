@@ -62,7 +62,8 @@ def take(built, names):
     """The libraries of some crates as a gate left them in another checkout, where their sources are the same."""
     for name in names:
         for part in ('src', 'specs', 'proofs'):
-            if subprocess.run(['diff', '-rqN', TOP / 'crates' / name / part, built / 'crates' / name / part], stdout=sys.stderr, check=False).returncode:
+            both = [top / 'crates' / name / part for top in (TOP, built)]
+            if any(map(Path.is_dir, both)) and subprocess.run(['diff', '-rqN', *both], stdout=sys.stderr, check=False).returncode:
                 sys.exit(f'edits.sh: {name}: not the same in {built}')
         (SCRATCH / 'crates' / name).mkdir(parents=True)
         (SCRATCH / 'crates' / name / 'out').symlink_to(built.resolve() / 'crates' / name / 'out')
