@@ -4,7 +4,8 @@
     python3 bench/limits.py [OTHER]           (from the top; ./scandesk must have been built)
 
 Tells the seconds of a processor and the greatest memory of `check` and `diagnose`; where OTHER is the path of another program with the
-same words and output, the two are told side by side and their bytes are compared.
+same words and output, the two are told side by side and their bytes are compared. The desk has the setting of the C library's heap that
+./scandesk gives it, or the caller's own GLIBC_TUNABLES (none where that is empty).
 """
 import os
 import pathlib
@@ -12,6 +13,9 @@ import random
 import subprocess
 import sys
 import tempfile
+
+sys.path.insert(0, os.path.dirname(os.path.abspath(__file__)))
+from against import HEAP
 
 TOP = pathlib.Path(__file__).resolve().parent.parent
 PROGRAM = str(TOP / "crates/scandesk/out/scandesk")
@@ -77,7 +81,8 @@ def write(folder):
 
 
 def run(words, folder):
-    child = subprocess.Popen(words, cwd=folder, stdout=subprocess.PIPE)
+    own = {"GLIBC_TUNABLES": HEAP} if words[0] == PROGRAM else {}
+    child = subprocess.Popen(words, cwd=folder, stdout=subprocess.PIPE, env=dict(os.environ, **own))
     printed = child.stdout.read()
     _, status, usage = os.wait4(child.pid, 0)
     print(f"  {words[0]}: status {status >> 8}, {usage.ru_utime + usage.ru_stime:.2f} s, {usage.ru_maxrss // 1024} MiB, {len(printed)} bytes")

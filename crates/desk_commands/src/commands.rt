@@ -1,4 +1,5 @@
-//! What a command comes to: its page, or the line of what stopped it.
+//! What a command comes to: its page, or the line of what stopped it. The process ends with its
+//! command, so the design of a command is forgotten and not given back net by net.
 pub mod check;
 pub mod compact;
 pub mod demo;

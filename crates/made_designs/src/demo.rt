@@ -24,6 +24,7 @@ use crate::draws::Draws;
 use diagnosis::{BundleFault, Case, Diagnosis, parts_of};
 use scan_model::{Name, NoMemory, Parts, Profile, Rows};
 use std::alloc::Global;
+use std::mem::forget;
 use std::thread::Threads;
 
 /// A design that is made.
@@ -143,7 +144,7 @@ fn text_of_design<R: Threads + Sync>(
 {
     let mut case = Case::make(alloc, b"demo", b"demo", parts)?;
     let text = text_over(rt, alloc, demo, &mut case, draws);
-    drop(case);
+    forget(case);
     text
 }
 
@@ -176,7 +177,7 @@ fn parts_of_made(alloc: Global, made: &MadeDesign) -> Result<Parts, NoMemory>
     }
 }
 
-/// The text of `demo`.
+/// The text of `demo`. The process ends with it, so the memory of the scan test that was made isn't given back.
 pub fn demo_text<R: Threads + Sync>(rt: &R, alloc: Global, demo: Demo) -> Result<Name, NoMemory>
     requires some { 1 ≤ demo.blocks }
     requires few { demo.blocks ≤ 200 }

@@ -16,6 +16,7 @@ use diag_report::summary_text;
 use diagnosis::ReadDesign;
 use scan_model::Name;
 use std::alloc::Global;
+use std::mem::forget;
 
 fn summary_over<'a>(alloc: Global, design: &ReadDesign<Name>) -> Result<Name, Stop<'a>>
     ensures told { Follows result (value (summary_text design.now.parts)) }
@@ -36,6 +37,6 @@ pub fn summary_of<'a, F: Shelf>(
 {
     let design = read_design(alloc, shelf, files)?;
     let summary = summary_over(alloc, &design);
-    drop(design);
+    forget(design);
     summary
 }

@@ -30,6 +30,7 @@ use packed_sim::PackedGood;
 use scan_model::{Expected, LogFacts, Name, NoMemory, Parts, Rows, Scored, Steps};
 use std::alloc::Global;
 use std::marker::Brand;
+use std::mem::forget;
 use std::sync::ledger::{Blank, Ledger};
 use text_parts::ReadFault;
 
@@ -214,6 +215,6 @@ pub fn compact_report_of<'a, F: Shelf>(
     let read = read_design(alloc, shelf, &order.files)?;
     let parts = read.into_parts();
     let report = report_over(alloc, shelf, order, &parts);
-    drop(parts);
+    forget(parts);
     report
 }

@@ -18,6 +18,7 @@ use desk_outside::Shelf;
 use diagnosis::{Case, ReadDesign, case_report};
 use scan_model::Name;
 use std::alloc::Global;
+use std::mem::forget;
 use std::thread::Threads;
 
 // The report of a die without logs, once those in the files of these names are added.
@@ -58,7 +59,7 @@ fn report_over<'a, R: Threads + Sync, F: Shelf>(
 {
     let mut case = Case::make(alloc, design, die, read.into_parts())?;
     let report = report_of_case(rt, alloc, shelf, &mut case, names);
-    drop(case);
+    forget(case);
     report
 }
 

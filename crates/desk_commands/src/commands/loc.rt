@@ -22,6 +22,7 @@ use fail_logs::read_log;
 use log_join::Joined;
 use scan_model::{LogFacts, Name, NoMemory, Parts};
 use std::alloc::Global;
+use std::mem::forget;
 use text_parts::ReadFault;
 use two_frame::{FrameGood, counts_over, expected_over, frame_text};
 
@@ -129,6 +130,6 @@ pub fn transition_report_of<'a, F: Shelf>(
 {
     let parts = read_launch_design(alloc, shelf, &order.files)?;
     let report = report_over(alloc, shelf, order, &parts);
-    drop(parts);
+    forget(parts);
     report
 }

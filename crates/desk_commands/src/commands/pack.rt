@@ -16,6 +16,7 @@ use desk_outside::Shelf;
 use diagnosis::{ReadDesign, Sections, bundle_text};
 use scan_model::Name;
 use std::alloc::Global;
+use std::mem::forget;
 
 fn bundle_over<'a>(alloc: Global, design: &ReadDesign<Name>) -> Result<Name, Stop<'a>>
     ensures told { Follows result (value (bundle_text (shown_design design.now).texts)) }
@@ -43,6 +44,6 @@ pub fn bundle_of<'a, F: Shelf>(
 {
     let design = read_design(alloc, shelf, files)?;
     let bundle = bundle_over(alloc, &design);
-    drop(design);
+    forget(design);
     bundle
 }
