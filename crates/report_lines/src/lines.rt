@@ -66,7 +66,8 @@ pub fn bit_lines<N: ReportNames>(
 }
 
 /// Writes a label and a number behind it so that they end at a place, and returns where they begin. A number has up to twenty
-/// digits.
+/// digits. Inlined, so that the length of each label is known where it is copied.
+#[inline(always)]
 fn write_labelled(words: &mut [u8], end: usize, label: &[u8], number: u64) -> usize
     requires room { length label.now + 20 ≤ end }
     requires inside { end ≤ length words.old }
