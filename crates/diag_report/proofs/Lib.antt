@@ -1,4 +1,5 @@
 pub mod Ranked
+mod RankNumbers
 mod TallySteps
 mod PageSteps
 mod SummarySteps

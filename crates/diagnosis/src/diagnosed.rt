@@ -11,7 +11,7 @@ ghost use Rattle.diagnosis.specs.Cases.{case_lines};
 ghost use Rattle.diagnosis.specs.Subjects.{IsSubject, subject_case};
 
 use crate::log::ReadLog;
-use diag_report::{Head, Report, make_text, rank};
+use diag_report::{Head, Report, make_text, rank_by_numbers};
 use log_join::Joined;
 use match_counts::counts;
 use packed_sim::PackedGood;
@@ -103,7 +103,7 @@ fn diagnosis_over<R: Threads + Sync>(
 {
     let (parts, good, expected) = (subject.parts, subject.good, subject.expected);
     let mut rows = counts(rt, alloc, parts, good, expected, joined)?;
-    rank(&mut rows);
+    rank_by_numbers(alloc, &mut rows);
     let report = report_over(alloc, subject, joined, &rows)?;
     Ok(Diagnosis {
         report,
