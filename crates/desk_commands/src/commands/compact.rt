@@ -24,7 +24,7 @@ use chain_compactor::{
 };
 use command_words::Order;
 use desk_outside::Shelf;
-use diag_report::{Head, rank};
+use diag_report::{Head, rank_by_numbers};
 use log_join::Joined;
 use packed_sim::PackedGood;
 use scan_model::{Expected, LogFacts, Name, NoMemory, Parts, Rows, Scored, Steps};
@@ -122,7 +122,7 @@ fn text_of_good(
 {
     let expected = compact_expected_over(alloc, parts, compact, good.rows())?;
     let mut rows = counts_of(alloc, parts, compact, good, &expected, joined)?;
-    rank(&mut rows);
+    rank_by_numbers(alloc, &mut rows);
     compact_text(alloc, parts, compact, head, &expected, joined, &rows)
 }
 

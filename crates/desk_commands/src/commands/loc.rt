@@ -17,7 +17,7 @@ use crate::launches::read_launch_design;
 use crate::views::{View, view_report};
 use command_words::Order;
 use desk_outside::Shelf;
-use diag_report::{Head, rank};
+use diag_report::{Head, rank_by_numbers};
 use fail_logs::read_log;
 use log_join::Joined;
 use scan_model::{LogFacts, Name, NoMemory, Parts};
@@ -63,7 +63,7 @@ fn text_of_good(
 {
     let expected = expected_over(alloc, parts, good)?;
     let mut rows = counts_over(alloc, parts, good, &expected, joined)?;
-    rank(&mut rows);
+    rank_by_numbers(alloc, &mut rows);
     frame_text(alloc, parts, head, &expected, joined, &rows)
 }
 

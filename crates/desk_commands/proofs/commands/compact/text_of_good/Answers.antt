@@ -16,11 +16,11 @@ compact_text-requires-clause-places c =
     let t = c.args.parts.now in
     let k = c.args.compact.now in
     let logs = c.requires.stands.0 in
-    places (compact_bits t k) (compact_class t k logs) (predicts_compact_fail t k) (universe t) c.in_ok-rows.rows c.rank.new.rows (c.in_ok-rows.ensures logs c.requires.stands.1) c.rank.ensures.same
+    places (compact_bits t k) (compact_class t k logs) (predicts_compact_fail t k) (universe t) c.in_ok-rows.rows c.rank_by_numbers.new.rows (c.in_ok-rows.ensures logs c.requires.stands.1) c.rank_by_numbers.ensures.same
 
 pub returns : goal.returns
 returns c = λ logs stands count.
     let t = c.args.parts.now in
     let k = c.args.compact.now in
-    let ranked = in_order (compact_bits t k) (compact_class t k logs) (predicts_compact_fail t k) (universe t) c.in_ok-rows.rows c.rank.new.rows (c.in_ok-rows.ensures logs stands) c.rank.ensures.one in
+    let ranked = in_order (compact_bits t k) (compact_class t k logs) (predicts_compact_fail t k) (universe t) c.in_ok-rows.rows c.rank_by_numbers.new.rows (c.in_ok-rows.ensures logs stands) c.rank_by_numbers.ensures.one in
     c.compact_text.ensures.report logs stands c.in_ok-expected.ensures.value count ranked
