@@ -21,6 +21,8 @@ pub mod Sound
 pub mod Looking
 pub mod Showing
 pub mod Spoiling
+pub mod RowsAhead
+pub mod DesignsAhead
 pub mod RowLogs
 pub mod RowSigns
 pub mod CallerLemmas

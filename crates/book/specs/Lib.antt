@@ -11,3 +11,4 @@ pub mod State
 pub mod ReadyChanges
 pub mod ChangeParts
 pub mod Rows
+pub mod RowsAhead

@@ -1,6 +1,7 @@
 //! The book of a desk: its designs, the logs and sign-offs of their dies, and the one list of deeds that they come from.
 #![tactic(auto)]
 
+mod ahead;
 mod answers;
 mod book;
 mod dies;

@@ -6,6 +6,7 @@ ghost use Rattle.book.specs.declared.opening.StartFault.{StartFault};
 ghost use Rattle.book.specs.LegalDeeds.{each_fits, spoiled_row};
 ghost use Rattle.book.specs.Rows.{start_fault_of};
 
+use crate::ahead::RowsAhead;
 use crate::book::Book;
 use crate::row::add_row;
 use crate::state::BookState;
@@ -83,11 +84,13 @@ fn read_rows<K: Keeper, R: Threads + Sync>(
     ensures failed { IsErrOf result StartFault.Failed → Rose (K.faults keeper.old) (K.faults keeper.new) }
 {
     let end = u64::from(limit);
+    let mut ahead = RowsAhead::none(rt, alloc);
     for row in 0..end {
-        let Some(deed) = keeper.row(row)? else {
+        ahead.look(rt, keeper, kept, row, end)?;
+        let Some(deed) = ahead.next(keeper, row)? else {
             return Ok(());
         };
-        if !add_row(rt, alloc, kept, deed)? {
+        if !add_row(rt, alloc, kept, deed, ahead.foreseen())? {
             return Err(StartFault::Spoiled { row });
         }
     }

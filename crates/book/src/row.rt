@@ -1,5 +1,5 @@
 //! Rows of a keeper, judged as deeds after those before them.
-ghost use Rattle.std.specs.Prelude.{◌≡◌, ◌&&◌, [], length, true, is_some, nat_le, IfOk, IfSome};
+ghost use Rattle.std.specs.Prelude.{◌≡◌, ◌&&◌, [], All, length, true, is_some, nat_le, IfOk, IfSome};
 ghost use Rattle.std.specs.List.{list_any};
 ghost use Rattle.std.specs.Arc.{arc_value};
 ghost use Rattle.sha2.specs.Sha256.{sha256};
@@ -11,11 +11,12 @@ ghost use Rattle.book.specs.LegalDeeds.{fits, each_fits};
 ghost use Rattle.book.specs.Changes.{StandsIn};
 ghost use Rattle.book.specs.Kinds.{sign_deed};
 ghost use Rattle.book.specs.Rows.{added_if};
+ghost use Rattle.book.specs.RowsAhead.{IsDesignIn};
 
 use crate::state::BookState;
 use desk_outside::{Deed, DeedKind};
 use diagnosis::{BundleFault, Design, Put, ReadLog, log_of, read_bundle};
-use die_entries::{Sign, digest_at, is_same_digest, put_sign, put_text};
+use die_entries::{Foreseen, Sign, digest_at, is_same_digest, put_sign, put_text};
 use scan_model::{Digest, NoMemory};
 use std::alloc::Global;
 use std::sync::Arc;
@@ -82,7 +83,7 @@ fn log_of_row(
     }
 }
 
-// The digest of the report of a die at a revision, where it has that revision.
+// The digest of the report of a die at a revision, where it has that revision. The report may have been made ahead.
 fn right_digest<R: Threads + Sync>(
     rt: &R,
     alloc: Global,
@@ -90,8 +91,10 @@ fn right_digest<R: Threads + Sync>(
     design: &[u8],
     die: &[u8],
     revision: u64,
+    foreseen: &[Foreseen],
 ) -> Result<Option<Digest>, NoMemory>
-    requires { each_fits [] kept.now.deeds ≡ true }
+    requires fit { each_fits [] kept.now.deeds ≡ true }
+    requires foreseen { All (λ die. IsDesignIn kept.now.deeds die.design) foreseen.now }
     ensures right { IfOk result (λ r. IfSome r (λ digest. digest ≡ sha256 (report_at kept.now.deeds design.now die.now revision))) }
     ensures within { IfOk result (λ r. is_some r ≡ (nat_le 1 revision && nat_le revision (length (die_logs kept.now.deeds design.now die.now)))) }
 {
@@ -102,7 +105,16 @@ fn right_digest<R: Threads + Sync>(
         return Ok(None);
     };
     let (logs, signs) = (die_found.logs(), die_found.signs());
-    digest_at(rt, alloc, found.design, die, logs, signs, revision)
+    digest_at(
+        rt,
+        alloc,
+        found.design,
+        die,
+        logs,
+        signs,
+        revision,
+        foreseen,
+    )
 }
 
 fn is_signed(
@@ -128,15 +140,17 @@ fn sign_fits<R: Threads + Sync>(
     design: &[u8],
     die: &[u8],
     sign: &Sign,
+    foreseen: &[Foreseen],
 ) -> Result<bool, NoMemory>
-    requires { each_fits [] kept.now.deeds ≡ true }
+    requires fit { each_fits [] kept.now.deeds ≡ true }
+    requires foreseen { All (λ die. IsDesignIn kept.now.deeds die.design) foreseen.now }
     ensures { IfOk result (λ r. fits kept.now.deeds (deed_kind.Sign design.now die.now sign.now.revision sign.now.signer sign.now.digest) ≡ r) }
 {
     let signer = sign.signer.as_slice();
     if !is_tag(signer) || is_signed(kept, design, die, sign.revision, signer)? {
         return Ok(false);
     }
-    match right_digest(rt, alloc, kept, design, die, sign.revision)? {
+    match right_digest(rt, alloc, kept, design, die, sign.revision, foreseen)? {
         Some(right) => Ok(is_same_digest(&sign.digest, &right)),
         None => Ok(false),
     }
@@ -187,12 +201,14 @@ fn add_sign_row<R: Threads + Sync>(
     design: &[u8],
     die: &[u8],
     sign: Sign,
+    foreseen: &[Foreseen],
 ) -> Result<bool, NoMemory>
-    requires { each_fits [] kept.old.deeds ≡ true }
+    requires fit { each_fits [] kept.old.deeds ≡ true }
+    requires foreseen { All (λ die. IsDesignIn kept.old.deeds die.design) foreseen.now }
     ensures judged { IfOk result (λ r. fits kept.old.deeds (deed_kind.Sign design.now die.now sign.revision sign.signer sign.digest) ≡ r) }
     ensures deeds { IfOk result (λ r. kept.new.deeds ≡ added_if r kept.old.deeds (sign_deed by design.now die.now sign)) }
 {
-    if !sign_fits(rt, alloc, kept, design, die, &sign)? {
+    if !sign_fits(rt, alloc, kept, design, die, &sign, foreseen)? {
         return Ok(false);
     }
     let ready = kept.ready_sign(by, design, die, sign)?;
@@ -200,14 +216,16 @@ fn add_sign_row<R: Threads + Sync>(
     Ok(true)
 }
 
-/// Adds the deed of a row to those before it, if it fits them.
+/// Adds the deed of a row to those before it, if it fits them. The report that a sign-off is of may have been made ahead.
 pub fn add_row<R: Threads + Sync>(
     rt: &R,
     alloc: Global,
     kept: &mut BookState,
     row: Deed,
+    foreseen: &[Foreseen],
 ) -> Result<bool, NoMemory>
-    requires { each_fits [] kept.old.deeds ≡ true }
+    requires fit { each_fits [] kept.old.deeds ≡ true }
+    requires foreseen { All (λ die. IsDesignIn kept.old.deeds die.design) foreseen.now }
     ensures judged { IfOk result (λ r. fits kept.old.deeds row.what ≡ r) }
     ensures deeds { IfOk result (λ r. kept.new.deeds ≡ added_if r kept.old.deeds row) }
 {
@@ -236,7 +254,8 @@ pub fn add_row<R: Threads + Sync>(
                 signer,
                 digest,
             };
-            add_sign_row(rt, alloc, kept, by, design.as_slice(), die.as_slice(), sign)
+            let (design, die) = (design.as_slice(), die.as_slice());
+            add_sign_row(rt, alloc, kept, by, design, die, sign, foreseen)
         }
     }
 }

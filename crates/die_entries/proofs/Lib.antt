@@ -1,3 +1,4 @@
 pub mod FirstThat
 pub mod MoreLogs
 pub mod Revisions
+pub mod SameViews

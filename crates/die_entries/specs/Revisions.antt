@@ -4,7 +4,7 @@ use Rattle.std.specs.List.{IsDistinct}
 use Rattle.std.specs.Str.{bytes_eq}
 use Rattle.sha2.specs.Sha256.{sha256}
 use Rattle.scan_model.specs.Words.{is_tag}
-use Rattle.diagnosis.specs.Designs.{DesignFacts, ReadLogFacts, IsLogOf, texts_of, view_report}
+use Rattle.diagnosis.specs.Designs.{DesignFacts, ReadLogFacts, ViewFacts, IsLogOf, texts_of, view_report}
 use Rattle.die_entries.specs.declared.sign.Sign.{Sign as SignOff}
 
 -- the report of a die may be made of these logs
@@ -21,3 +21,7 @@ revision_report d die logs revision = view_report (record { design = d; die = di
 -- the sign-off has the digest of the report at its revision
 abbrev pub SignsReport : DesignFacts → List ℕ → List ReadLogFacts → SignOff → Type 0
 SignsReport d die logs sign = sign.digest ≡ sha256 (revision_report d die logs sign.revision)
+
+-- if the die's design has the name of this one, it has the same scan test
+abbrev pub IsOneByName : DesignFacts → ViewFacts → Type 0
+IsOneByName d view = view.design.name ≡ d.name → view.design.test ≡ d.test

@@ -5,8 +5,9 @@ ghost use Rattle.std.specs.Arc.{arc_value};
 ghost use Rattle.sha2.specs.Sha256.{sha256};
 ghost use Rattle.diagnosis.specs.Designs.{view_report};
 ghost use Rattle.die_entries.specs.Entries.{arc_values};
-ghost use Rattle.die_entries.specs.Revisions.{IsShowable, SignsReport, revision_report};
+ghost use Rattle.die_entries.specs.Revisions.{IsShowable, IsOneByName, SignsReport, revision_report};
 
+use crate::ahead::{Foreseen, foreseen_digest};
 use crate::sign::Sign;
 use crate::views::view_of;
 use diagnosis::{Design, ReadLog, check_report};
@@ -35,24 +36,29 @@ fn known_digest(signs: &[Sign], revision: u64) -> Option<Digest>
     None
 }
 
-// The digest of the report of a die with these logs.
+// The digest of the report of a die with these logs: the one that was made ahead, or else of a report that is made now.
 fn digest_of<R: Threads + Sync>(
     rt: &R,
     alloc: Global,
     design: &Arc<Design>,
     die: &[u8],
     logs: &[Arc<ReadLog>],
+    foreseen: &[Foreseen],
 ) -> Result<Digest, NoMemory>
-    requires { IsShowable (arc_value design.now) die.now (arc_values logs.now) }
+    requires showable { IsShowable (arc_value design.now) die.now (arc_values logs.now) }
+    requires foreseen { All (IsOneByName (arc_value design.now)) foreseen.now }
     ensures { IfOk result (λ digest. digest ≡ sha256 (view_report (record { design = arc_value design.now; die = die.now; logs = arc_values logs.now }))) }
 {
+    if let Some(digest) = foreseen_digest(foreseen, design, die, logs) {
+        return Ok(digest);
+    }
     let view = view_of(alloc, design, die, logs)?;
     let checked = check_report(rt, alloc, &view)?;
     Ok(*checked.digest())
 }
 
-/// The digest of the report of a die at a revision, where it has that revision. A sign-off of the revision has it; else the
-/// report is made.
+/// The digest of the report of a die at a revision, where it has that revision. A sign-off of the revision has it, or it was
+/// made ahead; else the report is made.
 pub fn digest_at<R: Threads + Sync>(
     rt: &R,
     alloc: Global,
@@ -61,9 +67,11 @@ pub fn digest_at<R: Threads + Sync>(
     logs: &[Arc<ReadLog>],
     signs: &[Sign],
     revision: u64,
+    foreseen: &[Foreseen],
 ) -> Result<Option<Digest>, NoMemory>
     requires showable { IsShowable (arc_value design.now) die.now (arc_values logs.now) }
     requires signed { All (SignsReport (arc_value design.now) die.now (arc_values logs.now)) signs.now }
+    requires foreseen { All (IsOneByName (arc_value design.now)) foreseen.now }
     ensures right { IfOk result (λ r. IfSome r (λ digest. digest ≡ sha256 (revision_report (arc_value design.now) die.now (arc_values logs.now) revision))) }
     ensures within { IfOk result (λ r. is_some r ≡ (nat_le 1 revision && nat_le revision (length logs.now))) }
 {
@@ -73,6 +81,6 @@ pub fn digest_at<R: Threads + Sync>(
     if let Some(digest) = known_digest(signs, revision) {
         return Ok(Some(digest));
     }
-    let right = digest_of(rt, alloc, design, die, logs_at(logs, revision))?;
+    let right = digest_of(rt, alloc, design, die, logs_at(logs, revision), foreseen)?;
     Ok(Some(right))
 }

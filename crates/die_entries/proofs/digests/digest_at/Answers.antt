@@ -9,8 +9,8 @@ use Rattle.die_entries.proofs.digests.digest_at.Goals as goal
 pub returns-in-Some-clause-right : goal.returns-in-Some-clause-right
 returns-in-Some-clause-right g c = c.in-Some.ensures (revision_report (arc_value c.args.design.now) c.args.die.now (arc_values c.args.logs.now)) c.requires.signed
 
-pub digest_of-requires-after_bounds : goal.digest_of-requires-after_bounds
-digest_of-requires-after_bounds g c κs within =
+pub digest_of-requires-clause-showable : goal.digest_of-requires-clause-showable
+digest_of-requires-clause-showable g c κs within =
     let low : 0 < c.args.revision = search rules in
     let high : c.args.revision ≤ length c.args.logs.now = search rules in
     showable_at (arc_value c.args.design.now) c.args.die.now c.args.logs.now c.logs_at.result.now c.args.revision c.logs_at.ensures c.requires.showable low high
