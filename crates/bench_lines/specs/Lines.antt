@@ -1,10 +1,8 @@
 -- Lines without where they lie in memory.
 use Rattle.scan_model.specs.NetlistLines.{Form, nothing, input, output, definition, no_form, driver_named}
 use Rattle.std.specs.Prelude.{ℕ, ◌≡◌, List}
-use Rattle.text_parts.specs.Views.{nows}
 use Rattle.bench_lines.specs.declared.line.Kind.{Kind}
 use Rattle.bench_lines.specs.declared.line.Kind.TheVariants.{Nothing, Input, Output, Definition, NoForm}
-use Rattle.bench_lines.specs.declared.line.Line.{Line}
 
 -- what a line is, with these operands if it is a definition
 abbrev pub kind_view : List (List ℕ) → Kind → Form
@@ -13,9 +11,6 @@ kind_view operands (Input n) = input n.now
 kind_view operands (Output n) = output n.now
 kind_view operands (Definition n word driver) = definition n.now word.now operands
 kind_view operands NoForm = no_form
-
-abbrev pub line_view : Line → Form
-line_view l = kind_view (nows l.operands.now) l.kind
 
 -- a definition has the driver that its word names
 abbrev pub HasItsDriver : Kind → Type 0

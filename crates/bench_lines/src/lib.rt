@@ -7,4 +7,4 @@ mod name_bytes;
 mod parts;
 
 pub use driver::takes_one;
-pub use line::{Kind, Line};
+pub use line::Kind;

@@ -27,14 +27,6 @@ pub enum Kind<'a> {
     NoForm,
 }
 
-/// A line, with the operands that a definition has, and its comment, which in a line of no form is the whole line.
-#[derive(Clone, Copy)]
-pub struct Line<'t, 'a> {
-    pub kind: Kind<'a>,
-    pub operands: &'t [&'a [u8]],
-    pub comment: &'a [u8],
-}
-
 // Puts the names of `name , name , .. )` in place of what the list has, and answers the comment behind; nothing where
 // something else is left.
 fn listed<'a>(names: &mut Vec<&'a [u8]>, line: &'a [u8]) -> Result<Option<&'a [u8]>, AllocError>
@@ -60,11 +52,14 @@ fn listed<'a>(names: &mut Vec<&'a [u8]>, line: &'a [u8]) -> Result<Option<&'a [u
 fn operands<'a>(names: &mut Vec<&'a [u8]>, line: &'a [u8]) -> Result<Option<&'a [u8]>, AllocError>
     ensures { IfOk result (λ found. MatchOption found (operand_names (line_tokens line.now) ≡ None) (λ comment. IsListed line.now (operand_names (line_tokens line.now)) (nows names.new.items) comment.now)) }
 {
-    if let Some(behind) = behind_sign(b')', line) {
-        names.clear();
-        return Ok(comment_alone(behind));
+    if let Some(comment) = listed(names, line)? {
+        return Ok(Some(comment));
     }
-    listed(names, line)
+    let Some(behind) = behind_sign(b')', line) else {
+        return Ok(None);
+    };
+    names.clear();
+    Ok(comment_alone(behind))
 }
 
 impl<'a> Kind<'a> {
@@ -116,8 +111,7 @@ impl<'a> Kind<'a> {
         names: &mut Vec<&'a [u8]>,
         line: &'a [u8],
     ) -> Result<Option<(Self, &'a [u8])>, AllocError>
-        requires { is_over (line_tokens line.now) ≡ false }
-        ensures form { IfOk result (λ found. MatchOption found (form_of line.now ≡ no_form) (λ f. kind_view (nows names.new.items) f.0 ≡ form_of line.now)) }
+        ensures form { IfOk result (λ found. MatchOption found (is_over (line_tokens line.now) ≡ false → form_of line.now ≡ no_form) (λ f. kind_view (nows names.new.items) f.0 ≡ form_of line.now)) }
         ensures driver { IfOk result (λ found. IfSome found (λ f. HasItsDriver f.0)) }
         ensures comment { IfOk result (λ found. IfSome found (λ f. has_refused_byte f.1.now ≡ has_refused_byte line.now)) }
     {
@@ -143,11 +137,11 @@ impl<'a> Kind<'a> {
         ensures driver { IfOk result (λ f. HasItsDriver f.0) }
         ensures comment { IfOk result (λ f. has_refused_byte f.1.now ≡ has_refused_byte line.now) }
     {
-        if let Some(comment) = comment_alone(line) {
-            return Ok((Kind::Nothing, comment));
+        if let Some(found) = Kind::of_named(names, line)? {
+            return Ok(found);
         }
-        match Kind::of_named(names, line)? {
-            Some(found) => Ok(found),
+        match comment_alone(line) {
+            Some(comment) => Ok((Kind::Nothing, comment)),
             None => Ok((Kind::NoForm, line)),
         }
     }

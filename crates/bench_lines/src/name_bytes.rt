@@ -34,15 +34,24 @@ pub fn is_name_byte(b: u8) -> bool
 }
 
 /// How many name bytes stand at the front.
+// Within its callers the loop would have no registers left.
+#[inline(never)]
 pub fn name_len(bytes: &[u8]) -> usize
     ensures value { result ≡ prefix_len is_name_byte bytes.now }
     ensures within { result ≤ length bytes.now }
 {
     let mut n = 0;
-    for b in bytes {
-        if !is_name_byte(*b) {
+    // Two bytes a turn spare the loop's own steps.
+    while n + 1 < bytes.len() {
+        if !is_name_byte(bytes[n]) {
             return n;
         }
+        if !is_name_byte(bytes[n + 1]) {
+            return n + 1;
+        }
+        n += 2;
+    }
+    if n < bytes.len() && is_name_byte(bytes[n]) {
         n += 1;
     }
     n

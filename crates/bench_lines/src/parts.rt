@@ -20,7 +20,8 @@ fn without_blanks(line: &[u8]) -> &[u8]
 {
     let mut rest = line;
     while let [first, after @ ..] = rest {
-        if !is_blank(*first) {
+        // Most bytes are above the blanks: one comparison tells them.
+        if *first > b' ' || !is_blank(*first) {
             return rest;
         }
         rest = after;

@@ -7,6 +7,7 @@ use Rattle.std.specs.Cmp.Lexicographic.{nat_list_eq_equiv}
 use Rattle.std.proofs.lemmas.Bool.{leb-true, or_parts}
 use Rattle.std.proofs.lemmas.Map.Keys.{IsDistinct-push}
 use Rattle.std.proofs.lemmas.List.{map_more, length-map, get_or-map, take_all, length-append, length-take}
+use Rattle.std.proofs.lemmas.List.FromFn.{length-enumerate_from}
 use Rattle.std.proofs.lemmas.List.Concat.{flat_map-append}
 use Rattle.std.proofs.lemmas.List.Elements.{All-append, All-cons, All-nil}
 use Rattle.std.proofs.lemmas.Grind.{fold-append}
@@ -19,11 +20,11 @@ use Rattle.scan_model.specs.NetlistRules.{forms_of, nets_of, new_output, pins_of
 use Rattle.scan_model.proofs.FaultSteps.{fault_goes_on, fault_is_here, fault_is_none}
 use Rattle.text_parts.specs.Views.{nows}
 use Rattle.bench_reader.specs.declared.first_round.NetlistDraft.{NetlistDraft}
-use Rattle.scan_model.specs.NetlistText.{line_nets}
-use Rattle.bench_reader.specs.NetUses.{use_view, use_views, line_uses}
-use Rattle.bench_reader.specs.NetlistDrafts.{AddsNames, TakesRest, Takes, IsAfter, IsWithin, net_lines_from}
+use Rattle.scan_model.specs.declared.circuit.Driver.{Driver}
+use Rattle.bench_reader.specs.NetUses.{operand_use, use_view, use_views, line_uses}
+use Rattle.bench_reader.specs.NetlistDrafts.{AddsNames, TakesDefinition, Takes, IsAfter, IsWithin, net_lines_from}
 use Rattle.bench_reader.specs.FaultlessLines.{AreClean, HasItsOperands}
-use Rattle.bench_reader.proofs.UsesOfLines.{outputs_after, length-line_uses, length-line_nets, new_output_pins, nets_after_push, inputs_after_push, uses_after_push}
+use Rattle.bench_reader.proofs.UsesOfLines.{outputs_after, length-line_uses, nets_after_push, inputs_after_push, uses_after_push}
 use Rattle.bench_reader.proofs.CircuitOfLines.{length-nets_after}
 
 pub enumerate_from_push : {X : Type 0} (n : ℕ) (xs : List X) (x : X) → enumerate_from n (xs ++ x ∷ []) ≡ enumerate_from n xs ++ (n + length xs, x) ∷ []
@@ -50,30 +51,25 @@ takes_count : (old new : NetlistDraft) (f : Form) (number : ℕ) → Takes old n
 takes_count old new f number takes =
     omega (arith, ap length takes.uses, length-append (use_views old.uses.items) (line_uses number (length old.nets.items) old.outputs f), length-line_uses number (length old.nets.items) old.outputs f, length-map old.uses.items use_view, length-map new.uses.items use_view)
 
-within_more : (old new : NetlistDraft) (f : Form) (number : ℕ) → IsWithin old → Takes old new number f → length old.defined + length (nets_of f) ≤ net_limit → length old.uses.items + length (pins_of old.outputs f) ≤ pin_limit → IsWithin new
-within_more old new f number within takes nets pins =
-    let count : length new.uses.items ≡ length old.uses.items + length (pins_of old.outputs f) = takes_count old new f number takes in
+-- no limit is passed after one more definition, whose net's name is added first
+pub within_definition : (old named new : NetlistDraft) (number : ℕ) (n : List ℕ) (driver : Driver) (operands : List (Bor (List ℕ))) → IsWithin old → AddsNames old named number (n ∷ []) → TakesDefinition named new number n driver (nows operands)
+    → length old.defined + 1 ≤ net_limit → length old.uses.items + length operands ≤ pin_limit → IsWithin new
+within_definition old named new number n driver operands within names takes nets pins =
+    let names_of : List (ℕ × List ℕ) = enumerate_from 0 (nows operands) in
+    let size : length (map (operand_use number (length named.nets.items)) names_of) ≡ length operands =
+    length-map names_of (operand_use number (length named.nets.items)) ∙ length-enumerate_from 0 (nows operands) ∙ length-map operands (λ x. x.now) in
+    let uses : length named.uses.items ≡ length old.uses.items = rw names.uses refl in
+    let count : length new.uses.items ≡ length old.uses.items + length operands =
+    omega (arith, size, uses, ap length takes.uses, length-append (use_views named.uses.items) (map (operand_use number (length named.nets.items)) names_of), length-map named.uses.items use_view, length-map new.uses.items use_view) in
+    let named_nets : length named.nets.items ≡ length old.nets.items = rw names.nets refl in
+    let new_nets : length new.nets.items ≡ length named.nets.items + 1 = ap length takes.nets ∙ length-append named.nets.items _ in
+    let defined : length new.defined ≡ length old.defined + 1 = ap length (takes.defined ∙ names.defined) ∙ length-append old.defined (n ∷ []) in
     record {
-      nets = omega (arith, nets, ap length takes.defined, length-append old.defined (nets_of f));
+      nets = omega (arith, nets, defined);
       pins = omega (arith, pins, count);
-      each = omega (arith, within.each, ap length takes.nets, length-append old.nets.items (line_nets (length old.uses.items) f), length-line_nets (length old.uses.items) f, ap length takes.defined, length-append old.defined (nets_of f));
-      outputs = omega (arith, within.outputs, count, ap length takes.outputs, length-append old.outputs (new_output old.outputs f), new_output_pins old.outputs f);
+      each = omega (arith, within.each, named_nets, new_nets, defined);
+      outputs = omega (arith, within.outputs, count, ap length (takes.outputs ∙ names.outputs));
     }
-
-takes_both : (old named new : NetlistDraft) (f : Form) (number : ℕ) → TakesRest named new number f → AddsNames old named number (nets_of f) → Takes old new number f
-takes_both old named new f number rest names = record {
-  nets = rw (← names.nets, ← names.uses) rest.nets;
-  inputs = rw (← names.inputs, ← names.nets) rest.inputs;
-  uses = rw (← names.uses, ← names.nets, ← names.outputs) rest.uses;
-  defined = rest.defined ∙ names.defined;
-  net_lines = rw rest.net_lines names.net_lines;
-  outputs = rw (← names.outputs) rest.outputs;
-}
-
--- no limit is passed after one more line, whose net's name is added first
-pub within_both : (old named new : NetlistDraft) (f : Form) (number : ℕ) → IsWithin old → TakesRest named new number f → AddsNames old named number (nets_of f)
-    → length old.defined + length (nets_of f) ≤ net_limit → length old.uses.items + length (pins_of old.outputs f) ≤ pin_limit → IsWithin new
-within_both old named new f number within rest names nets pins = within_more old new f number within (takes_both old named new f number rest names) nets pins
 
 -- the draft of a netlist after one more line
 after_takes : (old new : NetlistDraft) (fs : List Form) (f : Form) (number : ℕ) → number ≡ 1 + length fs → IsAfter old fs → Takes old new number f → IsAfter new (fs ++ f ∷ [])

@@ -1,4 +1,3 @@
-pub mod FirstRules
 pub mod FirstRound
 pub mod SecondRound
 pub mod UsesOfLines

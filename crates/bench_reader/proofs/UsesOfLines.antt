@@ -1,5 +1,5 @@
 -- The uses and the inputs of lines: how many they are, and their nets.
-use Rattle.std.proofs.Common.{◌≡◌, ℕ, ◌+◌, ◌≤◌, Bool, true, false, cond, not, List, [], ◌∷◌, ◌++◌, length, map, fold, Option, Some, None, option_map, Ok, refl, sym, ap, subst, ◌∙◌, arith, append_assoc, append-nil}
+use Rattle.std.proofs.Common.{◌≡◌, ℕ, ◌+◌, Bool, true, false, cond, not, List, [], ◌∷◌, ◌++◌, length, map, fold, Option, Some, None, option_map, Ok, refl, sym, ap, subst, ◌∙◌, arith, append_assoc, append-nil}
 use Rattle.std.specs.Prelude.{flat_map}
 use Rattle.std.specs.List.{enumerate_from, AllByRecursion, IsDistinct}
 use Rattle.std.specs.Str.{bytes_eq}
@@ -52,14 +52,6 @@ length-line_nets pins (input n) = refl
 length-line_nets pins (output n) = refl
 length-line_nets pins (definition n word operands) = refl
 length-line_nets pins no_form = refl
-
--- an output makes a pin
-pub new_output_pins : (os : List (List ℕ)) (f : Form) → length (new_output os f) ≤ length (pins_of os f)
-new_output_pins os nothing = omega arith
-new_output_pins os (input n) = omega arith
-new_output_pins os (output n) = omega arith
-new_output_pins os (definition n word operands) = omega arith
-new_output_pins os no_form = omega arith
 
 -- ---- one more line
 

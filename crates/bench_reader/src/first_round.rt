@@ -1,18 +1,16 @@
 //! The first round: each line by itself and after those before it.
 
-ghost use Rattle.std.specs.Prelude.{◌≡◌, ◌≤◌, ◌<◌, ◌+◌, ◌^◌, [], ◌∷◌, ◌++◌, length, map, IfOk, OnOk, Ok, None, not, true, false};
+ghost use Rattle.std.specs.Prelude.{◌≡◌, ◌≤◌, ◌<◌, ◌+◌, ◌^◌, ℕ, List, [], ◌∷◌, ◌++◌, length, map, IfOk, OnOk, Ok, None, Some, not, true, false};
 ghost use Rattle.std.specs.List.{list_any, enumerate_from};
-ghost use Rattle.scan_model.specs.Lines.{has_refused_byte};
 ghost use Rattle.scan_model.specs.Words.{is_short, has_word};
 ghost use Rattle.scan_model.specs.TextFaults.{lowest};
-ghost use Rattle.scan_model.specs.NetlistLines.{form_of, output};
-ghost use Rattle.scan_model.specs.NetlistRules.{nets_of, pins_of, is_no_form, has_unknown_word, has_wrong_count, has_long_name, defines_among, first_rules, makes_past, net_limit, pin_limit};
+ghost use Rattle.scan_model.specs.NetlistLines.{form_of, input, output, definition, driver_named};
+ghost use Rattle.scan_model.specs.NetlistRules.{first_rules, makes_past, net_limit, pin_limit};
 ghost use Rattle.text_parts.specs.Views.{nows};
-ghost use Rattle.bench_lines.specs.Lines.{kind_view, line_view, HasItsDriver};
-ghost use Rattle.bench_reader.specs.FirstRules.{own_rules, passes_limit, line_rules};
+ghost use Rattle.bench_reader.specs.FirstRules.{is_wrong_count, passes_by, net_rules, form_rules};
 ghost use Rattle.bench_reader.specs.NetUses.{use_views, operand_use};
 
-use bench_lines::{Kind, Line, takes_one};
+use bench_lines::{Kind, takes_one};
 use scan_model::{Driver, Name, Net, NoMemory, PinPlace, rules};
 use std::alloc::{AllocError, Global};
 use text_parts::{Names, has_refused_byte};
@@ -20,38 +18,6 @@ use text_parts::{Names, has_refused_byte};
 const NET_LIMIT: usize = 65_536;
 
 const PIN_LIMIT: usize = 262_144;
-
-fn is_no_form(line: &Line<'_, '_>) -> bool
-    ensures { result ≡ is_no_form (line_view line.now) }
-{
-    matches!(line.kind, Kind::NoForm)
-}
-
-fn has_unknown_word(line: &Line<'_, '_>) -> bool
-    requires { HasItsDriver line.now.kind }
-    ensures { result ≡ has_unknown_word (line_view line.now) }
-{
-    match line.kind {
-        Kind::Definition { driver, .. } => driver.is_none(),
-        _ => false,
-    }
-}
-
-fn has_wrong_count(line: &Line<'_, '_>) -> bool
-    requires { HasItsDriver line.now.kind }
-    ensures { result ≡ has_wrong_count (line_view line.now) }
-{
-    match line.kind {
-        Kind::Definition { driver, .. } => {
-            if takes_one(driver) {
-                line.operands.len() != 1
-            } else {
-                line.operands.is_empty()
-            }
-        }
-        _ => false,
-    }
-}
 
 fn is_short(name: &[u8]) -> bool
     ensures { result ≡ is_short name.now }
@@ -65,58 +31,14 @@ fn has_long(names: &[&[u8]]) -> bool
     names.iter().any(|n| !is_short(n))
 }
 
-fn has_long_name(line: &Line<'_, '_>) -> bool
-    ensures { result ≡ has_long_name (line_view line.now) }
+// The gate word takes another number of operands.
+fn has_wrong_count(driver: Driver, operands: &[&[u8]]) -> bool
+    ensures { result ≡ is_wrong_count (Some driver) (length (nows operands.now)) }
 {
-    match line.kind {
-        Kind::Input(n) => !is_short(n),
-        Kind::Output(n) => !is_short(n),
-        Kind::Definition { net, .. } => !is_short(net) || has_long(line.operands),
-        _ => false,
-    }
-}
-
-// The lowest of rules 1 to 5, which look at the line alone, that it breaks.
-fn own_rule(line: &Line<'_, '_>) -> Option<u32>
-    requires { HasItsDriver line.now.kind }
-    ensures { result ≡ lowest (own_rules (has_refused_byte line.now.comment.now) (line_view line.now)) }
-{
-    if has_refused_byte(line.comment) {
-        return Some(rules::REFUSED_BYTE);
-    }
-    if is_no_form(line) {
-        return Some(rules::NO_FORM);
-    }
-    if has_unknown_word(line) {
-        return Some(rules::UNKNOWN_WORD);
-    }
-    if has_wrong_count(line) {
-        return Some(rules::WRONG_COUNT);
-    }
-    if has_long_name(line) {
-        return Some(rules::LONG_NAME);
-    }
-    None
-}
-
-// How many pins the line makes.
-fn pins_made(outputs: &Names<'_>, line: &Line<'_, '_>) -> usize
-    ensures { result ≡ length (pins_of outputs.now (line_view line.now)) }
-{
-    match line.kind {
-        Kind::Output(n) => { if outputs.contains(n) { 0 } else { 1 } }
-        Kind::Definition { .. } => line.operands.len(),
-        _ => 0,
-    }
-}
-
-fn nets_made(line: &Line<'_, '_>) -> usize
-    ensures { result ≡ length (nets_of (line_view line.now)) }
-{
-    match line.kind {
-        Kind::Input(_) => 1,
-        Kind::Definition { .. } => 1,
-        _ => 0,
+    if takes_one(Some(driver)) {
+        operands.len() != 1
+    } else {
+        operands.is_empty()
     }
 }
 
@@ -146,13 +68,14 @@ fn add_operands<'a>(
     requires { length operands.now ≤ pin_limit }
     ensures { OnOk result (use_views uses.new.items ≡ use_views uses.old.items ++ map (operand_use line net) (enumerate_from 0 (nows operands.now))) }
 {
+    uses.reserve(operands.len())?;
     for (i, name) in operands.iter().enumerate() {
         let index = i as u32;
-        uses.push(Use {
+        uses.push_reserved(Use {
             line,
             name,
             place: PinPlace::Operand { net, index },
-        })?;
+        });
     }
     Ok(())
 }
@@ -201,18 +124,19 @@ impl<'a> NetlistDraft<'a> {
         Ok(())
     }
 
-    // Rule 9: with the line there are more nets or pins than may be.
-    fn is_passed_by(&self, line: &Line<'_, '_>) -> bool
+    // Rule 9: with so many nets and pins of one line more there are more than may be.
+    fn is_passed_by(&self, nets: usize, pins: usize) -> bool
         requires { IsWithin self.now }
-        ensures rule { result ≡ passes_limit self.now.defined self.now.outputs (length self.now.uses.items) (line_view line.now) }
-        ensures nets { result ≡ false → length self.now.defined + length (nets_of (line_view line.now)) ≤ net_limit }
-        ensures pins { result ≡ false → length self.now.uses.items + length (pins_of self.now.outputs (line_view line.now)) ≤ pin_limit }
+        ensures rule { result ≡ passes_by self.now.defined (length self.now.uses.items) nets pins }
+        ensures nets { result ≡ false → length self.now.defined + nets ≤ net_limit }
+        ensures pins { result ≡ false → length self.now.uses.items + pins ≤ pin_limit }
     {
-        makes_past(self.defined.len(), nets_made(line), NET_LIMIT)
-            || makes_past(self.uses.len(), pins_made(&self.outputs, line), PIN_LIMIT)
+        makes_past(self.defined.len(), nets, NET_LIMIT)
+            || makes_past(self.uses.len(), pins, PIN_LIMIT)
     }
 
     // Adds the name of a net, defined by the line of this number, unless there is one; answers whether there was none.
+    #[inline(always)]
     fn add_name(&mut self, number: u64, name: &'a [u8]) -> Result<bool, AllocError>
         ensures fresh { IfOk result (λ b. b ≡ not (has_word self.old.defined name.now)) }
         ensures added { result ≡ Ok true → AddsNames self.old self.new number (name.now ∷ []) }
@@ -224,16 +148,30 @@ impl<'a> NetlistDraft<'a> {
         Ok(true)
     }
 
-    // Adds the name of the net that the line defines, if it defines one; answers whether there was none of its name.
-    fn add_names(&mut self, number: u64, line: &Line<'_, 'a>) -> Result<bool, AllocError>
-        ensures fresh { IfOk result (λ b. b ≡ not (defines_among self.old.defined (line_view line.now))) }
-        ensures added { result ≡ Ok true → AddsNames self.old self.new number (nets_of (line_view line.now)) }
+    // Adds the name of the net that the line of this number defines with so many pins, or answers the lower one of
+    // rules 6 and 9 that the line breaks.
+    #[inline(always)]
+    fn add_sound_name(
+        &mut self,
+        number: u64,
+        net: &'a [u8],
+        pins: usize,
+    ) -> Result<Option<u32>, AllocError>
+        requires { IsWithin self.old }
+        ensures rule { IfOk result (λ r. r ≡ lowest (net_rules self.old.defined (length self.old.uses.items) net.now pins)) }
+        ensures added { result ≡ Ok None → AddsNames self.old self.new number (net.now ∷ []) }
+        ensures nets { result ≡ Ok None → length self.old.defined + 1 ≤ net_limit }
+        ensures pins { result ≡ Ok None → length self.old.uses.items + pins ≤ pin_limit }
     {
-        match line.kind {
-            Kind::Input(n) => self.add_name(number, n),
-            Kind::Definition { net, .. } => self.add_name(number, net),
-            _ => Ok(true),
+        // Rule 9 counts the nets before this line, but rule 6 is the lower one.
+        let is_past = self.is_passed_by(1, pins);
+        if !self.add_name(number, net)? {
+            return Ok(Some(rules::DEFINED_TWICE));
         }
+        if is_past {
+            return Ok(Some(rules::TOO_MANY_NETS_OR_PINS));
+        }
+        Ok(None)
     }
 
     // Adds the net of an input.
@@ -294,53 +232,73 @@ impl<'a> NetlistDraft<'a> {
         Ok(())
     }
 
-    // Takes what the line of this number says, but for the name of the net that it defines.
-    fn add(&mut self, alloc: Global, number: u64, line: &Line<'_, 'a>) -> Result<(), NoMemory>
-        requires driver { HasItsDriver line.now.kind }
-        requires nets { length self.old.nets.items ≤ net_limit }
-        requires outputs { length self.old.outputs ≤ pin_limit }
-        requires uses { length self.old.uses.items + length (pins_of self.old.outputs (line_view line.now)) ≤ pin_limit }
-        ensures { OnOk result (TakesRest self.old self.new number (line_view line.now)) }
+    // Takes the line of this number that names an input, or answers the lowest rule that it breaks.
+    fn take_input(
+        &mut self,
+        alloc: Global,
+        number: u64,
+        net: &'a [u8],
+    ) -> Result<Option<u32>, NoMemory>
+        requires { IsWithin self.old }
+        ensures rule { IfOk result (λ r. r ≡ lowest (form_rules self.old.defined self.old.outputs (length self.old.uses.items) (input net.now))) }
+        ensures taken { result ≡ Ok None → Takes self.old self.new number (input net.now) }
+        ensures within { result ≡ Ok None → IsWithin self.new }
     {
-        match line.kind {
-            Kind::Input(n) => self.add_input(alloc, n),
-            Kind::Output(n) => {
-                self.add_output(number, n)?;
-                Ok(())
-            }
-            Kind::Definition { net, driver, .. } => {
-                let driver = driver.unwrap_or(Driver::Flop);
-                self.add_definition(alloc, number, net, driver, line.operands)
-            }
-            _ => Ok(()),
+        if !is_short(net) {
+            return Ok(Some(rules::LONG_NAME));
         }
+        let rule = self.add_sound_name(number, net, 0)?;
+        if rule.is_none() {
+            self.add_input(alloc, net)?;
+        }
+        Ok(rule)
     }
 
-    // Adds the name of the net that the line of this number defines, or answers the lowest rule that the line breaks.
-    fn add_sound_names(
-        &mut self,
-        number: u64,
-        line: &Line<'_, 'a>,
-    ) -> Result<Option<u32>, AllocError>
-        requires driver { HasItsDriver line.now.kind }
-        requires within { IsWithin self.old }
-        ensures rule { IfOk result (λ r. r ≡ lowest (line_rules self.old.defined self.old.outputs (length self.old.uses.items) (has_refused_byte line.now.comment.now) (line_view line.now))) }
-        ensures added { result ≡ Ok None → AddsNames self.old self.new number (nets_of (line_view line.now)) }
-        ensures nets { result ≡ Ok None → length self.old.defined + length (nets_of (line_view line.now)) ≤ net_limit }
-        ensures pins { result ≡ Ok None → length self.old.uses.items + length (pins_of self.old.outputs (line_view line.now)) ≤ pin_limit }
+    // Takes the line of this number that names an output, or answers the lowest rule that it breaks.
+    fn take_output(&mut self, number: u64, net: &'a [u8]) -> Result<Option<u32>, AllocError>
+        requires { IsWithin self.old }
+        ensures rule { IfOk result (λ r. r ≡ lowest (form_rules self.old.defined self.old.outputs (length self.old.uses.items) (output net.now))) }
+        ensures taken { result ≡ Ok None → Takes self.old self.new number (output net.now) }
+        ensures within { result ≡ Ok None → IsWithin self.new }
     {
-        if let Some(rule) = own_rule(line) {
-            return Ok(Some(rule));
+        if !is_short(net) {
+            return Ok(Some(rules::LONG_NAME));
         }
-        // Rule 9 counts the nets before this line, but rule 6 is the lower one.
-        let is_past = self.is_passed_by(line);
-        if !self.add_names(number, line)? {
-            return Ok(Some(rules::DEFINED_TWICE));
-        }
-        if is_past {
+        if self.is_passed_by(0, 1) && !self.outputs.contains(net) {
             return Ok(Some(rules::TOO_MANY_NETS_OR_PINS));
         }
+        self.add_output(number, net)?;
         Ok(None)
+    }
+
+    // Takes the line of this number that defines a net otherwise, or answers the lowest rule that it breaks.
+    fn take_definition(
+        &mut self,
+        alloc: Global,
+        number: u64,
+        net: &'a [u8],
+        driver: Option<Driver>,
+        operands: &[&'a [u8]],
+    ) -> Result<Option<u32>, NoMemory>
+        requires { IsWithin self.old }
+        ensures rule { (word : List ℕ) → driver ≡ driver_named word → IfOk result (λ r. r ≡ lowest (form_rules self.old.defined self.old.outputs (length self.old.uses.items) (definition net.now word (nows operands.now)))) }
+        ensures taken { (word : List ℕ) → driver ≡ driver_named word → result ≡ Ok None → Takes self.old self.new number (definition net.now word (nows operands.now)) }
+        ensures within { result ≡ Ok None → IsWithin self.new }
+    {
+        let Some(driver) = driver else {
+            return Ok(Some(rules::UNKNOWN_WORD));
+        };
+        if has_wrong_count(driver, operands) {
+            return Ok(Some(rules::WRONG_COUNT));
+        }
+        if !is_short(net) || has_long(operands) {
+            return Ok(Some(rules::LONG_NAME));
+        }
+        let rule = self.add_sound_name(number, net, operands.len())?;
+        if rule.is_none() {
+            self.add_definition(alloc, number, net, driver, operands)?;
+        }
+        Ok(rule)
     }
 
     /// Takes the line of this number, or answers the lowest rule that it breaks. After a rule no more lines are to come.
@@ -358,15 +316,17 @@ impl<'a> NetlistDraft<'a> {
         ensures within { result ≡ Ok None → IsWithin self.new }
     {
         let (kind, comment) = Kind::of_line(operands, bytes)?;
-        let line = Line {
-            kind,
-            operands: &*operands,
-            comment,
-        };
-        let rule = self.add_sound_names(number, &line)?;
-        if rule.is_none() {
-            self.add(alloc, number, &line)?;
+        if has_refused_byte(comment) {
+            return Ok(Some(rules::REFUSED_BYTE));
         }
-        Ok(rule)
+        match kind {
+            Kind::Nothing => Ok(None),
+            Kind::Input(net) => self.take_input(alloc, number, net),
+            Kind::Output(net) => Ok(self.take_output(number, net)?),
+            Kind::Definition { net, driver, .. } => {
+                self.take_definition(alloc, number, net, driver, operands)
+            }
+            Kind::NoForm => Ok(Some(rules::NO_FORM)),
+        }
     }
 }

@@ -60,7 +60,7 @@ pub fn pins_of(alloc: Global, defined: &Names<'_>, uses: &[Use<'_>]) -> Result<R
             return Err(ReadFault::Text(TextFault { line, rule }));
         };
         let place = used.place;
-        pins.push(Pin { net, place })?;
+        pins.push_reserved(Pin { net, place });
     }
     Ok(Rows::from_vec(pins))
 }

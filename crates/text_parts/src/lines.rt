@@ -18,6 +18,8 @@ fn is_accepted(b: u8) -> bool
 }
 
 /// Whether the line has a byte that no text may have.
+// Within a loop over lines it would take the registers of what else stands there.
+#[inline(never)]
 pub fn has_refused_byte(line: &[u8]) -> bool
     ensures { result ≡ has_refused_byte line.now }
 {

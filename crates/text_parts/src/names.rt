@@ -130,6 +130,7 @@ impl<'a> Names<'a> {
     }
 
     /// Adds a name at the end, unless it is there already, and answers whether it is new.
+    #[inline(always)]
     pub fn add_if_new(&mut self, name: &'a [u8]) -> Result<bool, AllocError>
         ensures fresh { IfOk result (λ b. b ≡ not (list_any (bytes_eq name.now) self.old)) }
         ensures added { result ≡ Ok true → self.new ≡ self.old ++ name.now ∷ [] }
