@@ -13,15 +13,15 @@ use scan_model::{NoMemory, Rows};
 use std::alloc::Global;
 use std::thread::Threads;
 
-/// How few items are worth a thread of their own.
+/// How few items are worth a thread of their own, which needs a scratch as large as the circuit.
 fn least_size(kind: WorkKind) -> usize
     ensures { 0 < result }
 {
     match kind {
-        WorkKind::Nets => 64,
-        WorkKind::Pins => 1024,
-        WorkKind::Bridges => 32,
-        WorkKind::Cells => 64,
+        WorkKind::Nets => 512,
+        WorkKind::Pins => 4096,
+        WorkKind::Bridges => 256,
+        WorkKind::Cells => 256,
     }
 }
 
