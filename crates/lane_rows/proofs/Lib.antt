@@ -1,4 +1,5 @@
 pub mod BytePuts
+pub mod EightLanes
 pub mod WordValues
 pub mod GateFolds
 pub mod GatesInOrder

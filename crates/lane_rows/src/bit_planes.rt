@@ -1,8 +1,8 @@
 //! The lanes in which patterns drive nets with 1, or with 0: a word of bits for each net.
-ghost use Rattle.std.specs.Prelude.{◌≡◌, ℕ, ◌/◌, ◌%◌, ◌<◌, ◌≤◌, ◌==◌, false, if◌then◌else◌, length, slice_index, All, IfOk};
+ghost use Rattle.std.specs.Prelude.{◌≡◌, ℕ, ◌/◌, ◌%◌, ◌<◌, ◌≤◌, ◌==◌, true, false, if◌then◌else◌, length, slice_index, slice_index_or, All, IfOk};
 ghost use Rattle.scan_model.specs.ChainShift.{value_at};
 ghost use Rattle.lane_rows.specs.DrivenParts.{part_values, driven_value, HasPart, FitsPart};
-ghost use Rattle.lane_rows.specs.BitPlanes.{has_bit, is_in};
+ghost use Rattle.lane_rows.specs.BitPlanes.{has_bit, is_in, is_same, value_of};
 
 use scan_model::{NoMemory, Pattern, Tri};
 use std::alloc::Global;
@@ -34,14 +34,20 @@ fn values_of(pattern: &Pattern, part: DrivenPart) -> &[Tri]
     }
 }
 
-/// Whether a plane has the lanes of a value.
-fn is_in(plane: Plane, value: Tri) -> bool
-    ensures { result ≡ is_in plane value }
+/// The value whose lanes a plane has.
+fn value_of(plane: Plane) -> Tri
+    ensures { result ≡ value_of plane }
 {
     match plane {
-        Plane::Ones => matches!(value, Tri::One),
-        Plane::Zeros => matches!(value, Tri::Zero),
+        Plane::Ones => Tri::One,
+        Plane::Zeros => Tri::Zero,
     }
+}
+
+fn is_same(wanted: Tri, value: Tri) -> bool
+    ensures { result ≡ is_same wanted value }
+{
+    value == wanted
 }
 
 /// The byte with one bit, which was clear, set or not.
@@ -70,8 +76,75 @@ fn mark_lane(bytes: &mut [u8], values: &[Tri], plane: Plane, at: usize)
     ensures there { (i : ℕ) → has_bit (slice_index bytes.new i) at ≡ is_in plane (value_at values.now i) }
     ensures elsewhere { (i j : ℕ) → (j == at) ≡ false → has_bit (slice_index bytes.new i) j ≡ has_bit (slice_index bytes.old i) j }
 {
+    let wanted = value_of(plane);
     for i in 0..values.len() {
-        bytes[i] = with_bit(bytes[i], at, is_in(plane, values[i]));
+        bytes[i] = with_bit(bytes[i], at, is_same(wanted, values[i]));
+    }
+}
+
+/// Sets the lanes of a plane in up to eight patterns, pattern by pattern, in bytes that are clear.
+fn mark_lanes(bytes: &mut [u8], patterns: &[Pattern], part: DrivenPart, plane: Plane)
+    requires few { length patterns.now ≤ 8 }
+    requires fit { All (FitsPart part (length bytes.old)) patterns.now }
+    requires blank { (i j : ℕ) → j < 8 → has_bit (slice_index bytes.old i) j ≡ false }
+    ensures { (i j : ℕ) → j < 8 → has_bit (slice_index bytes.new i) j ≡ is_in plane (driven_value part patterns.now j i) }
+{
+    for at in 0..patterns.len() {
+        mark_lane(bytes, values_of(&patterns[at], part), plane, at);
+    }
+}
+
+/// Whether each pattern has a value for each of so many nets.
+fn are_full(patterns: &[Pattern], part: DrivenPart, nets: usize) -> bool
+    requires { All (HasPart part) patterns.now }
+    ensures { result ≡ true → All (λ p. length (part_values part p) ≡ nets) patterns.now }
+{
+    for pattern in patterns {
+        if values_of(pattern, part).len() != nets {
+            return false;
+        }
+    }
+    true
+}
+
+/// The byte of eight bits.
+fn byte_of(are_set: [bool; 8]) -> u8
+    ensures { (j : ℕ) → j < 8 → has_bit result j ≡ slice_index_or are_set j false }
+{
+    let mut byte = 0;
+    for at in 0..BYTE_PATTERNS {
+        byte = with_bit(byte, at, are_set[at]);
+    }
+    byte
+}
+
+/// Writes the lanes of a plane in eight patterns that have a value for each net.
+fn write_lanes(bytes: &mut [u8], patterns: &[Pattern], part: DrivenPart, plane: Plane)
+    requires eight { length patterns.now ≡ 8 }
+    requires has { All (HasPart part) patterns.now }
+    requires full { All (λ p. length (part_values part p) ≡ length bytes.old) patterns.now }
+    ensures { (i j : ℕ) → j < 8 → i < length bytes.old → has_bit (slice_index bytes.new i) j ≡ is_in plane (driven_value part patterns.now j i) }
+{
+    let wanted = value_of(plane);
+    let a = values_of(&patterns[0], part);
+    let b = values_of(&patterns[1], part);
+    let c = values_of(&patterns[2], part);
+    let d = values_of(&patterns[3], part);
+    let e = values_of(&patterns[4], part);
+    let f = values_of(&patterns[5], part);
+    let g = values_of(&patterns[6], part);
+    let h = values_of(&patterns[7], part);
+    for i in 0..bytes.len() {
+        bytes[i] = byte_of([
+            is_same(wanted, a[i]),
+            is_same(wanted, b[i]),
+            is_same(wanted, c[i]),
+            is_same(wanted, d[i]),
+            is_same(wanted, e[i]),
+            is_same(wanted, f[i]),
+            is_same(wanted, g[i]),
+            is_same(wanted, h[i]),
+        ]);
     }
 }
 
@@ -86,11 +159,13 @@ fn plane_bytes(
     requires few { length patterns.now ≤ 8 }
     requires fit { All (FitsPart part nets) patterns.now }
     ensures len { IfOk result (λ bytes. length bytes.items ≡ nets) }
-    ensures lanes { IfOk result (λ bytes. (i j : ℕ) → j < 8 → has_bit (slice_index bytes.items i) j ≡ is_in plane (driven_value part patterns.now j i)) }
+    ensures lanes { IfOk result (λ bytes. (i j : ℕ) → i < nets → j < 8 → has_bit (slice_index bytes.items i) j ≡ is_in plane (driven_value part patterns.now j i)) }
 {
     let mut bytes = vec![in alloc; 0u8; nets]?;
-    for at in 0..patterns.len() {
-        mark_lane(&mut bytes, values_of(&patterns[at], part), plane, at);
+    if patterns.len() == BYTE_PATTERNS && are_full(patterns, part, nets) {
+        write_lanes(&mut bytes, patterns, part, plane);
+    } else {
+        mark_lanes(&mut bytes, patterns, part, plane);
     }
     Ok(bytes)
 }

@@ -36,7 +36,7 @@ loop-at-preserved c =
               | inl inside ↦ get_or-take width rest k no_pattern (omega (arith, narrow, inside)) ∙ get_or-drop start patterns k no_pattern ∙ ap (λ (m : ℕ). get_or patterns m no_pattern) is
               | inr past ↦ get_or_past (take width rest) k no_pattern (omega (arith, len, past)) ∙ sym (get_or_past patterns j no_pattern (omega (arith, is, past, c.min-count.ensures)))
             ] in
-            there i j (omega (arith, as_many)) same ∙ c.in_ok-bytes.ensures.lanes i k (omega arith) ∙ ap (λ (p : Pattern). is_in c.args.plane (value_at (part_values c.args.part p) i)) pattern
+            there i j (omega (arith, as_many)) same ∙ c.in_ok-bytes.ensures.lanes i k in_nets (omega arith) ∙ ap (λ (p : Pattern). is_in c.args.plane (value_at (part_values c.args.part p) i)) pattern
       ]);
       blank = rw whole (λ i j le. elsewhere i j (ne_eqb (j / 8) at (λ e. omega arith)) ∙ c.loop-at.invariant.blank i j (omega arith));
     }
