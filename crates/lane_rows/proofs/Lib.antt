@@ -10,6 +10,7 @@ pub mod GoodBlocks
 pub mod RowsOfTest
 pub mod SortedGroups
 pub mod RenamedGroups
+pub mod LiveReads
 pub mod Once
 pub mod Sinks
 pub mod Written

@@ -15,7 +15,7 @@ use Rattle.scan_model.proofs.Along.{in_front}
 use Rattle.scan_model.proofs.Orders.{filter_range_at, filter_range_all, Contains-cons}
 use Rattle.scan_model.proofs.FanSweeps.{any_found, fan_node, is_read, reads_in_range}
 use Rattle.lane_rows.specs.Wiring.{LeadsUp, sinks_of}
-use Rattle.lane_rows.specs.Wiring.{AreMarked, IsMadeFor, sink_key, sink_gate, place_key, place_gate}
+use Rattle.lane_rows.specs.Wiring.{AreMarked, AreLiveReads, IsMadeFor, sink_key, place_key, place_gate}
 use Rattle.lane_rows.proofs.Once.{places_agree}
 
 read_found : (c : Netlist) (p : ℕ → Bool) (n : ℕ) (x : Driver) → any_read c x p n ≡ true → (is_gate_driver x ≡ true) × ((r : ℕ) × Contains (reads c n) r × (p r ≡ true))
@@ -102,10 +102,9 @@ module _ (c : Netlist) (sound : IsNetlist c) where
 
   module _ (order places names keys : List ℕ) (marked : ℕ → Bool) (sinks : List (List ℕ)) (ordered : IsEvaluationOrder c order)
       (placed : (k : ℕ) → k < length order → get_or places (get_or order k 0) 0 ≡ k)
-      (named : (p : ℕ) → p < length c.pins → get_or names p 0 ≡ get_or places (sink_gate c p) 0)
-      (keyed : (p : ℕ) → p < length c.pins → get_or keys p 0 ≡ sink_key c marked p) (keys_len : length keys ≡ length c.pins)
-      (len : length sinks ≡ length c.nets + 1)
-      (grouped : (n : ℕ) → n < length c.nets + 1 → get_or sinks n [] ≡ map (λ p. get_or names p 0) (filter (λ p. eqb (get_or keys p 0) n) (range_with_len 0 (length keys)))) where
+      (live_reads : AreLiveReads c marked places (length c.pins) keys names)
+      (len : length sinks ≡ length c.nets)
+      (grouped : (n : ℕ) → n < length c.nets → get_or sinks n [] ≡ map (λ i. get_or names i 0) (filter (λ i. eqb (get_or keys i 0) n) (range_with_len 0 (length keys)))) where
     -- a pin of the group of a net is an operand of a gate
     record IsSink (n k p : ℕ) : Type 0 where
       gate : ℕ
@@ -131,14 +130,16 @@ module _ (c : Netlist) (sound : IsNetlist c) where
 
     sink_at : (n k : ℕ) → n < length c.nets → Contains (sinks_of sinks n) k → (g : ℕ) × (g < length c.nets) × (is_gate c g ≡ true) × Contains (reads c g) n × (get_or places g 0 ≡ k)
     sink_at n k lt sink =
-        let pin = out_of_map (λ p. get_or names p 0) (filter (λ p. eqb (get_or keys p 0) n) (range_with_len 0 (length keys))) k (subst (λ (xs : List ℕ). Contains xs k) (grouped n (omega arith)) sink) in
+        let read = out_of_map (λ i. get_or names i 0) (filter (λ i. eqb (get_or keys i 0) n) (range_with_len 0 (length keys))) k (subst (λ (xs : List ℕ). Contains xs k) (grouped n lt) sink) in
+        let at = read.1 in
+        let facts = filter_range_at (λ i. eqb (get_or keys i 0) n) 0 (length keys) at.0 read.0 at.1 in
+        let in_range : read.0 < length keys = omega (arith, facts.1, at.2) in
+        let pin = live_reads.each read.0 in_range in
         let p = pin.0 in
-        let at = pin.1 in
-        let facts = filter_range_at (λ q. eqb (get_or keys q 0) n) 0 (length keys) at.0 p at.1 in
-        let in_range : p < length c.pins = omega (arith, facts.1, at.2, keys_len) in
-        let key : sink_key c marked p ≡ n = sym (keyed p in_range) ∙ eqb-true (get_or keys p 0) n (ap (λ (q : ℕ). eqb (get_or keys q 0) n) (sym at.2) ∙ facts.2) in
-        let is = sink_by_place n p (pin_at c p).place lt (sound.pin_places p in_range) key in
-        (is.gate, is.gate_lt, is.is_a_gate, is.reads_it, is.stands ∙ sym (named p in_range) ∙ pin.2)
+        let stands : get_or keys read.0 0 ≡ n = eqb-true (get_or keys read.0 0) n (ap (λ (i : ℕ). eqb (get_or keys i 0) n) (sym at.2) ∙ facts.2) in
+        let key : sink_key c marked p ≡ n = pin.2 ∙ stands in
+        let is = sink_by_place n p (pin_at c p).place lt (sound.pin_places p pin.1) key in
+        (is.gate, is.gate_lt, is.is_a_gate, is.reads_it, is.stands ∙ sym pin.3 ∙ read.2)
 
     place_in : (n k : ℕ) → n < length c.nets → Contains (sinks_of sinks n) k → (k < length order) × Contains (reads c (get_or order k 0)) n
     place_in n k lt sink =
@@ -178,8 +179,10 @@ module _ (c : Netlist) (sound : IsNetlist c) where
             let p = (net_at c g).first_pin + op.0 in
             let in_range : p < length c.pins = omega (arith, sound.operand_range g g_lt, op.1) in
             let at : (pin_at c p).place ≡ place.Operand g op.0 = sound.operand_places g op.0 g_lt op.1 in
-            let key : get_or keys p 0 ≡ n = keyed p in_range ∙ ap (λ (x : PinPlace). place_key c marked x (pin_at c p).net) at ∙ ap (λ (b : Bool). cond b (pin_at c p).net (length c.nets)) (and_from (is_gate c g) (marked g) gate live) ∙ op.2 in
-            let name : get_or names p 0 ≡ k = named p in_range ∙ ap (λ (x : PinPlace). get_or places (place_gate x) 0) at ∙ ap (λ (x : ℕ). get_or places x 0) (sym is) ∙ placed k lt in
-            let listed = filter_range_all (λ q. eqb (get_or keys q 0) n) 0 (length keys) p (omega arith) (omega (arith, in_range, keys_len)) (eq-eqb (get_or keys p 0) n key) in
-            subst (λ (xs : List ℕ). Contains xs k) (sym (grouped n (omega arith)))
-            (subst (λ (x : ℕ). Contains (map (λ q. get_or names q 0) (filter (λ q. eqb (get_or keys q 0) n) (range_with_len 0 (length keys)))) x) name (in_map (λ q. get_or names q 0) (filter (λ q. eqb (get_or keys q 0) n) (range_with_len 0 (length keys))) p listed))
+            let key : sink_key c marked p ≡ n = ap (λ (x : PinPlace). place_key c marked x (pin_at c p).net) at ∙ ap (λ (b : Bool). cond b (pin_at c p).net (length c.nets)) (and_from (is_gate c g) (marked g) gate live) ∙ op.2 in
+            let entry = live_reads.all p in_range (omega (arith, key, n_lt)) in
+            let e = entry.0 in
+            let name : get_or names e 0 ≡ k = entry.3 ∙ ap (λ (x : PinPlace). get_or places (place_gate x) 0) at ∙ ap (λ (x : ℕ). get_or places x 0) (sym is) ∙ placed k lt in
+            let listed = filter_range_all (λ i. eqb (get_or keys i 0) n) 0 (length keys) e (omega arith) (omega (arith, entry.1)) (eq-eqb (get_or keys e 0) n (sym entry.2 ∙ key)) in
+            subst (λ (xs : List ℕ). Contains xs k) (sym (grouped n n_lt))
+            (subst (λ (x : ℕ). Contains (map (λ i. get_or names i 0) (filter (λ i. eqb (get_or keys i 0) n) (range_with_len 0 (length keys)))) x) name (in_map (λ i. get_or names i 0) (filter (λ i. eqb (get_or keys i 0) n) (range_with_len 0 (length keys))) e listed))

@@ -29,14 +29,7 @@ placed_so_far places order k inside once so_far i lt =
       | inr before ↦ let lower : i < k = omega (arith, before) in get_or-set_other places net (get_or order i 0) k 0 (once i lower) ∙ so_far i lower
     ]
 
--- one number more at the end
-pub one_more : (f : ℕ → ℕ) (xs : List ℕ) (x k : ℕ) → length xs ≡ k → x ≡ f k → ((p : ℕ) → p < k → get_or xs p 0 ≡ f p)
-    → (p : ℕ) → p < k + 1 → get_or (xs ++ x ∷ []) p 0 ≡ f p
-one_more f xs x k len is so_far p lt = elim (cases_eq p k) [
-  | inl here ↦ ap (λ (m : ℕ). get_or (xs ++ x ∷ []) m 0) here ∙ get_or_push xs x 0 k len ∙ is ∙ ap f (sym here)
-  | inr before ↦ get_or_append_left xs (x ∷ []) 0 p (omega (arith, len, before)) ∙ so_far p (omega (arith, before))
-]
-
+-- one number more at the end, which lies below the bound too
 pub one_below : (xs : List ℕ) (x bound : ℕ) → x < bound → All (λ y. y < bound) xs → All (λ y. y < bound) (xs ++ x ∷ [])
 one_below xs x bound small all i d lt = elim (cases_lt i (length xs)) [
   | inl inside ↦ rw (get_or_append_left xs (x ∷ []) d i inside) (all i d inside)

@@ -1,5 +1,5 @@
 -- The wiring: the gates that lead to an observed net, in order, and those of them that read each net.
-use Rattle.std.specs.Prelude.{◌≡◌, ℕ, ◌<◌, ◌≤◌, List, [], length, cond, Bool, true, ◌&&◌, Contains, slice_index, slice_index_or}
+use Rattle.std.specs.Prelude.{◌≡◌, ℕ, ◌<◌, ◌≤◌, List, [], length, cond, Bool, true, ◌&&◌, All, Contains, slice_index, slice_index_or}
 use Rattle.scan_model.specs.declared.circuit.PinPlace.{PinPlace}
 use Rattle.scan_model.specs.declared.circuit.PinPlace.TheVariants.{Operand, Output}
 use Rattle.scan_model.specs.Netlist.{Netlist, is_gate, reads, pin_at}
@@ -45,6 +45,14 @@ place_gate (Output k) = 0
 -- the net of which a pin is an operand
 abbrev pub sink_gate : Netlist → ℕ → ℕ
 sink_gate c p = place_gate (pin_at c p).place
+
+-- The nets that operands of gates with a mark see, and beside each the place of the gate; of the first pins.
+pub record AreLiveReads (c : Netlist) (marked : ℕ → Bool) (places : List ℕ) (end : ℕ) (nets at : List ℕ) : Type 0 where
+  pub few : length nets ≤ end
+  pub same : length at ≡ length nets
+  pub within : All (λ n. n < length c.nets) nets
+  pub each : (i : ℕ) → i < length nets → (p : ℕ) × (p < end) × (sink_key c marked p ≡ slice_index nets i) × (slice_index at i ≡ slice_index places (sink_gate c p))
+  pub all : (p : ℕ) → p < end → sink_key c marked p < length c.nets → (i : ℕ) × (i < length nets) × (sink_key c marked p ≡ slice_index nets i) × (slice_index at i ≡ slice_index places (sink_gate c p))
 
 -- Wiring in which the gates with a mark wait for what they read.
 pub record IsMadeFor (c : Netlist) (order : List ℕ) (marked : ℕ → Bool) (sinks : List (List ℕ)) : Type 0 where

@@ -1,10 +1,10 @@
 //! An order of evaluation of the gates, and for each net the gates that read it.
-ghost use Rattle.std.specs.Prelude.{◌≡◌, ◌≢◌, ◌||◌, ◌==◌, ℕ, ◌+◌, ◌<◌, ◌≤◌, ◌^◌, true, false, Contains, length, All, IfOk, IsTrue, slice_index};
+ghost use Rattle.std.specs.Prelude.{◌≡◌, ◌≢◌, ◌||◌, ◌==◌, ℕ, ◌+◌, ◌<◌, ◌≤◌, ◌^◌, true, false, Contains, length, All, IfOk, OnOk, IsTrue, slice_index};
 ghost use Rattle.std.specs.List.{list_any};
 ghost use Rattle.scan_model.specs.Netlist.{is_gate, is_gate_net, reads, pin_at};
 ghost use Rattle.scan_model.specs.Walks.{IsEvaluationOrder};
 ghost use Rattle.scan_model.specs.Marks.{is_marked};
-ghost use Rattle.lane_rows.specs.Wiring.{AreMarked, IsMadeFor, IsWiredFor, sink_key, sink_gate};
+ghost use Rattle.lane_rows.specs.Wiring.{AreMarked, AreLiveReads, IsMadeFor, IsWiredFor, sink_key, sink_gate};
 
 use crate::groups::{Groups, name_at};
 use scan_model::{Circuit, Driver, Net, NoMemory, Pin, PinPlace};
@@ -147,27 +147,54 @@ fn place_of(circuit: &Circuit, places: &[u32], pin: u32) -> u32
     name_at(places, gate)
 }
 
-fn keys_of(alloc: Global, circuit: &Circuit, marks: &[bool]) -> Result<Vec<u32>, NoMemory>
-    requires { length marks.now ≡ length circuit.now.nets }
-    ensures len { IfOk result (λ keys. length keys.items ≡ length circuit.now.pins) }
-    ensures keys { IfOk result (λ keys. (p : ℕ) → p < length circuit.now.pins → slice_index keys.items p ≡ sink_key circuit.now (is_marked marks.now) p) }
-    ensures range { IfOk result (λ keys. All (λ k. k < length circuit.now.nets + 1) keys.items) }
-{
-    let mut keys = Vec::with_capacity(alloc, circuit.pins().len())?;
-    for pin in 0..circuit.pins().len() {
-        keys.push(key_of(circuit, marks, pin as u32))?;
-    }
-    Ok(keys)
+/// The nets that operands of gates with a mark see, and beside each the place of the gate.
+#[derive(Drop)]
+struct LiveReads {
+    nets: Vec<u32>,
+    places: Vec<u32>,
 }
 
-fn pin_places(alloc: Global, circuit: &Circuit, places: &[u32]) -> Result<Vec<u32>, NoMemory>
-    ensures { IfOk result (λ names. (p : ℕ) → p < length circuit.now.pins → slice_index names.items p ≡ slice_index places.now (sink_gate circuit.now p)) }
-{
-    let mut names = Vec::with_capacity(alloc, circuit.pins().len())?;
-    for pin in 0..circuit.pins().len() {
-        names.push(place_of(circuit, places, pin as u32))?;
+impl LiveReads {
+    /// Adds the net that a pin sees, where the pin is an operand of a gate with a mark.
+    fn add_pin(
+        &mut self,
+        circuit: &Circuit,
+        marks: &[bool],
+        places: &[u32],
+        pin: u32,
+    ) -> Result<(), NoMemory>
+        requires pin { pin < length circuit.now.pins }
+        requires marks { length marks.now ≡ length circuit.now.nets }
+        requires reads { AreLiveReads circuit.now (is_marked marks.now) places.now pin self.old.nets.items self.old.places.items }
+        ensures { OnOk result (AreLiveReads circuit.now (is_marked marks.now) places.now (pin + 1) self.new.nets.items self.new.places.items) }
+    {
+        let key = key_of(circuit, marks, pin);
+        if key as usize >= marks.len() {
+            return Ok(());
+        }
+        self.nets.push(key)?;
+        self.places.push(place_of(circuit, places, pin))?;
+        Ok(())
     }
-    Ok(names)
+}
+
+fn live_reads(
+    alloc: Global,
+    circuit: &Circuit,
+    marks: &[bool],
+    places: &[u32],
+) -> Result<LiveReads, NoMemory>
+    requires marks { length marks.now ≡ length circuit.now.nets }
+    ensures { IfOk result (λ reads. AreLiveReads circuit.now (is_marked marks.now) places.now (length circuit.now.pins) reads.nets.items reads.places.items) }
+{
+    let mut reads = LiveReads {
+        nets: Vec::new(alloc),
+        places: Vec::new(alloc),
+    };
+    for pin in 0..circuit.pins().len() {
+        reads.add_pin(circuit, marks, places, pin as u32)?;
+    }
+    Ok(reads)
 }
 
 /// For each net the places of the gates with a mark that read it.
@@ -183,10 +210,9 @@ fn sinks_of(
 {
     let nets = circuit.nets().len();
     let places = places_of(alloc, order, nets)?;
-    let keys = keys_of(alloc, circuit, marks)?;
-    let names = pin_places(alloc, circuit, &places)?;
-    let pins = Groups::of(alloc, &keys, nets + 1)?;
-    let sinks = pins.renamed(alloc, &names)?;
+    let reads = live_reads(alloc, circuit, marks, &places)?;
+    let groups = Groups::of(alloc, &reads.nets, nets)?;
+    let sinks = groups.renamed(alloc, &reads.places)?;
     Ok(sinks)
 }
 

@@ -1,4 +1,4 @@
-use Rattle.std.proofs.Common.{◌≡◌, ◌+◌, ◌<◌, length, map, get_or, ap, ◌∙◌, arith}
+use Rattle.std.proofs.Common.{◌≡◌, ◌<◌, length, map, get_or, ap, ◌∙◌, arith}
 use Rattle.scan_model.specs.Marks.{is_marked}
 use Rattle.lane_rows.proofs.Once.{once, order_short}
 use Rattle.lane_rows.proofs.Sinks.{made_for}
@@ -12,16 +12,15 @@ places_of-requires-clause-once c = once c.args.circuit.now c.args.order.now c.re
 
 pub returns : goal.returns
 returns c =
-    let names = c.in_ok-names.names.items in
-    let keys = c.in_ok-keys.keys.items in
+    let names = c.in_ok-reads.reads.places.items in
+    let keys = c.in_ok-reads.reads.nets.items in
     let count : c.len-nets.result ≡ length c.args.circuit.now.nets = c.len-nets.ensures ∙ ap length c.nets.ensures.value in
     made_for c.args.circuit.now c.nets.ensures.circuit.netlist c.args.order.now c.in_ok-places.places.items names keys (is_marked c.args.marks.now) c.in_ok-sinks.sinks c.requires.order
     c.in_ok-places.ensures
-    (rw c.deref.ensures.value at c.in_ok-names.ensures)
-    c.in_ok-keys.ensures.keys c.in_ok-keys.ensures.len
-    (omega (arith, c.in_ok-sinks.ensures.len, c.in_ok-pins.ensures.len, count))
+    (rw c.deref.ensures.value at c.in_ok-reads.ensures)
+    (omega (arith, c.in_ok-sinks.ensures.len, c.in_ok-groups.ensures.len, count))
     (λ n lt.
-    let inside : n < c.len-nets.result + 1 = omega (arith, count) in
-    let within : n < length c.in_ok-pins.pins = omega (arith, c.in_ok-pins.ensures.len) in
+    let inside : n < c.len-nets.result = omega (arith, count) in
+    let within : n < length c.in_ok-groups.groups = omega (arith, c.in_ok-groups.ensures.len) in
     (rw c.deref-3.ensures.value at (c.in_ok-sinks.ensures.groups n within))
-    ∙ ap (map (λ p. get_or names p 0)) (rw c.deref-2.ensures.value at (c.in_ok-pins.ensures.groups n inside)))
+    ∙ ap (map (λ i. get_or names i 0)) (rw c.deref-2.ensures.value at (c.in_ok-groups.ensures.groups n inside)))
