@@ -39,6 +39,14 @@ fn push_upstream(
     Ok(())
 }
 
+fn owns_suspect(owners: &Groups, net: u32) -> bool
+    requires { net < length owners.now }
+    ensures none { result ≡ false → length (slice_index_or owners.now net []) ≡ 0 }
+    ensures some { result ≡ true → 0 < length (slice_index_or owners.now net []) }
+{
+    !owners.group(net).is_empty()
+}
+
 impl Listing {
     fn new(alloc: Global, parts: &Parts) -> Result<Listing, NoMemory>
         ensures { IfOk result (λ listing. (owners : List (List ℕ)) → IsListing owners (length parts.now.netlist.nets) listing) }
@@ -71,7 +79,7 @@ impl Listing {
             return Ok(());
         }
         self.seen[net as usize] = true;
-        if owners.group(net).is_empty() {
+        if !owns_suspect(owners, net) {
             return Ok(());
         }
         self.nets.push(net)?;
@@ -104,6 +112,28 @@ impl Listing {
         Ok(())
     }
 
+    /// Lists a net that owns a suspect, and what is upstream of it in its region.
+    fn put_owner(
+        &mut self,
+        parts: &Parts,
+        reads: &[Reads],
+        owners: &Groups,
+        net: u32,
+    ) -> Result<(), NoMemory>
+        requires reads { AreReads parts.now reads.now }
+        requires owners { length owners.now ≡ length parts.now.netlist.nets + 3 }
+        requires net { net < length parts.now.netlist.nets }
+        requires listing { IsListing owners.now (length parts.now.netlist.nets) self.old }
+        ensures listing { OnOk result (IsListing owners.now (length parts.now.netlist.nets) self.new) }
+        ensures seen { OnOk result (0 < length (slice_index_or owners.now net []) → slice_index_or self.new.seen.items net false ≡ true) }
+        ensures kept { OnOk result ((n : ℕ) → slice_index_or self.old.seen.items n false ≡ true → slice_index_or self.new.seen.items n false ≡ true) }
+    {
+        if !owns_suspect(owners, net) {
+            return Ok(());
+        }
+        self.put_region(parts, reads, owners, net)
+    }
+
     /// Lists the gates, from the last that is evaluated on, each with its region.
     fn put_gates(&mut self, parts: &Parts, reads: &[Reads], owners: &Groups) -> Result<(), NoMemory>
         requires reads { AreReads parts.now reads.now }
@@ -113,22 +143,22 @@ impl Listing {
     {
         let order = parts.circuit().order().as_slice();
         for k in 0..order.len() {
-            self.put_region(parts, reads, owners, order[order.len() - 1 - k])?;
+            self.put_owner(parts, reads, owners, order[order.len() - 1 - k])?;
         }
         Ok(())
     }
 
-    /// Lists all nets that weren't seen.
+    /// Lists all nets that own a suspect and weren't seen.
     fn put_all(&mut self, parts: &Parts, reads: &[Reads], owners: &Groups) -> Result<(), NoMemory>
         requires reads { AreReads parts.now reads.now }
         requires owners { length owners.now ≡ length parts.now.netlist.nets + 3 }
         requires listing { IsListing owners.now (length parts.now.netlist.nets) self.old }
         ensures listing { OnOk result (IsListing owners.now (length parts.now.netlist.nets) self.new) }
-        ensures all { OnOk result ((n : ℕ) → n < length parts.now.netlist.nets → slice_index_or self.new.seen.items n false ≡ true) }
+        ensures all { OnOk result ((n : ℕ) → n < length parts.now.netlist.nets → 0 < length (slice_index_or owners.now n []) → slice_index_or self.new.seen.items n false ≡ true) }
     {
         let count = parts.circuit().nets().len() as u32;
         for net in 0..count {
-            self.put_region(parts, reads, owners, net)?;
+            self.put_owner(parts, reads, owners, net)?;
         }
         Ok(())
     }
