@@ -115,13 +115,13 @@ module _ (c : Netlist) (sound : IsNetlist c) where
 
     sink_by_place : (n p : ℕ) (x : PinPlace) → n < length c.nets → IsPlacedAt c p x → place_key c marked x (pin_at c p).net ≡ n → IsSink n (get_or places (place_gate x) 0) p
     sink_by_place n p (place.Output k) lt at key = absurd (omega arith)
-    sink_by_place n p (place.Operand g i) lt at key = elim (cases_Bool (is_gate c g && marked g)) [
+    sink_by_place n p (place.Operand g i) lt at key = elim (cases_Bool (marked g && is_gate c g)) [
       | inl live ↦
           let net : (pin_at c p).net ≡ n = ap (λ (b : Bool). cond b (pin_at c p).net (length c.nets)) (sym live) ∙ key in
           record {
             gate = g;
             gate_lt = at.0;
-            is_a_gate = (and_parts (is_gate c g) (marked g) live).0;
+            is_a_gate = (and_parts (marked g) (is_gate c g) live).1;
             reads_it = subst (λ (x : ℕ). Contains (reads c g) x) (ap (λ (q : ℕ). (pin_at c q).net) (sym at.2) ∙ net) (is_read c g i at.1);
             stands = refl;
           }
@@ -179,7 +179,7 @@ module _ (c : Netlist) (sound : IsNetlist c) where
             let p = (net_at c g).first_pin + op.0 in
             let in_range : p < length c.pins = omega (arith, sound.operand_range g g_lt, op.1) in
             let at : (pin_at c p).place ≡ place.Operand g op.0 = sound.operand_places g op.0 g_lt op.1 in
-            let key : sink_key c marked p ≡ n = ap (λ (x : PinPlace). place_key c marked x (pin_at c p).net) at ∙ ap (λ (b : Bool). cond b (pin_at c p).net (length c.nets)) (and_from (is_gate c g) (marked g) gate live) ∙ op.2 in
+            let key : sink_key c marked p ≡ n = ap (λ (x : PinPlace). place_key c marked x (pin_at c p).net) at ∙ ap (λ (b : Bool). cond b (pin_at c p).net (length c.nets)) (and_from (marked g) (is_gate c g) live gate) ∙ op.2 in
             let entry = live_reads.all p in_range (omega (arith, key, n_lt)) in
             let e = entry.0 in
             let name : get_or names e 0 ≡ k = entry.3 ∙ ap (λ (x : PinPlace). get_or places (place_gate x) 0) at ∙ ap (λ (x : ℕ). get_or places x 0) (sym is) ∙ placed k lt in

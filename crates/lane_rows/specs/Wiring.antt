@@ -31,7 +31,7 @@ pub record AreMarked (c : Netlist) (nets : List ℕ) (marked : ℕ → Bool) : T
   pub closed : (g n : ℕ) → g < length c.nets → is_gate c g ≡ true → marked g ≡ true → Contains (reads c g) n → marked n ≡ true
 
 abbrev pub place_key : Netlist → (ℕ → Bool) → PinPlace → ℕ → ℕ
-place_key c marked (Operand g i) net = cond (is_gate c g && marked g) net (length c.nets)
+place_key c marked (Operand g i) net = cond (marked g && is_gate c g) net (length c.nets)
 place_key c marked (Output k) net = length c.nets
 
 -- the net of a pin that is an operand of a gate with a mark, else one past the nets

@@ -128,7 +128,7 @@ fn key_of(circuit: &Circuit, marks: &[bool], pin: u32) -> u32
     let nets = circuit.nets().as_slice();
     let pin = circuit.pins().as_slice()[pin as usize];
     if let PinPlace::Operand { net, .. } = pin.place {
-        if has_gate(nets, net) && marks[net as usize] {
+        if marks[net as usize] && has_gate(nets, net) {
             return pin.net;
         }
     }
@@ -187,10 +187,9 @@ fn live_reads(
     requires marks { length marks.now ≡ length circuit.now.nets }
     ensures { IfOk result (λ reads. AreLiveReads circuit.now (is_marked marks.now) places.now (length circuit.now.pins) reads.nets.items reads.places.items) }
 {
-    let mut reads = LiveReads {
-        nets: Vec::new(alloc),
-        places: Vec::new(alloc),
-    };
+    let nets = Vec::with_capacity(alloc, circuit.pins().len())?;
+    let at = Vec::with_capacity(alloc, circuit.pins().len())?;
+    let mut reads = LiveReads { nets, places: at };
     for pin in 0..circuit.pins().len() {
         reads.add_pin(circuit, marks, places, pin as u32)?;
     }
