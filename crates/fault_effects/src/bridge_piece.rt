@@ -1,14 +1,14 @@
-//! What bridges come to in a block: two flips serve the faults of a pair.
+//! What bridges come to in a block: the flips of a pair's nets serve all its faults, and are kept for other pairs.
 ghost use Rattle.std.specs.Prelude.{◌≡◌, ℕ, ◌+◌, ◌<◌, All, length, OnOk, IfOk};
 ghost use Rattle.scan_model.specs.ScanTest.{HasSite};
 ghost use Rattle.scan_model.specs.declared.fault.Fault.TheVariants as fault;
-ghost use Rattle.fault_effects.specs.CachedFlips.{IsCachedFlip, ArePairFlips};
+ghost use Rattle.fault_effects.specs.CachedFlips.{AreKeptFlips};
 ghost use Rattle.fault_effects.specs.Owners.{IsOwned, suspect_at};
 ghost use Rattle.fault_effects.specs.Shares.{Shares, IsAmong, suspect_fails};
 ghost use Rattle.fault_effects.specs.SoundWork.{IsSound};
 
 use crate::block_work::BlockWork;
-use crate::cached_flip::{CachedFlip, keep};
+use crate::kept_flips::{KeptFlips, no_flips, part_in};
 use crate::observer::Observer;
 use crate::share::Share;
 use packed_sim::Scratch;
@@ -16,12 +16,8 @@ use scan_model::{BridgeKind, Fault, NoMemory, Rows, Steps};
 use std::alloc::Global;
 use std::sync::ledger::Ledger;
 
-/// Where flips of the nets of the last bridges show: of the net of the lower number, and of the other.
-#[derive(Drop)]
-struct PairFlips<F> {
-    low: CachedFlip<F>,
-    high: CachedFlip<F>,
-}
+/// At most so many flips are kept.
+const MOST_KEPT: usize = 256;
 
 /// A bridge's nets and its kind.
 #[derive(Clone, Copy)]
@@ -35,59 +31,26 @@ struct BridgeFault {
 fn bridge_part<O: Observer, L: Ledger>(
     work: &BlockWork<'_, O>,
     scratch: &mut Scratch,
-    first: &mut CachedFlip<O::Flip>,
-    second: &mut CachedFlip<O::Flip>,
+    kept: &mut KeptFlips<O::Flip>,
     bridged: BridgeFault,
     steps: &mut Steps<L>,
 ) -> Result<O::Part, NoMemory>
     requires work { IsSound O.test O.model O.block O.clean O.ready work.now }
     requires scratch { O.clean work.now.observer.now scratch.old }
-    requires first { IsCachedFlip (O.holds work.now.observer.now) (O.model work.now.observer.now) (O.block work.now.observer.now) first.old }
-    requires second { IsCachedFlip (O.holds work.now.observer.now) (O.model work.now.observer.now) (O.block work.now.observer.now) second.old }
+    requires kept { AreKeptFlips (O.holds work.now.observer.now) (O.model work.now.observer.now) (O.block work.now.observer.now) kept.old }
     requires site { HasSite work.now.parts.now (fault.Bridge bridged.a bridged.b bridged.kind) }
     ensures scratch { O.clean work.now.observer.now scratch.new }
-    ensures first { OnOk result (IsCachedFlip (O.holds work.now.observer.now) (O.model work.now.observer.now) (O.block work.now.observer.now) first.new) }
-    ensures second { OnOk result (IsCachedFlip (O.holds work.now.observer.now) (O.model work.now.observer.now) (O.block work.now.observer.now) second.new) }
+    ensures kept { OnOk result (AreKeptFlips (O.holds work.now.observer.now) (O.model work.now.observer.now) (O.block work.now.observer.now) kept.new) }
     ensures part { IfOk result (λ part. (i : ℕ) → i < length work.now.suspects.now → (suspect_at work.now.suspects.now i).fault ≡ fault.Bridge bridged.a bridged.b bridged.kind
         → O.means work.now.observer.now part (suspect_fails (O.model work.now.observer.now) (O.block work.now.observer.now) work.now.suspects.now i)) }
 {
     let BridgeFault { a, b, kind } = bridged;
-    keep(work, scratch, first, a, steps)?;
-    keep(work, scratch, second, b, steps)?;
     let fault = Fault::Bridge { a, b, kind };
-    let of_first = work
-        .observer
-        .part(&first.flip, work.observer.mask(&fault, a));
-    let of_second = work
-        .observer
-        .part(&second.flip, work.observer.mask(&fault, b));
+    let first_lanes = work.observer.mask(&fault, a);
+    let second_lanes = work.observer.mask(&fault, b);
+    let of_first = part_in(work, scratch, kept, a, first_lanes, steps)?;
+    let of_second = part_in(work, scratch, kept, b, second_lanes, steps)?;
     Ok(work.observer.both(of_first, of_second))
-}
-
-/// The part of a bridge fault, from the flips of its two nets. Those that are kept from the fault before serve again: the faults
-/// of a pair, and mostly pairs of one net, come one after another.
-fn pair_part<O: Observer, L: Ledger>(
-    work: &BlockWork<'_, O>,
-    scratch: &mut Scratch,
-    kept: &mut PairFlips<O::Flip>,
-    bridged: BridgeFault,
-    steps: &mut Steps<L>,
-) -> Result<O::Part, NoMemory>
-    requires work { IsSound O.test O.model O.block O.clean O.ready work.now }
-    requires scratch { O.clean work.now.observer.now scratch.old }
-    requires kept { ArePairFlips (O.holds work.now.observer.now) (O.model work.now.observer.now) (O.block work.now.observer.now) kept.old }
-    requires site { HasSite work.now.parts.now (fault.Bridge bridged.a bridged.b bridged.kind) }
-    ensures scratch { O.clean work.now.observer.now scratch.new }
-    ensures kept { OnOk result (ArePairFlips (O.holds work.now.observer.now) (O.model work.now.observer.now) (O.block work.now.observer.now) kept.new) }
-    ensures part { IfOk result (λ part. (i : ℕ) → i < length work.now.suspects.now → (suspect_at work.now.suspects.now i).fault ≡ fault.Bridge bridged.a bridged.b bridged.kind
-        → O.means work.now.observer.now part (suspect_fails (O.model work.now.observer.now) (O.block work.now.observer.now) work.now.suspects.now i)) }
-{
-    let (low, high) = (&mut kept.low, &mut kept.high);
-    if bridged.a < bridged.b {
-        bridge_part(work, scratch, low, high, bridged, steps)
-    } else {
-        bridge_part(work, scratch, high, low, bridged, steps)
-    }
 }
 
 /// Adds the shares of the suspects that are bridges.
@@ -106,16 +69,14 @@ pub(crate) fn share_bridges<O: Observer, L: Ledger>(
     ensures shares { OnOk result (Shares (O.means work.now.observer.now) (O.model work.now.observer.now) (O.block work.now.observer.now) work.now.suspects.now (IsAmong group.now (length group.now)) shares.old shares.new) }
 {
     let _ = work.parts.circuit();
-    let mut kept = PairFlips {
-        low: CachedFlip::new(work.observer.new_flip(alloc)),
-        high: CachedFlip::new(work.observer.new_flip(alloc)),
-    };
+    let count = group.len().clamp(1, MOST_KEPT);
+    let mut kept = no_flips(alloc, work.observer, count)?;
     for item in group {
         let suspect = work.suspects[*item as usize];
         let Fault::Bridge { a, b, kind } = suspect.fault else {
             unreachable!()
         };
-        let part = pair_part(work, scratch, &mut kept, BridgeFault { a, b, kind }, steps)?;
+        let part = bridge_part(work, scratch, &mut kept, BridgeFault { a, b, kind }, steps)?;
         shares.push(Share {
             suspect: *item,
             part,

@@ -7,6 +7,7 @@ mod bridge_piece;
 mod cached_flip;
 mod cell_shares;
 mod flip_order;
+mod kept_flips;
 mod loaded_chain;
 mod net_piece;
 mod notes;

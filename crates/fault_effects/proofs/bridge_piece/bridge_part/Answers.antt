@@ -8,29 +8,23 @@ use Rattle.fault_effects.specs.Shares.{suspect_fails}
 use Rattle.fault_effects.proofs.Effects.{bridge_fails, bridge_apart}
 use Rattle.fault_effects.proofs.bridge_piece.bridge_part.Goals as goal
 
-pub mask-requires-clause-site : goal.mask-requires-clause-site
-mask-requires-clause-site g c = rw c.requires.work.test c.requires.site
+pub mask-first_lanes-requires-clause-site : goal.mask-first_lanes-requires-clause-site
+mask-first_lanes-requires-clause-site g c = rw c.requires.work.test c.requires.site
 
-pub mask-requires-clause-touched : goal.mask-requires-clause-touched
-mask-requires-clause-touched g c = (0, omega arith, refl)
+pub mask-first_lanes-requires-clause-touched : goal.mask-first_lanes-requires-clause-touched
+mask-first_lanes-requires-clause-touched g c = (0, omega arith, refl)
 
-pub mask-requires-2-clause-site : goal.mask-requires-2-clause-site
-mask-requires-2-clause-site g c = rw c.requires.work.test c.requires.site
+pub mask-second_lanes-requires-clause-site : goal.mask-second_lanes-requires-clause-site
+mask-second_lanes-requires-clause-site g c = rw c.requires.work.test c.requires.site
 
-pub mask-requires-2-clause-touched : goal.mask-requires-2-clause-touched
-mask-requires-2-clause-touched g c = (1, omega arith, refl)
-
-pub part-of_first-requires : goal.part-of_first-requires
-part-of_first-requires g c = (_, c.in_ok-keep.ensures.flip)
-
-pub part-of_second-requires : goal.part-of_second-requires
-part-of_second-requires g c = (_, c.in_ok-keep-2.ensures.flip)
+pub mask-second_lanes-requires-clause-touched : goal.mask-second_lanes-requires-clause-touched
+mask-second_lanes-requires-clause-touched g c = (1, omega arith, refl)
 
 pub both-requires-clause-first : goal.both-requires-clause-first
-both-requires-clause-first g c = (_, c.part-of_first.ensures _ c.in_ok-keep.ensures.flip)
+both-requires-clause-first g c = (_, c.in_ok-of_first.ensures.part)
 
 pub both-requires-clause-second : goal.both-requires-clause-second
-both-requires-clause-second g c = (_, c.part-of_second.ensures _ c.in_ok-keep-2.ensures.flip)
+both-requires-clause-second g c = (_, c.in_ok-of_second.ensures.part)
 
 pub returns-clause-part : goal.returns-clause-part
 returns-clause-part g c = λ i within is.
@@ -42,13 +36,15 @@ returns-clause-part g c = λ i within is.
     let x = c.args.bridged.a in
     let y = c.args.bridged.b in
     let kind = c.args.bridged.kind in
-    let first = c.mask.result in
-    let second = c.mask-2.result in
+    let first = c.mask-first_lanes.result in
+    let second = c.mask-second_lanes.result in
+    let at_first = c.mask-first_lanes.ensures in
+    let at_second = c.mask-second_lanes.ensures in
     let In : Fault → Type 0 = Contains work.faults in
     let there = subst In is (work.among i no_suspect within) in
-    let at_first : Table = λ q j. shown_in m b x q j && lane first j in
-    let at_second : Table = λ q j. shown_in m b y q j && lane second j in
-    g.met.O.Observer.same o c.both.result (λ q j. at_first q j || at_second q j) (suspect_fails m b c.args.work.now.suspects.now i)
-    (λ q j places lt. bridge_fails t work.faults m work.model b x y kind first second c.mask.ensures c.mask-2.ensures there q j places lt ∙ ap (λ (f : Fault). fails_in m b f q j) (sym is))
-    (c.both.ensures at_first at_second (c.part-of_first.ensures _ c.in_ok-keep.ensures.flip) (c.part-of_second.ensures _ c.in_ok-keep-2.ensures.flip)
-    (bridge_apart t work.faults m work.model b x y kind first second c.mask.ensures c.mask-2.ensures))
+    let of_first : Table = λ q j. shown_in m b x q j && lane first j in
+    let of_second : Table = λ q j. shown_in m b y q j && lane second j in
+    g.met.O.Observer.same o c.both.result (λ q j. of_first q j || of_second q j) (suspect_fails m b c.args.work.now.suspects.now i)
+    (λ q j places lt. bridge_fails t work.faults m work.model b x y kind first second at_first at_second there q j places lt ∙ ap (λ (f : Fault). fails_in m b f q j) (sym is))
+    (c.both.ensures of_first of_second c.in_ok-of_first.ensures.part c.in_ok-of_second.ensures.part
+    (bridge_apart t work.faults m work.model b x y kind first second at_first at_second))

@@ -15,7 +15,7 @@ loop-item-preserved g c =
     let item = get_or group i 0 in
     let own = c.requires.group i 0 c.loop-item-test.true in
     record {
-      scratch = c.pair_part.ensures.scratch;
+      scratch = c.bridge_part.ensures.scratch;
       kept = c.in_ok-part.ensures.kept;
       shares = shares_join means m b suspects (IsAmong group i) (λ k. k ≡ item) (IsAmong group (i + 1)) c.args.shares.now c.loop-item.shares c.push.new.self c.loop-item.invariant.shares
           (shares_push means m b suspects c.loop-item.shares c.push.new.self item c.in_ok-part.part c.in_ok-push.ensures.ok own.within (c.in_ok-part.ensures.part item own.within c.in-Bridge.is))
