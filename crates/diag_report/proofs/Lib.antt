@@ -3,6 +3,7 @@ mod RankNumbers
 mod TallySteps
 mod PageSteps
 mod SummarySteps
+mod OpeningSteps
 mod FailSteps
 mod Bools
 mod BitRanges

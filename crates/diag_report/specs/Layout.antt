@@ -22,6 +22,14 @@ total_lines tally candidates =
     ∷ line (codes "candidates" ∷ decimal candidates ∷ [])
     ∷ []
 
+-- the lines before those of so many candidates
+abbrev pub opening_lines : ReportForm → List ℕ → List ℕ → ℕ → Tally → ℕ → List (List ℕ)
+opening_lines form design die count tally candidates =
+    title_lines form.title design die count
+    ++ (total_lines tally candidates
+    ++ (map (named_bit_line form (codes "conflict")) tally.conflict
+    ++ map (named_bit_line form (codes "masked")) tally.masked))
+
 abbrev pub layout : ReportForm → List ℕ → List ℕ → ℕ → Tally → List Scored → List (List ℕ)
 layout form design die count tally rows =
     title_lines form.title design die count

@@ -9,22 +9,22 @@ ghost use Rattle.scan_model.specs.Universe.{universe};
 ghost use Rattle.scan_model.specs.ReportText as text_of;
 ghost use Rattle.log_join.specs.Joining.{StandsFor, IsJoinedOf, FitsExpected};
 ghost use Rattle.report_lines.specs.LineEnds.{AddsLines, HasLines};
-ghost use Rattle.diag_report.specs.Layout.{title_lines, total_lines, layout};
+ghost use Rattle.diag_report.specs.Layout.{title_lines, total_lines, opening_lines, layout};
 
 use crate::names::PartsNames;
 use crate::report::{Report, finished};
 use crate::tally::{Tally, tally_bits};
 use log_join::Joined;
 use report_lines::{
-    Draft, ReportNames, bit_lines, candidate_lines, draft_with_room, name_line, number_line,
+    CANDIDATE_BYTES, Draft, ReportNames, bit_lines, candidate_lines, candidate_lines_in_pieces,
+    draft_with_room, name_line, number_line,
 };
 use scan_model::{Expected, Name, NoMemory, Parts, Rows, Scored};
 use std::alloc::Global;
+use std::thread::Threads;
 
-/// About the bytes of a line that names a bit, and of the line of a candidate.
+/// About the bytes of a line that names a bit.
 const BIT_BYTES: usize = 32;
-
-const CANDIDATE_BYTES: usize = 80;
 
 /// What a report begins with: the tags of design and die, and the number of its logs.
 #[derive(Drop)]
@@ -64,26 +64,42 @@ fn report_draft(alloc: Global, bits: usize, candidates: usize) -> Result<Draft, 
     draft_with_room(alloc, bytes, lines)
 }
 
-// Writes all lines of a report into a draft that has none.
-fn write_lines<N: ReportNames>(
+// Writes the lines of a report before those of its candidates into a draft that has none.
+fn write_opening<N: ReportNames>(
     draft: &mut Draft,
     names: &N,
     head: &Head,
     tally: &Tally,
-    rows: &[Scored],
+    candidates: u64,
 ) -> Result<(), NoMemory>
     requires text { draft.old.text ≡ [] }
     requires ends { draft.old.ends ≡ [] }
     requires conflict { All (λ b. b.point < N.points names.now) tally.now.conflict }
     requires masked { All (λ b. b.point < N.points names.now) tally.now.masked }
-    requires places { All (λ row. row.place < N.places names.now) rows.now }
-    ensures { OnOk result (HasLines (layout (N.form names.now) head.now.design head.now.die head.now.logs tally.now rows.now) draft.new.text draft.new.ends) }
+    ensures { OnOk result (HasLines (opening_lines (N.form names.now) head.now.design head.now.die head.now.logs tally.now candidates) draft.new.text draft.new.ends) }
 {
     title_lines(draft, names.title(), head)?;
-    totals(draft, tally, rows.len() as u64)?;
+    totals(draft, tally, candidates)?;
     bit_lines(draft, names, b"conflict", tally.conflict.as_slice())?;
-    bit_lines(draft, names, b"masked", tally.masked.as_slice())?;
-    candidate_lines(draft, names, rows)
+    bit_lines(draft, names, b"masked", tally.masked.as_slice())
+}
+
+// A report up to its candidates, with room for their lines.
+fn opened<N: ReportNames>(
+    alloc: Global,
+    names: &N,
+    head: &Head,
+    tally: &Tally,
+    candidates: usize,
+) -> Result<Draft, NoMemory>
+    requires conflict { All (λ b. b.point < N.points names.now) tally.now.conflict }
+    requires masked { All (λ b. b.point < N.points names.now) tally.now.masked }
+    ensures { IfOk result (λ draft. HasLines (opening_lines (N.form names.now) head.now.design head.now.die head.now.logs tally.now candidates) draft.text draft.ends) }
+{
+    let bits = tally.conflict.len().saturating_add(tally.masked.len());
+    let mut draft = report_draft(alloc, bits, candidates)?;
+    write_opening(&mut draft, names, head, tally, candidates as u64)?;
+    Ok(draft)
 }
 
 // The report of these lines.
@@ -99,9 +115,27 @@ fn written<N: ReportNames>(
     requires places { All (λ row. row.place < N.places names.now) rows.now }
     ensures { IfOk result (λ r. r ≡ layout (N.form names.now) head.now.design head.now.die head.now.logs tally.now rows.now) }
 {
-    let bits = tally.conflict.len().saturating_add(tally.masked.len());
-    let mut draft = report_draft(alloc, bits, rows.len())?;
-    write_lines(&mut draft, names, head, tally, rows)?;
+    let mut draft = opened(alloc, names, head, tally, rows.len())?;
+    candidate_lines(&mut draft, names, rows)?;
+    Ok(finished(draft))
+}
+
+// The same report, whose candidates are written in pieces at the same time where there are many.
+fn written_in_pieces<R: Threads + Sync, N: ReportNames + Sync>(
+    rt: &R,
+    alloc: Global,
+    names: &N,
+    head: &Head,
+    tally: &Tally,
+    rows: &[Scored],
+) -> Result<Report, NoMemory>
+    requires conflict { All (λ b. b.point < N.points names.now) tally.now.conflict }
+    requires masked { All (λ b. b.point < N.points names.now) tally.now.masked }
+    requires places { All (λ row. row.place < N.places names.now) rows.now }
+    ensures { IfOk result (λ r. r ≡ layout (N.form names.now) head.now.design head.now.die head.now.logs tally.now rows.now) }
+{
+    let mut draft = opened(alloc, names, head, tally, rows.len())?;
+    candidate_lines_in_pieces(rt, alloc, &mut draft, names, rows)?;
     Ok(finished(draft))
 }
 
@@ -127,9 +161,10 @@ pub fn make_text_of<N: ReportNames>(
 }
 
 /// The report of a die: its head, the Conflict and the Masked bits in bit order, and its candidates in their order. The
-/// classes are those that the given expected values make.
+/// classes are those that the given expected values make. Many candidates are written in pieces, one for each processor.
 /// Takes time linear in the text and in the bits.
-pub fn make_text(
+pub fn make_text<R: Threads + Sync>(
+    rt: &R,
     alloc: Global,
     parts: &Parts,
     head: &Head,
@@ -144,5 +179,6 @@ pub fn make_text(
 {
     let _ = parts.patterns();
     let names = PartsNames { parts };
-    make_text_of(alloc, &names, head, expected, joined, ranked)
+    let tally = tally_bits(alloc, expected, joined)?;
+    written_in_pieces(rt, alloc, &names, head, &tally, ranked.as_slice())
 }

@@ -65,7 +65,8 @@ fn head_of(alloc: Global, design: &[u8], die: &[u8], logs: u64) -> Result<Head, 
 }
 
 // The report over the logs of a die, joined, given its candidates in order.
-fn report_over(
+fn report_over<R: Threads + Sync>(
+    rt: &R,
     alloc: Global,
     subject: &Subject<'_>,
     joined: &Joined,
@@ -85,7 +86,7 @@ fn report_over(
         subject.logs.len() as u64,
     )?;
     let (parts, expected) = (subject.parts, subject.expected);
-    make_text(alloc, parts, &head, expected, joined, rows)
+    make_text(rt, alloc, parts, &head, expected, joined, rows)
 }
 
 // The diagnosis of a die from its logs, joined.
@@ -104,7 +105,7 @@ fn diagnosis_over<R: Threads + Sync>(
     let (parts, good, expected) = (subject.parts, subject.good, subject.expected);
     let mut rows = counts(rt, alloc, parts, good, expected, joined)?;
     rank_by_numbers(alloc, &mut rows);
-    let report = report_over(alloc, subject, joined, &rows)?;
+    let report = report_over(rt, alloc, subject, joined, &rows)?;
     Ok(Diagnosis {
         report,
         candidates: rows,

@@ -1,1 +1,2 @@
 pub mod LineSteps
+mod PieceSteps

@@ -1,3 +1,4 @@
--- The spec modules: a text with the places behind its lines, and the words of a candidate.
+-- The spec modules: a text with the places behind its lines, the words of a candidate, and the lines of candidates in pieces.
 pub mod LineEnds
 pub mod ScoreWords
+pub mod Pieces

@@ -17,6 +17,10 @@ pub record HasLines (lines : List (List ℕ)) (text ends : List ℕ) : Type 0 wh
   pub text_is : text ≡ concatenated lines
   pub ends_are : ends ≡ ends_from 0 lines
 
+-- the places of a text are those behind some lines of it
+abbrev pub IsCut : Draft → Type 0
+IsCut draft = (lines : List (List ℕ)) × HasLines lines draft.text draft.ends
+
 -- lines are added at the end of what was written
 pub record AddsLines (lines : List (List ℕ)) (old new : Draft) : Type 0 where
   pub added : (before : List (List ℕ)) → HasLines before old.text old.ends → HasLines (before ++ lines) new.text new.ends

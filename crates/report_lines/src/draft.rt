@@ -1,5 +1,6 @@
 //! A text in the making, with the ends of its lines.
-ghost use Rattle.std.specs.Prelude.{◌≡◌, ◌++◌, ◌∷◌, [], length, IfOk, OnOk};
+ghost use Rattle.std.specs.Prelude.{◌≡◌, ◌+◌, ◌<◌, ◌^◌, ◌++◌, ◌∷◌, [], List, ℕ, length, map, All, IfOk, OnOk};
+ghost use Rattle.report_lines.specs.LineEnds.{HasLines, AddsLines, IsCut};
 
 use scan_model::{Name, NoMemory, Rows};
 use std::alloc::Global;
@@ -44,4 +45,25 @@ pub fn end_line(draft: &mut Draft) -> Result<(), NoMemory>
     draft.text.push(b'\n')?;
     let end = draft.text.len();
     draft.ends.push(end)
+}
+
+/// Adds places that were counted from a start.
+fn append_ends(ends: &mut Rows<usize>, start: usize, more: &[usize]) -> Result<(), NoMemory>
+    requires { All (λ e. start + e < 2 ^ 64) more.now }
+    ensures { OnOk result (ends.new ≡ ends.old ++ map (λ e. start + e) more.now) }
+{
+    for end in more {
+        ends.push(start + *end)?;
+    }
+    Ok(())
+}
+
+/// Puts the lines of a text behind those of another.
+pub(crate) fn append_draft(draft: &mut Draft, piece: &Draft) -> Result<(), NoMemory>
+    requires { IsCut piece.now }
+    ensures { OnOk result ((lines : List (List ℕ)) → HasLines lines piece.now.text piece.now.ends → AddsLines lines draft.old draft.new) }
+{
+    draft.text.append(piece.text.as_slice())?;
+    let start = draft.text.len() - piece.text.len();
+    append_ends(&mut draft.ends, start, piece.ends.as_slice())
 }

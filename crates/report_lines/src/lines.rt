@@ -1,9 +1,10 @@
 //! The lines of reports, each from its words.
-ghost use Rattle.std.specs.Prelude.{◌≡◌, ◌+◌, ◌++◌, ◌∷◌, [], ◌<◌, ◌≤◌, All, length, map, drop, decimal, OnOk};
+ghost use Rattle.std.specs.Prelude.{◌≡◌, ◌+◌, ◌++◌, ◌∷◌, [], ◌<◌, ◌≤◌, ◌^◌, All, length, map, drop, decimal, OnOk};
 ghost use Rattle.std.specs.List.{enumerate_from};
 ghost use Rattle.scan_model.specs.ReportText as text_of;
 ghost use Rattle.report_lines.specs.LineEnds.{AddsLines};
 ghost use Rattle.report_lines.specs.ScoreWords.{score_words};
+ghost use Rattle.report_lines.specs.Pieces.{lines_from};
 
 use crate::draft::{Draft, end_line};
 use crate::names::ReportNames;
@@ -108,6 +109,23 @@ fn candidate_line<N: ReportNames>(
     end_line(draft)
 }
 
+/// Adds the lines of candidates in their order, the first of a given rank.
+pub(crate) fn candidate_lines_from<N: ReportNames>(
+    draft: &mut Draft,
+    names: &N,
+    first: u64,
+    rows: &[Scored],
+) -> Result<(), NoMemory>
+    requires places { All (λ row. row.place < N.places names.now) rows.now }
+    requires first { first + length rows.now ≤ 2 ^ 64 }
+    ensures { OnOk result (AddsLines (lines_from (N.form names.now) first rows.now) draft.old draft.new) }
+{
+    for i in 0..rows.len() {
+        candidate_line(draft, names, first + i as u64, &rows[i])?;
+    }
+    Ok(())
+}
+
 /// Adds the lines of candidates in their order, the first of rank 1.
 pub fn candidate_lines<N: ReportNames>(
     draft: &mut Draft,
@@ -117,8 +135,5 @@ pub fn candidate_lines<N: ReportNames>(
     requires { All (λ row. row.place < N.places names.now) rows.now }
     ensures { OnOk result (AddsLines (map (text_of.named_candidate_line (N.form names.now)) (enumerate_from 1 rows.now)) draft.old draft.new) }
 {
-    for i in 0..rows.len() {
-        candidate_line(draft, names, i as u64 + 1, &rows[i])?;
-    }
-    Ok(())
+    candidate_lines_from(draft, names, 1, rows)
 }

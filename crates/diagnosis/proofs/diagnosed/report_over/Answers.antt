@@ -15,12 +15,12 @@ use Rattle.diagnosis.proofs.Reports.{layout_is_report, case_lines_are}
 use Rattle.diagnosis.proofs.diagnosed.report_over.Goals as goal
 
 pub make_text-requires-clause-expected : goal.make_text-requires-clause-expected
-make_text-requires-clause-expected c =
+make_text-requires-clause-expected g c κs within =
     let s = c.args.subject.now in
     fits_expected s.parts.now s.expected.now c.args.joined.now c.requires.subject.expected_of_test c.requires.size
 
 pub returns : goal.returns
-returns c =
+returns g c =
     let s = c.args.subject.now in
     let k = subject_case s in
     let logs = facts_of k.logs in

@@ -1,0 +1,114 @@
+//! The lines of many candidates, in pieces that are written at the same time.
+ghost use Rattle.std.specs.Prelude.{ℕ, ◌*◌, ◌<◌, List, All, length, map, IfOk, OnOk};
+ghost use Rattle.std.specs.List.{enumerate_from};
+ghost use Rattle.scan_model.specs.declared.logs.Scored.{Scored};
+ghost use Rattle.scan_model.specs.ReportText as text_of;
+ghost use Rattle.report_lines.specs.LineEnds.{AddsLines, HasLines, IsCut};
+ghost use Rattle.report_lines.specs.Pieces.{lines_from, piece_lines, ArePieces};
+
+use crate::draft::{Draft, append_draft, draft_with_room};
+use crate::lines::{candidate_lines, candidate_lines_from};
+use crate::names::ReportNames;
+use rayon::current_num_threads;
+use rayon::prelude::*;
+use scan_model::{NoMemory, Scored};
+use std::alloc::Global;
+use std::thread::Threads;
+
+/// About the bytes of the line of a candidate.
+pub const CANDIDATE_BYTES: usize = 80;
+
+/// How few candidates are worth a thread of their own.
+const LEAST_PIECE: usize = 2048;
+
+/// The size of pieces, one for each processor; all candidates where there are few.
+fn piece_size<R: Threads>(rt: &R, rows: usize) -> usize
+    ensures { 0 < result }
+{
+    let most = rows / LEAST_PIECE;
+    if most < 2 {
+        return rows.max(1);
+    }
+    rows.div_ceil(current_num_threads(rt).min(most))
+}
+
+/// The lines of the piece of a number, alone.
+fn piece_draft<N: ReportNames>(
+    alloc: Global,
+    names: &N,
+    rows: &[Scored],
+    size: usize,
+    piece: usize,
+) -> Result<Draft, NoMemory>
+    requires places { All (λ row. row.place < N.places names.now) rows.now }
+    requires piece { piece * size < length rows.now }
+    ensures { IfOk result (λ draft. HasLines (piece_lines (N.form names.now) rows.now size piece) draft.text draft.ends) }
+{
+    let start = piece * size;
+    let end = start.saturating_add(size).min(rows.len());
+    let part = &rows[start..end];
+    let bytes = part.len().saturating_mul(CANDIDATE_BYTES);
+    let mut draft = draft_with_room(alloc, bytes, part.len())?;
+    candidate_lines_from(&mut draft, names, start as u64 + 1, part)?;
+    Ok(draft)
+}
+
+/// The lines of each piece, written at the same time.
+fn piece_drafts<R: Threads + Sync, N: ReportNames + Sync>(
+    rt: &R,
+    alloc: Global,
+    names: &N,
+    rows: &[Scored],
+    size: usize,
+) -> Result<Vec<Draft>, NoMemory>
+    requires places { All (λ row. row.place < N.places names.now) rows.now }
+    requires size { 0 < size }
+    ensures { IfOk result (λ drafts. ArePieces (N.form names.now) rows.now size drafts.items) }
+{
+    let drafts = (0..rows.len().div_ceil(size))
+        .into_par_iter()
+        .with_min_len(1)
+        .map(
+            |piece: usize| -> Result<Draft, NoMemory>
+                requires { All (λ row. row.place < N.places names.now) rows.now × (piece * size < length rows.now) }
+                ensures { IfOk result (λ draft. HasLines (piece_lines (N.form names.entry.now) rows.entry.now size piece) draft.text draft.ends) }
+            { piece_draft(alloc, names, rows, size, piece) },
+        )
+        .collect::<Result<Vec<_>, NoMemory>>(rt, alloc);
+    match drafts {
+        Ok(Ok(drafts)) => Ok(drafts),
+        Ok(Err(refused)) => Err(refused),
+        Err(_) => Err(NoMemory),
+    }
+}
+
+/// Puts the lines of all pieces one behind the other.
+fn append_all(draft: &mut Draft, pieces: &[Draft]) -> Result<(), NoMemory>
+    requires { All IsCut pieces.now }
+    ensures { OnOk result ((form : text_of.ReportForm) (rows : List Scored) (size : ℕ) → ArePieces form rows size pieces.now → AddsLines (lines_from form 1 rows) draft.old draft.new) }
+{
+    for piece in pieces {
+        append_draft(draft, piece)?;
+    }
+    Ok(())
+}
+
+/// Adds the lines of candidates in their order, the first of rank 1, as `candidate_lines` does. Many candidates are written in
+/// pieces, one for each processor.
+pub fn candidate_lines_in_pieces<R: Threads + Sync, N: ReportNames + Sync>(
+    rt: &R,
+    alloc: Global,
+    draft: &mut Draft,
+    names: &N,
+    rows: &[Scored],
+) -> Result<(), NoMemory>
+    requires { All (λ row. row.place < N.places names.now) rows.now }
+    ensures { OnOk result (AddsLines (map (text_of.named_candidate_line (N.form names.now)) (enumerate_from 1 rows.now)) draft.old draft.new) }
+{
+    let size = piece_size(rt, rows.len());
+    if rows.len() <= size {
+        return candidate_lines(draft, names, rows);
+    }
+    let drafts = piece_drafts(rt, alloc, names, rows, size)?;
+    append_all(draft, &drafts)
+}
