@@ -15,8 +15,8 @@ use scan_model::{NoMemory, Scored};
 use std::alloc::Global;
 use std::thread::Threads;
 
-/// About the bytes of the line of a candidate.
-pub const CANDIDATE_BYTES: usize = 80;
+/// Room for the line of a candidate: few lines have more bytes, and a text that outgrows its room is copied.
+pub const CANDIDATE_BYTES: usize = 96;
 
 /// How few candidates are worth a thread of their own.
 const LEAST_PIECE: usize = 2048;
