@@ -3,6 +3,7 @@ pub mod EightLanes
 pub mod WordValues
 pub mod GateFolds
 pub mod GatesInOrder
+pub mod KeptGates
 pub mod Assigning
 pub mod WordAssigning
 pub mod GoodValues

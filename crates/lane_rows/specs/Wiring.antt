@@ -1,10 +1,13 @@
 -- The wiring: the gates that lead to an observed net, in order, and those of them that read each net.
-use Rattle.std.specs.Prelude.{◌≡◌, ℕ, ◌<◌, ◌≤◌, List, [], length, cond, Bool, true, ◌&&◌, All, Contains, slice_index, slice_index_or}
+use Rattle.std.specs.Prelude.{◌≡◌, ℕ, ◌<◌, ◌≤◌, List, [], length, cond, Bool, true, ◌&&◌, All, Contains, map, slice_index, slice_index_or, slice_range, ◌+◌}
 use Rattle.scan_model.specs.declared.circuit.PinPlace.{PinPlace}
 use Rattle.scan_model.specs.declared.circuit.PinPlace.TheVariants.{Operand, Output}
-use Rattle.scan_model.specs.Netlist.{Netlist, is_gate, reads, pin_at}
+use Rattle.scan_model.specs.declared.circuit.Driver.TheVariants.{Gate}
+use Rattle.scan_model.specs.declared.circuit.GateKind.TheVariants.{Buf}
+use Rattle.scan_model.specs.Netlist.{Netlist, driver_of, is_gate, reads, pin_at}
 use Rattle.scan_model.specs.Walks.{IsEvaluationOrder}
 use Rattle.scan_model.specs.Cone.{in_fan_in}
+use Rattle.lane_rows.specs.declared.kept_gates.KeptGate.{KeptGate}
 
 -- the places of the gates that read a net
 abbrev pub sinks_of : List (List ℕ) → ℕ → List ℕ
@@ -66,3 +69,27 @@ pub record IsWiredFor (c : Netlist) (nets : List ℕ) (order : List ℕ) (sinks 
   pub up : LeadsUp c live
   pub wired : IsWired c order sinks
   pub covers : Covers c order sinks live
+
+-- what stands past the end of what is kept of gates
+abbrev pub no_gate : KeptGate
+no_gate = record { net = 0; kind = Buf; first = 0; count = 0 }
+
+-- the net that each pin sees
+abbrev pub pin_nets : Netlist → List ℕ
+pin_nets c = map (λ pin. pin.net) c.pins
+
+-- the nets that a gate reads, out of a list
+abbrev pub read_nets : List ℕ → KeptGate → List ℕ
+read_nets operands g = slice_range operands g.first (g.first + g.count)
+
+-- What is kept of a gate is what the circuit says of it: its net, its kind, and the nets that it reads, in order.
+pub record IsKept (c : Netlist) (operands : List ℕ) (gate : ℕ) (kept : KeptGate) : Type 0 where
+  pub net : kept.net ≡ gate
+  pub kind : driver_of c gate ≡ Gate kept.kind
+  pub within : kept.first + kept.count ≤ length operands
+  pub reads_are : read_nets operands kept ≡ reads c gate
+
+-- what is kept of the gates of an order, one for each
+pub record AreKept (c : Netlist) (order : List ℕ) (gates : List KeptGate) (operands : List ℕ) : Type 0 where
+  pub count : length gates ≡ length order
+  pub each : (k : ℕ) → k < length order → IsKept c operands (slice_index order k) (slice_index_or gates k no_gate)

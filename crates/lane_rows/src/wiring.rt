@@ -4,9 +4,10 @@ ghost use Rattle.std.specs.List.{list_any};
 ghost use Rattle.scan_model.specs.Netlist.{is_gate, is_gate_net, reads, pin_at};
 ghost use Rattle.scan_model.specs.Walks.{IsEvaluationOrder};
 ghost use Rattle.scan_model.specs.Marks.{is_marked};
-ghost use Rattle.lane_rows.specs.Wiring.{AreMarked, AreLiveReads, IsMadeFor, IsWiredFor, sink_key, sink_gate};
+ghost use Rattle.lane_rows.specs.Wiring.{AreKept, AreMarked, AreLiveReads, IsMadeFor, IsWiredFor, sink_key, sink_gate};
 
 use crate::groups::{Groups, name_at};
+use crate::kept_gates::{KeptGate, kept_gates, nets_of_pins};
 use scan_model::{Circuit, Driver, Net, NoMemory, Pin, PinPlace};
 use std::alloc::Global;
 
@@ -19,6 +20,10 @@ pub struct Wiring {
     /// In group n the places in `order`, from 0, of the gates that wait for net n. What stands in groups past the nets means
     /// nothing.
     pub sinks: Groups,
+    /// What is kept of each gate of the order, at its place.
+    pub gates: Vec<KeptGate>,
+    /// The nets that the gates read.
+    pub operands: Vec<u32>,
 }
 
 /// The place of each gate in an order.
@@ -219,12 +224,20 @@ impl Wiring {
     /// The wiring of a circuit, for the gates that lead to one of the observed nets. The only error is want of memory.
     pub fn make(alloc: Global, circuit: &Circuit, observed: &[u32]) -> Result<Wiring, NoMemory>
         requires { All (λ n. n < length circuit.now.nets) observed.now }
-        ensures { IfOk result (λ w. IsWiredFor circuit.now observed.now w.order.items w.sinks) }
+        ensures wired { IfOk result (λ w. IsWiredFor circuit.now observed.now w.order.items w.sinks) }
+        ensures kept { IfOk result (λ w. AreKept circuit.now w.order.items w.gates.items w.operands.items) }
     {
         let _ = circuit.nets();
         let order = Vec::from_slice(alloc, circuit.order().as_slice())?;
         let marks = live_marks(alloc, circuit, &order, observed)?;
         let sinks = sinks_of(alloc, circuit, &order, &marks)?;
-        Ok(Wiring { order, sinks })
+        let gates = kept_gates(alloc, circuit, &order)?;
+        let operands = nets_of_pins(alloc, circuit)?;
+        Ok(Wiring {
+            order,
+            sinks,
+            gates,
+            operands,
+        })
     }
 }

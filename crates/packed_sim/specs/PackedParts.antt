@@ -17,7 +17,7 @@ use Rattle.lane_rows.specs.GoodRows.{AreGoodRows, no_block}
 use Rattle.lane_rows.specs.Stimuli.{HaveRows}
 pub use Rattle.lane_rows.specs.Stimuli.{captures}
 use Rattle.place_sets.specs.Places.{has_place, room}
-use Rattle.lane_rows.specs.Wiring.{IsWiredFor}
+use Rattle.lane_rows.specs.Wiring.{AreKept, IsWiredFor}
 use Rattle.packed_sim.specs.declared.good.PackedGood.{PackedGood}
 use Rattle.packed_sim.specs.declared.scratch.Scratch.{Scratch}
 use Rattle.packed_sim.specs.Rows.{IsClean}
@@ -42,6 +42,7 @@ pub record IsBuiltFor (t : ScanTest) (g : PackedGood) : Type 0 where
   pub rows : HaveRows t.netlist g.rows
   pub observed : g.observed.items ≡ map (observed_net t) (points_of t)
   pub wired : IsWiredFor t.netlist g.observed.items g.wiring.order.items g.wiring.sinks
+  pub kept : AreKept t.netlist g.wiring.order.items g.wiring.gates.items g.wiring.operands.items
   pub net_count : length g.points ≡ length t.netlist.nets
   pub points : (n : ℕ) → n < length t.netlist.nets → slice_index_or g.points n [] ≡ points_of_net t n
 

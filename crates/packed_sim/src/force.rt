@@ -5,7 +5,7 @@ ghost use Rattle.scan_model.specs.NetValue.{Forced, values_of};
 ghost use Rattle.scan_model.specs.Force.{force};
 ghost use Rattle.lane_rows.specs.Planes.{held};
 ghost use Rattle.place_sets.specs.Places.{has_place, room};
-ghost use Rattle.lane_rows.specs.Wiring.{IsWired};
+ghost use Rattle.lane_rows.specs.Wiring.{AreKept, IsWired};
 ghost use Rattle.packed_sim.specs.Rows.{IsClean};
 ghost use Rattle.packed_sim.specs.Propagation.{FitsScratch, AreApart, IsForced, is_downstream};
 ghost use Rattle.scan_model.proofs.counting.OneSite.{force_two};
@@ -27,6 +27,7 @@ impl Scratch {
         steps: &mut Steps<L>,
     )
         requires wiring { IsWired circuit.now wiring.now.order.items wiring.now.sinks }
+        requires kept { AreKept circuit.now wiring.now.order.items wiring.now.gates.items wiring.now.operands.items }
         requires fits { FitsScratch circuit.now wiring.now.order.items good.now self.old }
         requires clean { IsClean self.old.overlay }
         requires empty { (k : ℕ) → has_place self.old.waiting k ≡ false }
@@ -53,6 +54,7 @@ impl Scratch {
         steps: &mut Steps<L>,
     )
         requires wiring { IsWired circuit.now wiring.now.order.items wiring.now.sinks }
+        requires kept { AreKept circuit.now wiring.now.order.items wiring.now.gates.items wiring.now.operands.items }
         requires fits { FitsScratch circuit.now wiring.now.order.items good.now self.old }
         requires clean { IsClean self.old.overlay }
         requires empty { (k : ℕ) → has_place self.old.waiting k ≡ false }

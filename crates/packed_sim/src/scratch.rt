@@ -7,13 +7,13 @@ ghost use Rattle.scan_model.specs.Netlist.{is_gate};
 ghost use Rattle.scan_model.specs.NetValue.{Forced, net_node, values_of, nothing_forced};
 ghost use Rattle.lane_rows.specs.Planes.{held};
 ghost use Rattle.place_sets.specs.Places.{has_place, room};
-ghost use Rattle.lane_rows.specs.Wiring.{IsWired, Covers};
+ghost use Rattle.lane_rows.specs.Wiring.{AreKept, IsWired, Covers};
 ghost use Rattle.packed_sim.specs.Rows.{IsClean, row_now};
 ghost use Rattle.packed_sim.specs.Propagation.{lane_now, FitsScratch, IsClosed, IsFree, IsWithin, IsOpen, IsSettled, IsSet, IsTurn, HasMoved};
 
 use crate::changed_rows::ChangedRows;
 use crate::overlay::Overlay;
-use lane_rows::{Packed, Wiring, gate_row};
+use lane_rows::{Packed, Wiring};
 use place_sets::PlaceSet;
 use scan_model::{Circuit, NoMemory, Steps};
 use std::alloc::Global;
@@ -62,18 +62,19 @@ impl Scratch {
         steps: &mut Steps<L>,
     )
         requires wiring { IsWired circuit.now wiring.now.order.items wiring.now.sinks }
+        requires kept { AreKept circuit.now wiring.now.order.items wiring.now.gates.items wiring.now.operands.items }
         requires fits { FitsScratch circuit.now wiring.now.order.items good.now self.old }
         requires place { place < length wiring.now.order.items }
         ensures turn { IsTurn circuit.now wiring.now.order.items wiring.now.sinks good.now place self.old self.new }
         ensures steps { steps.new ≡ steps.old + 1 }
     {
         self.waiting.remove(place);
-        let gate = wiring.order[place];
+        let gate = wiring.gates[place].net;
         let changed = ChangedRows {
             overlay: &self.overlay,
             good,
         };
-        let row = gate_row(&changed, circuit, gate);
+        let row = wiring.gate_row(&changed, circuit, place);
         steps.tick();
         let before = self.overlay.row(good, gate);
         let same = row.is_same(before);
@@ -91,6 +92,7 @@ impl Scratch {
         steps: &mut Steps<L>,
     )
         requires wiring { IsWired circuit.now wiring.now.order.items wiring.now.sinks }
+        requires kept { AreKept circuit.now wiring.now.order.items wiring.now.gates.items wiring.now.operands.items }
         requires fits { FitsScratch circuit.now wiring.now.order.items good.now self.old }
         ensures fits { FitsScratch circuit.now wiring.now.order.items good.now self.new }
         ensures empty { (k : ℕ) → has_place self.new.waiting k ≡ false }

@@ -10,6 +10,9 @@ use Rattle.packed_sim.proofs.good.PackedGood.force_net.Goals as goal
 pub force-requires-clause-wiring : goal.force-requires-clause-wiring
 force-requires-clause-wiring g c = rw c.circuit.ensures.value c.requires.built.wired.wired
 
+pub force-requires-clause-kept : goal.force-requires-clause-kept
+force-requires-clause-kept g c = rw c.circuit.ensures.value c.requires.built.kept
+
 pub force-requires-clause-fits : goal.force-requires-clause-fits
 force-requires-clause-fits g c = rw (c.circuit.ensures.value, c.values-good.ensures) (fits_of c.args.parts.now c.circuit.ensures.fits c.args.self.now c.requires.built c.args.block c.args.scratch.now c.requires.block c.requires.scratch.inside)
 

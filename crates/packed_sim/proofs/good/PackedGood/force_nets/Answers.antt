@@ -11,6 +11,9 @@ use Rattle.packed_sim.proofs.good.PackedGood.force_nets.Goals as goal
 pub force_pair-requires-clause-wiring : goal.force_pair-requires-clause-wiring
 force_pair-requires-clause-wiring g c = rw c.circuit.ensures.value c.requires.good.built.wired.wired
 
+pub force_pair-requires-clause-kept : goal.force_pair-requires-clause-kept
+force_pair-requires-clause-kept g c = rw c.circuit.ensures.value c.requires.good.built.kept
+
 pub force_pair-requires-clause-fits : goal.force_pair-requires-clause-fits
 force_pair-requires-clause-fits g c = rw (c.circuit.ensures.value, c.values-good.ensures) (fits_of c.args.parts.now c.circuit.ensures.fits c.args.self.now c.requires.good.built c.args.block c.args.scratch.now c.requires.block c.requires.scratch.inside)
 

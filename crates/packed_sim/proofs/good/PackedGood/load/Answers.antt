@@ -33,6 +33,9 @@ loop-at-preserved g c = record {
 pub settle-requires-clause-wiring : goal.settle-requires-clause-wiring
 settle-requires-clause-wiring g c = rw c.circuit-circuit.ensures.value c.requires.good.built.wired.wired
 
+pub settle-requires-clause-kept : goal.settle-requires-clause-kept
+settle-requires-clause-kept g c = rw c.circuit-circuit.ensures.value c.requires.good.built.kept
+
 pub settle-requires-clause-fits : goal.settle-requires-clause-fits
 settle-requires-clause-fits g c = rw (c.circuit-circuit.ensures.value, c.values-good.ensures) c.loop-at.invariant.opens.fits
 

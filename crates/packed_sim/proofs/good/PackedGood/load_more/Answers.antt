@@ -12,6 +12,9 @@ load_cell-requires-clause-opened g c = loaded_open c.args.parts.now c.chains.ens
 pub settle-requires-clause-wiring : goal.settle-requires-clause-wiring
 settle-requires-clause-wiring g c = rw c.circuit-circuit.ensures.value c.requires.good.built.wired.wired
 
+pub settle-requires-clause-kept : goal.settle-requires-clause-kept
+settle-requires-clause-kept g c = rw c.circuit-circuit.ensures.value c.requires.good.built.kept
+
 pub settle-requires-clause-fits : goal.settle-requires-clause-fits
 settle-requires-clause-fits g c = rw (c.circuit-circuit.ensures.value, c.values-good.ensures) c.load_cell.ensures.opened.fits
 

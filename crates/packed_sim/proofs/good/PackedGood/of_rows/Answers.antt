@@ -22,7 +22,8 @@ returns-clause-built c =
     record {
       rows = c.requires;
       observed = observed;
-      wired = rw (c.circuit-circuit.ensures.value, c.deref.ensures.value) at c.in_ok-wiring.ensures;
+      wired = rw (c.circuit-circuit.ensures.value, c.deref.ensures.value) at c.in_ok-wiring.ensures.wired;
+      kept = rw c.circuit-circuit.ensures.value at c.in_ok-wiring.ensures.kept;
       net_count = c.in_ok-points.ensures.len ∙ count;
       points = λ n lt. groups n (omega (arith, count)) ∙ points_are t c.in_ok-observed.observed.items n observed;
     }

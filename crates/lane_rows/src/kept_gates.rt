@@ -1,0 +1,92 @@
+//! What evaluation needs of each gate of an order, side by side: its net, its kind and the nets that it reads.
+ghost use Rattle.std.specs.Prelude.{◌≡◌, ℕ, ◌<◌, true, IfOk, length, slice_index};
+ghost use Rattle.scan_model.specs.declared.values.Tri.TheVariants.{Unknown};
+ghost use Rattle.scan_model.specs.declared.circuit.Driver.TheVariants as driven_by;
+ghost use Rattle.scan_model.specs.Netlist.{is_gate, is_gate_driver};
+ghost use Rattle.scan_model.specs.NetValue.{net_node, nothing_forced};
+ghost use Rattle.scan_model.specs.Walks.{IsEvaluationOrder};
+ghost use Rattle.value_rows.specs.Planes.{held};
+ghost use Rattle.lane_rows.specs.Wiring.{IsKept, AreKept, pin_nets};
+
+use crate::gates::{NetRows, kind_row};
+use crate::wiring::Wiring;
+use scan_model::{Circuit, Driver, GateKind, NoMemory};
+use std::alloc::Global;
+use value_rows::Packed;
+
+/// What is kept of a gate. The nets that it reads stand side by side in a list, from `first` on.
+#[derive(Clone, Copy)]
+pub struct KeptGate {
+    pub net: u32,
+    pub kind: GateKind,
+    pub first: u32,
+    pub count: u32,
+}
+
+/// The net that each pin sees.
+pub(crate) fn nets_of_pins(alloc: Global, circuit: &Circuit) -> Result<Vec<u32>, NoMemory>
+    ensures { IfOk result (λ nets. nets.items ≡ pin_nets circuit.now) }
+{
+    let mut nets = Vec::with_capacity(alloc, circuit.pins().len())?;
+    for pin in circuit.pins().as_slice() {
+        nets.push(pin.net)?;
+    }
+    Ok(nets)
+}
+
+/// The kind of a gate.
+fn kind_of(driver: Driver) -> GateKind
+    requires { is_gate_driver driver ≡ true }
+    ensures { driver ≡ driven_by.Gate result }
+{
+    match driver {
+        Driver::Gate(kind) => kind,
+        Driver::Input | Driver::Flop => GateKind::Buf,
+    }
+}
+
+fn kept_gate(circuit: &Circuit, gate: u32) -> KeptGate
+    requires net { gate < length circuit.now.nets }
+    requires gate { is_gate circuit.now gate ≡ true }
+    ensures { IsKept circuit.now (pin_nets circuit.now) gate result }
+{
+    let net = &circuit.nets().as_slice()[gate as usize];
+    KeptGate {
+        net: gate,
+        kind: kind_of(net.driver),
+        first: net.first_pin,
+        count: net.pin_count,
+    }
+}
+
+/// What is kept of each gate of an order.
+pub(crate) fn kept_gates(
+    alloc: Global,
+    circuit: &Circuit,
+    order: &[u32],
+) -> Result<Vec<KeptGate>, NoMemory>
+    requires { IsEvaluationOrder circuit.now order.now }
+    ensures { IfOk result (λ gates. AreKept circuit.now order.now gates.items (pin_nets circuit.now)) }
+{
+    let mut gates = Vec::with_capacity(alloc, order.len())?;
+    for gate in order {
+        gates.push(kept_gate(circuit, *gate))?;
+    }
+    Ok(gates)
+}
+
+impl Wiring {
+    /// What the gate at a place of the order gives for the values of the nets that it reads.
+    pub fn gate_row<V: NetRows>(&self, values: &V, circuit: &Circuit, place: usize) -> Packed
+        requires kept { AreKept circuit.now self.now.order.items self.now.gates.items self.now.operands.items }
+        requires place { place < length self.now.order.items }
+        requires nets { V.nets values.now ≡ length circuit.now.nets }
+        ensures { (j : ℕ) → j < 512 → held result j ≡ net_node circuit.now (λ n. Unknown) nothing_forced (slice_index self.now.order.items place) (λ m. V.value values.now m j) }
+    {
+        let _ = circuit.nets();
+        let gate = self.gates[place];
+        let first = gate.first as usize;
+        let nets = &self.operands[first..first + gate.count as usize];
+        kind_row(values, gate.kind, nets)
+    }
+}
