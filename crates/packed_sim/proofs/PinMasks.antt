@@ -1,5 +1,5 @@
 -- The lanes in which a stuck operand flips its gate.
-use Rattle.std.proofs.Common.{◌≡◌, ℕ, zero, suc, ◌+◌, ◌<◌, ◌≤◌, Bool, true, ◌&&◌, List, length, map, refl, sym, ap, subst, ◌∙◌, arith}
+use Rattle.std.proofs.Common.{◌≡◌, ℕ, zero, suc, ◌+◌, ◌<◌, ◌≤◌, Bool, true, false, ◌&&◌, ◌||◌, List, length, map, refl, sym, ap, subst, ◌∙◌, arith}
 use Rattle.std.specs.List.{range_with_len}
 use Rattle.std.proofs.lemmas.Bool.{eq-eqb}
 use Rattle.std.proofs.lemmas.List.FromFn.{get_or-map-range_with_len}
@@ -32,6 +32,12 @@ same_map f h k a (suc n) agree =
     let first = agree a (omega arith) (omega arith) in
     let rest = same_map f h k (a + 1) n (λ p le lt. agree p (omega arith) (omega arith)) in
     rw (first, rest) refl
+
+pub either_and : (a b c : Bool) → ((a || b) && c) ≡ ((a && c) || (b && c))
+either_and true b true = refl
+either_and true true false = refl
+either_and true false false = refl
+either_and false b c = refl
 
 module _ (t : ScanTest) (sound : IsScanTest t) (g : PackedGood) (built : IsBuiltFor t g) (σ : Stimuli) (rows : AreRowsOf t.netlist σ g.rows) (b j : ℕ) (block_lt : b < length g.rows) (lane_lt : j < 512) (captured : σ.captures (pattern_of b j) ≡ true)
     (pin gate i : ℕ) (kind : GateKind) (v : Stuck) (pin_lt : pin < length t.netlist.pins) (gate_lt : gate < length t.netlist.nets)

@@ -1,9 +1,10 @@
 //! The lanes in which a fault flips its site: a stuck net, the gate of a stuck pin, a net of a bridge.
-ghost use Rattle.std.specs.Prelude.{◌≡◌, ℕ, ◌+◌, ◌<◌, ◌==◌, true, false, length, slice_index_or, count_by, MatchOption};
+ghost use Rattle.std.specs.Prelude.{◌≡◌, ℕ, ◌+◌, ◌<◌, ◌||◌, ◌==◌, true, false, length, slice_index_or, count_by, MatchOption};
 ghost use Rattle.scan_model.specs.declared.circuit.PinPlace.TheVariants as place;
 ghost use Rattle.scan_model.specs.declared.circuit.Driver.TheVariants as driver;
 ghost use Rattle.scan_model.specs.declared.circuit.GateKind.{GateKind};
 ghost use Rattle.scan_model.specs.declared.fault.Fault.TheVariants as fault;
+ghost use Rattle.scan_model.specs.declared.fault.Stuck.TheVariants as stuck;
 ghost use Rattle.scan_model.specs.Values.{are_opposite};
 ghost use Rattle.scan_model.specs.Faults.{stuck_value, bridged};
 ghost use Rattle.scan_model.specs.Netlist.{pin_at, driver_of, is_gate};
@@ -156,6 +157,42 @@ impl PackedGood {
     {
         match gate_of_pin(parts.circuit(), pin) {
             Some(gate) => self.gate_mask(parts, block, pin, gate, value),
+            None => Row::none(),
+        }
+    }
+
+    /// The lanes in which an operand flips the gate that reads it, stuck at 0 or stuck at 1.
+    fn gate_flips(&self, parts: &Parts, block: usize, pin: u32, gate: (u32, GateKind)) -> Row
+        requires built { IsBuiltFor parts.now self.now }
+        requires block { block < length self.now.rows }
+        requires pin { pin < length parts.now.netlist.pins }
+        requires gate { IsGateOfPin parts.now.netlist pin gate.0 gate.1 }
+        ensures { (σ : Stimuli) → AreRowsOf parts.now.netlist σ self.now.rows → (j : ℕ) → j < 512 → σ.captures (pattern_of block j) ≡ true
+            → lane result j ≡ (mask_from parts.now.netlist (σ.source (pattern_of block j)) (fault.Branch pin stuck.Zero) gate.0 || mask_from parts.now.netlist (σ.source (pattern_of block j)) (fault.Branch pin stuck.One) gate.0) }
+    {
+        let circuit = parts.circuit();
+        let net = net_of_pin(circuit, pin);
+        let row = self.row_of(parts, block, net);
+        let falls = opposite_of(row, Stuck::Zero);
+        let rises = opposite_of(row, Stuck::One);
+        let known = falls.or(rises);
+        let sensed = sensed(circuit, self.values(block), gate.1, gate.0, row);
+        known.and(sensed)
+    }
+
+    /// The lanes in which an operand, stuck at 0 or stuck at 1, flips its gate, all else fault-free, in rows of any stimuli; no
+    /// lanes for a pin that is no gate's.
+    pub fn pin_mask(&self, parts: &Parts, block: usize, pin: u32) -> Row
+        requires built { IsBuiltFor parts.now self.now }
+        requires block { block < length self.now.rows }
+        requires pin { pin < length parts.now.netlist.pins }
+        ensures lanes { (σ : Stimuli) → AreRowsOf parts.now.netlist σ self.now.rows → (n i j : ℕ) (kind : GateKind) → (pin_at parts.now.netlist pin).place ≡ place.Operand n i → driver_of parts.now.netlist n ≡ driver.Gate kind → j < 512 → σ.captures (pattern_of block j) ≡ true
+            → lane result j ≡ (mask_from parts.now.netlist (σ.source (pattern_of block j)) (fault.Branch pin stuck.Zero) n || mask_from parts.now.netlist (σ.source (pattern_of block j)) (fault.Branch pin stuck.One) n) }
+        ensures good { BelongsTo parts.now self.now → (n i j : ℕ) (kind : GateKind) → (pin_at parts.now.netlist pin).place ≡ place.Operand n i → driver_of parts.now.netlist n ≡ driver.Gate kind → j < 512 → captures parts.now (pattern_of block j) ≡ true
+            → lane result j ≡ (mask parts.now (fault.Branch pin stuck.Zero) (pattern_of block j) n || mask parts.now (fault.Branch pin stuck.One) (pattern_of block j) n) }
+    {
+        match gate_of_pin(parts.circuit(), pin) {
+            Some(gate) => self.gate_flips(parts, block, pin, gate),
             None => Row::none(),
         }
     }
