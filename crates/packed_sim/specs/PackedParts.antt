@@ -19,6 +19,7 @@ pub use Rattle.lane_rows.specs.Stimuli.{captures}
 use Rattle.place_sets.specs.Places.{has_place, room}
 use Rattle.lane_rows.specs.Wiring.{AreKept, IsWiredFor}
 use Rattle.packed_sim.specs.declared.good.PackedGood.{PackedGood}
+use Rattle.packed_sim.specs.declared.good.CircuitLinks.{CircuitLinks}
 use Rattle.packed_sim.specs.declared.scratch.Scratch.{Scratch}
 use Rattle.packed_sim.specs.Rows.{IsClean}
 use Rattle.packed_sim.specs.Propagation.{lane_now}
@@ -36,6 +37,14 @@ pub record AreObserved (t : ScanTest) (nets : List ℕ) : Type 0 where
   pub are : nets ≡ map (observed_net t) (points_of t)
   pub in_range : All (λ n. n < length t.netlist.nets) nets
   pub few : length nets < 2 ^ 32
+
+-- What was read off the circuit of a test: the nets that its points observe, the wiring for these, and the points of each net.
+pub record AreLinksOf (t : ScanTest) (links : CircuitLinks) : Type 0 where
+  pub observed : links.observed.items ≡ map (observed_net t) (points_of t)
+  pub wired : IsWiredFor t.netlist links.observed.items links.wiring.order.items links.wiring.sinks
+  pub kept : AreKept t.netlist links.wiring.order.items links.wiring.gates.items links.wiring.operands.items
+  pub net_count : length links.points ≡ length t.netlist.nets
+  pub points : (n : ℕ) → n < length t.netlist.nets → slice_index_or links.points n [] ≡ points_of_net t n
 
 -- The wiring and the points are those of a test, and each block has a row for each net, of whatever values.
 pub record IsBuiltFor (t : ScanTest) (g : PackedGood) : Type 0 where

@@ -11,3 +11,11 @@ pub struct PackedGood {
     pub(crate) observed: Vec<u32>,
     pub(crate) points: Groups,
 }
+
+/// What is read off the circuit of a test alone, whatever its rows are.
+#[derive(Drop)]
+pub(crate) struct CircuitLinks {
+    pub wiring: Wiring,
+    pub observed: Vec<u32>,
+    pub points: Groups,
+}

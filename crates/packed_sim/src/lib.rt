@@ -13,6 +13,7 @@ mod made;
 mod masks;
 mod overlay;
 mod scratch;
+mod threads;
 
 pub use fails::{is_pin_at, is_pin_of, stuck_at};
 pub use good::PackedGood;

@@ -1,12 +1,12 @@
 //! Fault-free rows are made, and the points that observe each net are grouped.
 ghost use Rattle.std.specs.Prelude.{◌≡◌, ◌<◌, length, map, All, IfOk};
-ghost use Rattle.scan_model.specs.ScanTest.{IsPoint, points_of, point_at};
+ghost use Rattle.scan_model.specs.ScanTest.{ScanTest, IsPoint, points_of, point_at};
 ghost use Rattle.scan_model.specs.declared.parts.Point.TheVariants as point;
 ghost use Rattle.scan_model.specs.Suspect as suspect;
 ghost use Rattle.lane_rows.specs.Stimuli.{HaveRows};
-ghost use Rattle.packed_sim.specs.PackedParts.{IsBuiltFor, BelongsTo, IsScratchOf, AreObserved, points_of_net};
+ghost use Rattle.packed_sim.specs.PackedParts.{IsBuiltFor, BelongsTo, AreLinksOf, IsScratchOf, AreObserved, points_of_net};
 
-use crate::good::PackedGood;
+use crate::good::{CircuitLinks, PackedGood};
 use crate::overlay::Overlay;
 use crate::scratch::Scratch;
 use lane_rows::{Block, GoodRows, Groups, Wiring};
@@ -42,6 +42,22 @@ fn observed_nets(alloc: Global, parts: &Parts) -> Result<Vec<u32>, NoMemory>
     Ok(nets)
 }
 
+/// What is read off the circuit of a test. The only error is want of memory.
+pub(crate) fn circuit_links(alloc: Global, parts: &Parts) -> Result<CircuitLinks, NoMemory>
+    ensures { IfOk result (AreLinksOf parts.now) }
+{
+    let observed = observed_nets(alloc, parts)?;
+    let circuit = parts.circuit();
+    let nets = circuit.nets().len();
+    let wiring = Wiring::make(alloc, circuit, &observed)?;
+    let points = Groups::of(alloc, &observed, nets)?;
+    Ok(CircuitLinks {
+        wiring,
+        observed,
+        points,
+    })
+}
+
 impl PackedGood {
     /// The fault-free values of all patterns, with what counting needs of the circuit. The only error is want of memory.
     pub fn make(alloc: Global, parts: &Parts) -> Result<PackedGood, NoMemory>
@@ -57,17 +73,26 @@ impl PackedGood {
         ensures built { IfOk result (IsBuiltFor parts.now) }
         ensures rows { IfOk result (λ good. good.rows ≡ rows) }
     {
-        let observed = observed_nets(alloc, parts)?;
-        let circuit = parts.circuit();
-        let nets = circuit.nets().len();
-        let wiring = Wiring::make(alloc, circuit, &observed)?;
-        let points = Groups::of(alloc, &observed, nets)?;
-        Ok(PackedGood {
+        let links = circuit_links(alloc, parts)?;
+        Ok(PackedGood::linked(rows, links))
+    }
+
+    /// Rows of any stimuli, with what was read off the circuit.
+    pub(crate) fn linked(rows: GoodRows, links: CircuitLinks) -> PackedGood
+        ensures built { (t : ScanTest) → HaveRows t.netlist rows → AreLinksOf t links → IsBuiltFor t result }
+        ensures rows { result.rows ≡ rows }
+    {
+        let CircuitLinks {
+            wiring,
+            observed,
+            points,
+        } = links;
+        PackedGood {
             rows,
             wiring,
             observed,
             points,
-        })
+        }
     }
 
     pub fn rows(&self) -> &GoodRows
