@@ -11,7 +11,7 @@ mod text;
 
 pub use fails::{fails_text, fails_text_over};
 pub use names::{push_place, push_point, push_point_words};
-pub use ranking::{rank, rank_by_numbers};
+pub use ranking::{rank, rank_by_numbers, rank_in_threads};
 pub use report::{PastEnd, Report};
 pub use report_lines::ReportNames;
 pub use summary::summary_text;
