@@ -19,18 +19,25 @@ fn least_size(kind: WorkKind) -> usize
 {
     match kind {
         WorkKind::Nets => 512,
-        WorkKind::Pins => 4096,
+        WorkKind::Pins => 1024,
         WorkKind::Bridges => 256,
         WorkKind::Cells => 256,
     }
 }
 
-/// The size of pieces, two for each processor.
+/// The size of pieces, two for each of several processors. One processor takes all items at once.
 fn piece_size<R: Threads>(rt: &R, kind: WorkKind, items: usize) -> usize
     ensures { 0 < result }
 {
-    let pieces = current_num_threads(rt).saturating_mul(2);
-    items.div_ceil(pieces).max(least_size(kind))
+    let least = least_size(kind);
+    if items <= least {
+        return least;
+    }
+    let processors = current_num_threads(rt);
+    if processors < 2 {
+        return items;
+    }
+    items.div_ceil(processors.saturating_mul(2)).max(least)
 }
 
 /// The shares of all pieces of the work, in their order.
