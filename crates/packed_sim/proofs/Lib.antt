@@ -4,7 +4,7 @@ pub mod Settled
 pub mod Spreading
 pub mod Forcing
 pub mod Belonging
-pub mod WayCounts
+pub mod OtherOperands
 pub mod FaultBits
 pub mod PinMasks
 pub mod Observed

@@ -64,16 +64,15 @@ module _ (t : ScanTest) (sound : IsScanTest t) (g : PackedGood) (built : IsBuilt
   own_value : value_at (operand_values_from t.netlist s gate) i ≡ value (pin_at t.netlist pin).net
   own_value = get_or-map-range_with_len (λ p. value (pin_at t.netlist p).net) (net_at t.netlist gate).first_pin (net_at t.netlist gate).pin_count i pin Unknown placed.1 (sym placed.2)
 
-  pub gate_mask_is : (x y : Bool) (r : Tri) → r ≡ good_at g b j (pin_at t.netlist pin).net → x ≡ are_opposite r (stuck_value v) → y ≡ senses_of kind (read_values t.netlist (block_at g b).values gate j) r
-      → (x && y) ≡ mask_from t.netlist s (fault.Branch pin v) gate
-  gate_mask_is x y r r_is x_is y_is =
-      let net_lt = net_sound.pin_nets pin pin_lt in
-      let r_good : r ≡ value (pin_at t.netlist pin).net = r_is ∙ good_is (pin_at t.netlist pin).net net_lt in
+  pub gate_mask_is : (x : Bool) → x ≡ are_opposite (good_at g b j (pin_at t.netlist pin).net) (stuck_value v)
+      → (x && senses_of kind (read_values t.netlist (block_at g b).values gate j) (good_at g b j (pin_at t.netlist pin).net)) ≡ mask_from t.netlist s (fault.Branch pin v) gate
+  gate_mask_is x x_is =
+      let own = good_at g b j (pin_at t.netlist pin).net in
+      let own_good : own ≡ value (pin_at t.netlist pin).net = good_is (pin_at t.netlist pin).net (net_sound.pin_nets pin pin_lt) in
       let xs = operand_values_from t.netlist s gate in
-      let y_senses : y ≡ senses kind xs i = y_is
-      ∙ ap (λ (l : List Tri). senses_of kind l r) (sym operands_are)
-      ∙ ap (senses_of kind xs) (r_good ∙ sym own_value) in
-      ap (λ (z : Bool). z && y) (x_is ∙ ap (λ (u : Tri). are_opposite u (stuck_value v)) r_good)
+      let y = senses_of kind (read_values t.netlist (block_at g b).values gate j) own in
+      let y_senses : y ≡ senses kind xs i = ap (λ (l : List Tri). senses_of kind l own) (sym operands_are) ∙ ap (senses_of kind xs) (own_good ∙ sym own_value) in
+      ap (λ (z : Bool). z && y) (x_is ∙ ap (λ (u : Tri). are_opposite u (stuck_value v)) own_good)
       ∙ ap (λ (z : Bool). are_opposite (value (pin_at t.netlist pin).net) (stuck_value v) && z) y_senses
       ∙ sym (branch_flips_from t.netlist g.wiring.order.items net_sound built.wired.wired.ordered s pin gate i v kind pin_lt stands driven)
       ∙ sym (ap (λ (p : PinPlace). is_operand_of gate p && are_opposite (value gate) (forced_output_from t.netlist s (fault.Branch pin v) gate)) stands

@@ -1,18 +1,19 @@
 //! The lanes in which a fault flips its site: a stuck net, the gate of a stuck pin, a net of a bridge.
-ghost use Rattle.std.specs.Prelude.{◌≡◌, ℕ, ◌+◌, ◌<◌, ◌||◌, ◌==◌, true, false, length, slice_index_or, count_by, MatchOption};
+ghost use Rattle.std.specs.Prelude.{◌≡◌, ℕ, ◌<◌, ◌&&◌, ◌||◌, ◌∷◌, ◌++◌, true, false, not, All, length, map, slice_index_or, MatchOption};
+ghost use Rattle.std.specs.List.{list_all};
 ghost use Rattle.scan_model.specs.declared.circuit.PinPlace.TheVariants as place;
 ghost use Rattle.scan_model.specs.declared.circuit.Driver.TheVariants as driver;
 ghost use Rattle.scan_model.specs.declared.circuit.GateKind.{GateKind};
 ghost use Rattle.scan_model.specs.declared.fault.Fault.TheVariants as fault;
 ghost use Rattle.scan_model.specs.declared.fault.Stuck.TheVariants as stuck;
-ghost use Rattle.scan_model.specs.Values.{are_opposite};
+ghost use Rattle.scan_model.specs.Values.{is_zero, is_one, is_unknown, are_opposite};
 ghost use Rattle.scan_model.specs.Faults.{stuck_value, bridged};
-ghost use Rattle.scan_model.specs.Netlist.{pin_at, driver_of, is_gate};
+ghost use Rattle.scan_model.specs.Netlist.{pin_at, reads, driver_of, is_gate};
 ghost use Rattle.scan_model.specs.NetValue.{good_value};
-ghost use Rattle.scan_model.specs.BranchMask as way;
 ghost use Rattle.scan_model.specs.Masks.{mask_from, mask};
 ghost use Rattle.lane_rows.specs.Lanes.{lane};
 ghost use Rattle.lane_rows.specs.Planes.{held};
+ghost use Rattle.lane_rows.specs.Sources.{lane_values};
 ghost use Rattle.packed_sim.specs.Rows.{no_row};
 ghost use Rattle.lane_rows.specs.GoodRows.{pattern_of};
 ghost use Rattle.lane_rows.specs.Stimuli.{Stimuli, AreRowsOf};
@@ -21,7 +22,7 @@ ghost use Rattle.packed_sim.specs.OperandValues.{read_values, senses_of, IsGateO
 
 use crate::good::PackedGood;
 use lane_rows::{Packed, Row, flipped_lanes};
-use scan_model::{BridgeKind, Circuit, Driver, GateKind, Parts, PinPlace, Stuck};
+use scan_model::{BridgeKind, Circuit, Driver, GateKind, Parts, Pin, PinPlace, Stuck};
 
 /// The lanes in which a row has the opposite of a stuck value.
 fn opposite_of(row: Packed, value: Stuck) -> Row
@@ -40,47 +41,83 @@ fn row_at(values: &[Packed], net: u32) -> Packed
     values[net as usize]
 }
 
-/// The lanes in which an operand of a gate hides what the others do.
-fn in_the_way(kind: GateKind, row: Packed) -> Row
-    ensures { (j : ℕ) → j < 512 → lane result j ≡ way.in_the_way kind (held row j) }
+/// Of some lanes those in which all operands that some pins see are 1.
+fn all_one(values: &[Packed], pins: &[Pin], lanes: Row) -> Row
+    requires { All (λ pin. pin.net < length values.now) pins.now }
+    ensures { (j : ℕ) → j < 512 → lane result j ≡ (lane lanes j && list_all (λ pin. is_one (lane_values values.now j pin.net)) pins.now) }
 {
-    match kind {
-        GateKind::And | GateKind::Nand => row.ones().not(),
-        GateKind::Or | GateKind::Nor => row.zeros().not(),
-        GateKind::Xor | GateKind::Xnor => row.ones().or(row.zeros()).not(),
-        GateKind::Not | GateKind::Buf => Row::none(),
+    let mut all = lanes;
+    for pin in pins {
+        all = all.and(row_at(values, pin.net).ones());
     }
+    all
 }
 
-/// The lanes in which no operand of a gate stands in the way of others, and those in which exactly one does.
-fn ways(circuit: &Circuit, values: &[Packed], kind: GateKind, gate: u32) -> (Row, Row)
-    requires gate { gate < length circuit.now.nets }
-    requires values { length values.now ≡ length circuit.now.nets }
-    ensures none { (j : ℕ) → j < 512 → lane result.0 j ≡ (count_by (way.in_the_way kind) (read_values circuit.now values.now gate j) == 0) }
-    ensures one { (j : ℕ) → j < 512 → lane result.1 j ≡ (count_by (way.in_the_way kind) (read_values circuit.now values.now gate j) == 1) }
+/// Of some lanes those in which all operands that some pins see are 0.
+fn all_zero(values: &[Packed], pins: &[Pin], lanes: Row) -> Row
+    requires { All (λ pin. pin.net < length values.now) pins.now }
+    ensures { (j : ℕ) → j < 512 → lane result j ≡ (lane lanes j && list_all (λ pin. is_zero (lane_values values.now j pin.net)) pins.now) }
 {
-    let mut none = Row::all();
-    let mut one = Row::none();
-    for i in 0..circuit.read_count(gate) {
-        let row = row_at(values, circuit.read_at(gate, i));
-        let hides = in_the_way(kind, row);
-        let free = hides.not();
-        let stays = one.and(free);
-        let comes = none.and(hides);
-        one = stays.or(comes);
-        none = none.and(free);
+    let mut all = lanes;
+    for pin in pins {
+        all = all.and(row_at(values, pin.net).zeros());
     }
-    (none, one)
+    all
 }
 
-/// The lanes in which a gate shows a change of one of its operands.
-fn sensed(circuit: &Circuit, values: &[Packed], kind: GateKind, gate: u32, row: Packed) -> Row
-    requires gate { gate < length circuit.now.nets }
-    requires values { length values.now ≡ length circuit.now.nets }
-    ensures { (j : ℕ) → j < 512 → lane result j ≡ senses_of kind (read_values circuit.now values.now gate j) (held row j) }
+/// Of some lanes those in which all operands that some pins see are known.
+fn all_known(values: &[Packed], pins: &[Pin], lanes: Row) -> Row
+    requires { All (λ pin. pin.net < length values.now) pins.now }
+    ensures { (j : ℕ) → j < 512 → lane result j ≡ (lane lanes j && list_all (λ pin. not (is_unknown (lane_values values.now j pin.net))) pins.now) }
 {
-    let (none, one) = ways(circuit, values, kind, gate);
-    none.or(one.and(in_the_way(kind, row)))
+    let mut all = lanes;
+    for pin in pins {
+        let row = row_at(values, pin.net);
+        all = all.and(row.ones().or(row.zeros()));
+    }
+    all
+}
+
+/// The operands of a gate in front of one of them, and those behind it.
+fn other_operands(circuit: &Circuit, pin: u32, gate: u32) -> (&[Pin], &[Pin])
+    requires pin { pin < length circuit.now.pins }
+    requires gate { (i : ℕ) × ((pin_at circuit.now pin).place ≡ place.Operand gate i) }
+    ensures reads { reads circuit.now gate ≡ map (λ other. other.net) result.0.now ++ (pin_at circuit.now pin).net ∷ map (λ other. other.net) result.1.now }
+    ensures in_front { All (λ other. other.net < length circuit.now.nets) result.0.now }
+    ensures behind { All (λ other. other.net < length circuit.now.nets) result.1.now }
+{
+    let net = &circuit.nets().as_slice()[gate as usize];
+    let pins = circuit.pins().as_slice();
+    let first = net.first_pin as usize;
+    let own = pin as usize;
+    let in_front = &pins[first..own];
+    let behind = &pins[own + 1..first + net.pin_count as usize];
+    (in_front, behind)
+}
+
+/// Of some lanes those in which a gate shows a change of one of its operands: no other stands in the way.
+fn sensed(circuit: &Circuit, values: &[Packed], pin: u32, gate: (u32, GateKind), lanes: Row) -> Row
+    requires pin { pin < length circuit.now.pins }
+    requires gate { IsGateOfPin circuit.now pin gate.0 gate.1 }
+    requires values { length values.now ≡ length circuit.now.nets }
+    ensures { (j : ℕ) → j < 512 → lane result j ≡ (lane lanes j && senses_of gate.1 (read_values circuit.now values.now gate.0 j) (lane_values values.now j (pin_at circuit.now pin).net)) }
+{
+    let (in_front, behind) = other_operands(circuit, pin, gate.0);
+    match gate.1 {
+        GateKind::And | GateKind::Nand => {
+            let half = all_one(values, in_front, lanes);
+            all_one(values, behind, half)
+        }
+        GateKind::Or | GateKind::Nor => {
+            let half = all_zero(values, in_front, lanes);
+            all_zero(values, behind, half)
+        }
+        GateKind::Xor | GateKind::Xnor => {
+            let half = all_known(values, in_front, lanes);
+            all_known(values, behind, half)
+        }
+        GateKind::Not | GateKind::Buf => lanes,
+    }
 }
 
 /// The net that a pin sees.
@@ -138,10 +175,8 @@ impl PackedGood {
     {
         let circuit = parts.circuit();
         let net = net_of_pin(circuit, pin);
-        let row = self.row_of(parts, block, net);
-        let opposite = opposite_of(row, value);
-        let sensed = sensed(circuit, self.values(block), gate.1, gate.0, row);
-        opposite.and(sensed)
+        let opposite = opposite_of(self.row_of(parts, block, net), value);
+        sensed(circuit, self.values(block), pin, gate, opposite)
     }
 
     /// The lanes in which a stuck operand flips its gate, all else fault-free, in rows of any stimuli; no lanes for a pin that
@@ -176,8 +211,7 @@ impl PackedGood {
         let falls = opposite_of(row, Stuck::Zero);
         let rises = opposite_of(row, Stuck::One);
         let known = falls.or(rises);
-        let sensed = sensed(circuit, self.values(block), gate.1, gate.0, row);
-        known.and(sensed)
+        sensed(circuit, self.values(block), pin, gate, known)
     }
 
     /// The lanes in which an operand, stuck at 0 or stuck at 1, flips its gate, all else fault-free, in rows of any stimuli; no
