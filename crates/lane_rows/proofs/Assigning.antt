@@ -1,15 +1,12 @@
 -- Values written to nets in one lane, the last first.
-use Rattle.std.proofs.Common.{◌≡◌, ℕ, ◌+◌, ◌%◌, ◌<◌, List, [], ◌∷◌, length, get_or, set, drop, eqb, refl, sym, ap, ◌∙◌, inl, inr, arith}
-use Rattle.std.specs.Prelude.{replicate}
-use Rattle.std.proofs.lemmas.Bool.{cases_eq, cases_lt, eq-eqb, ne_eqb}
-use Rattle.std.proofs.lemmas.List.{drop_more, drop_all, get_or-set_same, get_or-set_other, get_or_past, length-replicate}
-use Rattle.std.proofs.lemmas.Simd.{get_or-replicate}
-use Rattle.std.proofs.lemmas.Nat.Bits.{bit_at-zero}
+use Rattle.std.proofs.Common.{◌≡◌, ℕ, ◌+◌, ◌<◌, List, [], ◌∷◌, length, get_or, set, drop, refl, sym, ap, ◌∙◌, inl, inr, arith}
+use Rattle.std.proofs.lemmas.Bool.{cases_eq, eq-eqb, ne_eqb}
+use Rattle.std.proofs.lemmas.List.{drop_more, drop_all, get_or-set_same, get_or-set_other}
 use Rattle.scan_model.specs.declared.values.Tri.{Tri}
 use Rattle.scan_model.specs.declared.values.Tri.TheVariants.{Unknown}
 use Rattle.scan_model.specs.ChainShift.{value_at}
 use Rattle.scan_model.specs.NetValue.{assigned}
-use Rattle.value_rows.specs.Planes.{Planes, held, value_of_bits}
+use Rattle.value_rows.specs.Planes.{Planes, held}
 use Rattle.lane_rows.specs.Sources.{lane_values, no_planes}
 
 -- one more value, written to a row's lane
@@ -38,13 +35,3 @@ assigned_none (m ∷ ms) f n = refl
 -- before the first write from the back
 pub none_left : (names : List ℕ) (values : List Tri) (f : ℕ → Tri) (n : ℕ) → f n ≡ assigned (drop (length values) names) (drop (length values) values) f n
 none_left names values f n = rw (drop_all (length values) values (omega arith)) (sym (assigned_none (drop (length values) names) f n))
-
--- no net has a value before the first write
-none_there : (j : ℕ) → held no_planes j ≡ Unknown
-none_there j = ap (λ (b : ℕ). value_of_bits (eqb b 1) (eqb b 1)) (bit_at-zero (j % 64))
-
-pub unknown_lane : (nets : ℕ) (row : Planes) (j n : ℕ) → held row j ≡ Unknown → lane_values (replicate nets row) j n ≡ Unknown
-unknown_lane nets row j n is = elim (cases_lt n nets) [
-  | inl inside ↦ ap (λ p. held p j) (get_or-replicate nets n row no_planes inside) ∙ is
-  | inr past ↦ ap (λ p. held p j) (get_or_past (replicate nets row) n no_planes (omega (arith, length-replicate nets row, past))) ∙ none_there j
-]

@@ -25,7 +25,7 @@ lanes_are : (t : ScanTest) (b count : ℕ) (kind : PatternKind) (row : List ℕ)
 lanes_are t b count kind row all is j lt = is j lt ∙ ap (λ (x : Bool). x && same_kind kind (pattern_at t (pattern_of b j)).kind) (all j lt)
 
 pub block_is : (t : ScanTest) (b count : ℕ) (sources values : List Planes) (capture shift : List ℕ) → IsScanTest t → length values ≡ length t.netlist.nets
-    → ((j n : ℕ) → j < count → lane_values sources j n ≡ row_source t (pattern_of b j) n)
+    → ((j n : ℕ) → j < count → is_gate t.netlist n ≡ false → lane_values sources j n ≡ row_source t (pattern_of b j) n)
     → ((j n : ℕ) → j < 512 → n < length t.netlist.nets → lane_values values j n ≡ values_of t.netlist (lane_values sources j) nothing_forced n)
     → ((j n : ℕ) → j < 512 → n < length t.netlist.nets → is_gate t.netlist n ≡ false → lane_values values j n ≡ lane_values sources j n)
     → ((j : ℕ) → j < 512 → nat_lt j count ≡ nat_lt (pattern_of b j) (length t.patterns))
@@ -35,7 +35,7 @@ pub block_is : (t : ScanTest) (b count : ℕ) (sources values : List Planes) (ca
 block_is t b count sources values capture shift sound len sourced evaluated stays all captures shifts =
     let counted : (j : ℕ) → j < 512 → pattern_of b j < length t.patterns → j < count = λ j lj inside. ltb-true j count (all j lj ∙ lt-ltb (pattern_of b j) (length t.patterns) inside) in
     let value : (j n : ℕ) → j < 512 → n < length t.netlist.nets → pattern_of b j < length t.patterns → lane_values values j n ≡ row_value t (pattern_of b j) n = λ j n lj ln inside.
-    evaluated j n lj ln ∙ same_sources t (pattern_of b j) (lane_values sources j) (λ m. sourced j m (counted j lj inside)) n in
+    evaluated j n lj ln ∙ same_sources t (pattern_of b j) (lane_values sources j) (λ m leaf. sourced j m (counted j lj inside) leaf) n in
     record {
       len = len;
       value = value;
@@ -43,7 +43,8 @@ block_is t b count sources values capture shift sound len sourced evaluated stay
       load = λ j h i lj inside lh li.
           let cell = cell_is_flop_of t sound h i lh li in
           let n = slice_index (chain_at t h).cells i in
-          stays j n lj cell.0 (cell_is_leaf t.netlist n cell.1) ∙ sourced j n (counted j lj inside) ∙ row_drives t (pattern_at t (pattern_of b j)).inputs (pattern_at t (pattern_of b j)).loads h i sound (sound.patterns.each (pattern_of b j) no_pattern inside).loads lh li;
+          let leaf = cell_is_leaf t.netlist n cell.1 in
+          stays j n lj cell.0 leaf ∙ sourced j n (counted j lj inside) leaf ∙ row_drives t (pattern_at t (pattern_of b j)).inputs (pattern_at t (pattern_of b j)).loads h i sound (sound.patterns.each (pattern_of b j) no_pattern inside).loads lh li;
       capture = lanes_are t b count Capture capture all captures;
       shift = lanes_are t b count Shift shift all shifts;
     }

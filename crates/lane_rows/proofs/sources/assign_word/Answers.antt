@@ -21,7 +21,7 @@ assign-requires-clause-in_range c =
     (inputs_in_range c.args.parts.now.netlist c.circuit.ensures.fits.circuit.netlist)
 
 pub returns-clause-there : goal.returns-clause-there
-returns-clause-there c = λ n j lj.
+returns-clause-there c = λ n j lj no_gate.
     let t = c.args.parts.now in
     let at = 64 * c.args.word + j in
     let w = c.args.first + j in
@@ -45,8 +45,8 @@ returns-clause-there c = λ n j lj.
     let away : (i : ℕ) → i < length t.netlist.inputs → length p.inputs ≤ i → get_or t.netlist.inputs i 0 ≡ n → middle n ≡ Unknown = λ i lt past here.
     loaded n
     ∙ assigned_away cells loads before n (λ k in_cells same. no_input t.netlist (get_or cells k 0) i c.circuit.ensures.fits.circuit.netlist (c.circuit.ensures.fits.chains.cells k 0 in_cells).1 lt (here ∙ sym same))
-    ∙ c.requires.blank n j (omega (arith, c.requires.few)) in
+    ∙ c.requires.blank n j (omega (arith, c.requires.few)) no_gate in
     last n j (omega (arith, c.requires.few))
     ∙ column_assigned t.netlist.inputs c.in_ok-driven.driven.items p.inputs j n middle as_many (λ i lt. driven i j inside (omega (arith, as_many)) ∙ ap (λ (q : Pattern). value_at q.inputs i) is) away
     ∙ assigned_agree t.netlist.inputs p.inputs middle (assigned cells loads (λ m. Unknown)) n
-    (loaded n ∙ assigned_agree cells loads before (λ m. Unknown) n (c.requires.blank n j (omega (arith, c.requires.few))))
+    (loaded n ∙ assigned_agree cells loads before (λ m. Unknown) n (c.requires.blank n j (omega (arith, c.requires.few)) no_gate))
