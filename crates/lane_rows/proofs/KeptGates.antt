@@ -1,25 +1,26 @@
--- What is kept of gates, one more at a time, and the part of a list that is kept for each.
-use Rattle.std.proofs.Common.{◌≡◌, ℕ, ◌+◌, ◌-◌, ◌<◌, ◌≤◌, List, [], ◌∷◌, ◌++◌, All, length, map, take, drop, get_or, slice_range, refl, sym, ap, ◌∙◌, subst, inl, inr, arith}
+-- What is kept of gates, and the part of a list that is kept for each.
+use Rattle.std.proofs.Common.{◌≡◌, ℕ, ◌+◌, ◌-◌, ◌<◌, ◌≤◌, true, List, All, length, map, take, drop, get_or, slice_range, refl, sym, ap, ◌∙◌, subst, inl, inr, arith}
 use Rattle.std.specs.Prelude.{Contains}
 use Rattle.std.specs.List.{range_with_len}
 use Rattle.std.proofs.lemmas.Bool.{cases_lt}
-use Rattle.std.proofs.lemmas.List.{length-map, take-map, drop-map, get_or_push, get_or_append_left, get_or_past, get_or_read}
+use Rattle.std.proofs.lemmas.List.{length-map, take-map, drop-map, get_or-map, get_or_past, get_or_read}
 use Rattle.std.proofs.lemmas.List.Elements.{Contains-get_or}
 use Rattle.std.proofs.lemmas.List.FromFn.{length-map-range_with_len}
 use Rattle.std.proofs.lemmas.Simd.{map-map, pick_l-range_with_len}
 use Rattle.scan_model.specs.declared.circuit.Net.{Net}
 use Rattle.scan_model.specs.declared.circuit.Pin.{Pin}
 use Rattle.scan_model.specs.declared.circuit.Driver.{Driver}
-use Rattle.scan_model.specs.declared.circuit.Driver.TheVariants.{Gate, Input}
+use Rattle.scan_model.specs.declared.circuit.Driver.TheVariants.{Gate, Input, Flop}
 use Rattle.scan_model.specs.declared.circuit.GateKind.{GateKind}
 use Rattle.scan_model.specs.declared.values.Tri.{Tri}
 use Rattle.scan_model.specs.declared.values.Tri.TheVariants.{Unknown}
 use Rattle.scan_model.specs.Values.{gate_value}
-use Rattle.scan_model.specs.Netlist.{Netlist, IsNetlist, IsGateOperandCount, IsOperandCount, net_at, no_net, no_pin, pin_at, driver_of, operands, reads}
+use Rattle.scan_model.specs.Netlist.{Netlist, IsNetlist, IsGateOperandCount, IsOperandCount, net_at, no_net, no_pin, pin_at, driver_of, operands, reads, is_gate_driver}
+use Rattle.scan_model.specs.Walks.{IsEvaluationOrder}
 use Rattle.scan_model.specs.NetValue.{net_node, driven, nothing_forced}
 use Rattle.scan_model.proofs.FanSweeps.{reads_in_range}
 use Rattle.lane_rows.specs.declared.kept_gates.KeptGate.{KeptGate}
-use Rattle.lane_rows.specs.Wiring.{IsKept, AreKept, no_gate, pin_nets, read_nets}
+use Rattle.lane_rows.specs.Wiring.{IsKept, AreKept, kept_gate, kind_of, no_gate, pin_nets, read_nets}
 
 -- a part of a list, as what stands at its places
 part_is : {A : Type 0} (d : A) (xs : List A) (first count : ℕ) → first + count ≤ length xs → slice_range xs first (first + count) ≡ map (λ i. get_or xs i d) (range_with_len first count)
@@ -63,18 +64,22 @@ module _ (c : Netlist) (sound : IsNetlist c) (gate : ℕ) (lt : gate < length c.
       let driver : driver_of c gate ≡ Gate kind = rw is at driven in
       rw (is, all) (ap (gate_value kind) (of_pins c gate pins_within (λ pin. value pin.net)) ∙ ap (λ (d : Driver). driven_by c d gate value) (sym driver))
 
--- ---- one gate more
+-- ---- what is kept of all gates of an order
 
-pub kept_more : (c : Netlist) (order : List ℕ) (gates : List KeptGate) (nets : List ℕ) (i gate : ℕ) (kept : KeptGate) → length gates ≡ i → gate ≡ get_or order i 0
-    → ((k : ℕ) → k < i → IsKept c nets (get_or order k 0) (get_or gates k no_gate)) → IsKept c nets gate kept
-    → (k : ℕ) → k < i + 1 → IsKept c nets (get_or order k 0) (get_or (gates ++ kept ∷ []) k no_gate)
-kept_more c order gates nets i gate kept len is before here k lt = elim (cases_lt k i) [
-  | inl below ↦ subst (λ (g : KeptGate). IsKept c nets (get_or order k 0) g) (sym (get_or_append_left gates (kept ∷ []) no_gate k (omega (arith, len)))) (before k below)
-  | inr above ↦
-      let last : i ≡ k = omega arith in
-      let at = subst (λ (g : KeptGate). IsKept c nets gate g) (sym (get_or_push gates kept no_gate i len)) here in
-      subst (λ (n : ℕ). IsKept c nets (get_or order n 0) (get_or (gates ++ kept ∷ []) n no_gate)) last (subst (λ (g : ℕ). IsKept c nets g (get_or (gates ++ kept ∷ []) i no_gate)) is at)
-]
+kind_is : (x : Driver) → is_gate_driver x ≡ true → x ≡ Gate (kind_of x)
+kind_is Input e = absurd cc
+kind_is Flop e = absurd cc
+kind_is (Gate kind) e = refl
+
+pub all_kept : (c : Netlist) (order : List ℕ) → IsNetlist c → IsEvaluationOrder c order → AreKept c order (map (kept_gate c.nets) order) (pin_nets c)
+all_kept c order sound ordered = record {
+  count = length-map order (kept_gate c.nets);
+  each = λ k lt.
+      let gate = get_or order k 0 in
+      let here = ordered.gates k lt in
+      subst (λ (kept : KeptGate). IsKept c (pin_nets c) gate kept) (sym (get_or-map (kept_gate c.nets) order k 0 no_gate lt))
+      (kept_of c sound gate here.0 (net_at c gate) (kind_of (driver_of c gate)) refl (kind_is (driver_of c gate) here.1));
+}
 
 -- ---- the row of a gate
 

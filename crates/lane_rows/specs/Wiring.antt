@@ -2,9 +2,12 @@
 use Rattle.std.specs.Prelude.{◌≡◌, ℕ, ◌<◌, ◌≤◌, List, [], length, cond, Bool, true, ◌&&◌, All, Contains, map, slice_index, slice_index_or, slice_range, ◌+◌}
 use Rattle.scan_model.specs.declared.circuit.PinPlace.{PinPlace}
 use Rattle.scan_model.specs.declared.circuit.PinPlace.TheVariants.{Operand, Output}
-use Rattle.scan_model.specs.declared.circuit.Driver.TheVariants.{Gate}
+use Rattle.scan_model.specs.declared.circuit.Driver.{Driver}
+use Rattle.scan_model.specs.declared.circuit.Driver.TheVariants.{Input, Flop, Gate}
+use Rattle.scan_model.specs.declared.circuit.GateKind.{GateKind}
 use Rattle.scan_model.specs.declared.circuit.GateKind.TheVariants.{Buf}
-use Rattle.scan_model.specs.Netlist.{Netlist, driver_of, is_gate, reads, pin_at}
+use Rattle.scan_model.specs.declared.circuit.Net.{Net}
+use Rattle.scan_model.specs.Netlist.{Netlist, no_net, driver_of, is_gate, reads, pin_at}
 use Rattle.scan_model.specs.Walks.{IsEvaluationOrder}
 use Rattle.scan_model.specs.Cone.{in_fan_in}
 use Rattle.lane_rows.specs.declared.kept_gates.KeptGate.{KeptGate}
@@ -73,6 +76,19 @@ pub record IsWiredFor (c : Netlist) (nets : List ℕ) (order : List ℕ) (sinks 
 -- what stands past the end of what is kept of gates
 abbrev pub no_gate : KeptGate
 no_gate = record { net = 0; kind = Buf; first = 0; count = 0 }
+
+-- the kind of a gate; Buf where no gate drives
+abbrev pub kind_of : Driver → GateKind
+kind_of Input = Buf
+kind_of Flop = Buf
+kind_of (Gate kind) = kind
+
+-- what is kept of a gate is read off its net
+abbrev pub kept_of_net : ℕ → Net → KeptGate
+kept_of_net gate net = record { net = gate; kind = kind_of net.driver; first = net.first_pin; count = net.pin_count }
+
+abbrev pub kept_gate : List Net → ℕ → KeptGate
+kept_gate nets gate = kept_of_net gate (slice_index_or nets gate no_net)
 
 -- the net that each pin sees
 abbrev pub pin_nets : Netlist → List ℕ

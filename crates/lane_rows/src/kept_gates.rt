@@ -1,16 +1,14 @@
 //! What evaluation needs of each gate of an order, side by side: its net, its kind and the nets that it reads.
-ghost use Rattle.std.specs.Prelude.{◌≡◌, ℕ, ◌<◌, true, IfOk, length, slice_index};
+ghost use Rattle.std.specs.Prelude.{◌≡◌, ℕ, ◌<◌, All, IfOk, length, map, slice_index};
 ghost use Rattle.scan_model.specs.declared.values.Tri.TheVariants.{Unknown};
-ghost use Rattle.scan_model.specs.declared.circuit.Driver.TheVariants as driven_by;
-ghost use Rattle.scan_model.specs.Netlist.{is_gate, is_gate_driver};
 ghost use Rattle.scan_model.specs.NetValue.{net_node, nothing_forced};
 ghost use Rattle.scan_model.specs.Walks.{IsEvaluationOrder};
 ghost use Rattle.value_rows.specs.Planes.{held};
-ghost use Rattle.lane_rows.specs.Wiring.{IsKept, AreKept, pin_nets};
+ghost use Rattle.lane_rows.specs.Wiring.{AreKept, kept_gate, kind_of, pin_nets};
 
 use crate::gates::{NetRows, kind_row};
 use crate::wiring::Wiring;
-use scan_model::{Circuit, Driver, GateKind, NoMemory};
+use scan_model::{Circuit, Driver, GateKind, Net, NoMemory};
 use std::alloc::Global;
 use value_rows::Packed;
 
@@ -27,17 +25,13 @@ pub struct KeptGate {
 pub(crate) fn nets_of_pins(alloc: Global, circuit: &Circuit) -> Result<Vec<u32>, NoMemory>
     ensures { IfOk result (λ nets. nets.items ≡ pin_nets circuit.now) }
 {
-    let mut nets = Vec::with_capacity(alloc, circuit.pins().len())?;
-    for pin in circuit.pins().as_slice() {
-        nets.push(pin.net)?;
-    }
-    Ok(nets)
+    let pins = circuit.pins().as_slice();
+    Ok(pins.iter().map(|pin| pin.net).collect(alloc)?)
 }
 
-/// The kind of a gate.
+/// The kind of a gate; `Buf` where no gate drives.
 fn kind_of(driver: Driver) -> GateKind
-    requires { is_gate_driver driver ≡ true }
-    ensures { driver ≡ driven_by.Gate result }
+    ensures { result ≡ kind_of driver }
 {
     match driver {
         Driver::Gate(kind) => kind,
@@ -45,18 +39,30 @@ fn kind_of(driver: Driver) -> GateKind
     }
 }
 
-fn kept_gate(circuit: &Circuit, gate: u32) -> KeptGate
-    requires net { gate < length circuit.now.nets }
-    requires gate { is_gate circuit.now gate ≡ true }
-    ensures { IsKept circuit.now (pin_nets circuit.now) gate result }
+fn kept_gate(nets: &[Net], gate: u32) -> KeptGate
+    requires { gate < length nets.now }
+    ensures { result ≡ kept_gate nets.now gate }
 {
-    let net = &circuit.nets().as_slice()[gate as usize];
+    let net = &nets[gate as usize];
     KeptGate {
         net: gate,
         kind: kind_of(net.driver),
         first: net.first_pin,
         count: net.pin_count,
     }
+}
+
+/// What is kept of each gate of a list.
+fn kept_of(alloc: Global, nets: &[Net], gates: &[u32]) -> Result<Vec<KeptGate>, NoMemory>
+    requires { All (λ g. g < length nets.now) gates.now }
+    ensures { IfOk result (λ kept. kept.items ≡ map (kept_gate nets.now) gates.now) }
+{
+    Ok(
+        gates
+            .iter()
+            .map(|gate| kept_gate(nets, *gate))
+            .collect(alloc)?,
+    )
 }
 
 /// What is kept of each gate of an order.
@@ -68,10 +74,7 @@ pub(crate) fn kept_gates(
     requires { IsEvaluationOrder circuit.now order.now }
     ensures { IfOk result (λ gates. AreKept circuit.now order.now gates.items (pin_nets circuit.now)) }
 {
-    let mut gates = Vec::with_capacity(alloc, order.len())?;
-    for gate in order {
-        gates.push(kept_gate(circuit, *gate))?;
-    }
+    let gates = kept_of(alloc, circuit.nets().as_slice(), order)?;
     Ok(gates)
 }
 
