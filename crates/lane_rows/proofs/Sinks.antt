@@ -1,8 +1,8 @@
 -- Marks that are carried back to all that leads to a net, and the places of the gates that read one.
-use Rattle.std.proofs.Common.{◌≡◌, ℕ, zero, suc, ◌+◌, ◌<◌, ◌≤◌, Bool, true, false, cond, eqb, ◌&&◌, ◌||◌, List, [], ◌∷◌, length, map, get_or, refl, sym, ap, subst, ◌∙◌, inl, inr, arith}
+use Rattle.std.proofs.Common.{◌≡◌, ℕ, zero, suc, ◌+◌, ◌<◌, ◌≤◌, Bool, true, false, eqb, ◌||◌, List, [], ◌∷◌, length, map, get_or, refl, sym, ap, subst, ◌∙◌, inl, inr, arith}
 use Rattle.std.specs.Prelude.{Contains, filter}
 use Rattle.std.specs.List.{list_any, range_with_len}
-use Rattle.std.proofs.lemmas.Bool.{cases_Bool, cases_lt, eq-eqb, eqb-true, or_cases, and_parts, and_from}
+use Rattle.std.proofs.lemmas.Bool.{cases_Bool, cases_lt, eq-eqb, eqb-true, or_cases}
 use Rattle.std.proofs.lemmas.List.{get_or_default}
 use Rattle.std.proofs.lemmas.List.FromFn.{length-map-range_with_len, get_or-map-range_with_len}
 use Rattle.scan_model.specs.declared.circuit.Driver.{Driver}
@@ -15,7 +15,7 @@ use Rattle.scan_model.proofs.Along.{in_front}
 use Rattle.scan_model.proofs.Orders.{filter_range_at, filter_range_all, Contains-cons}
 use Rattle.scan_model.proofs.FanSweeps.{any_found, fan_node, is_read, reads_in_range}
 use Rattle.lane_rows.specs.Wiring.{LeadsUp, sinks_of}
-use Rattle.lane_rows.specs.Wiring.{AreMarked, AreLiveReads, IsMadeFor, sink_key, place_key, place_gate}
+use Rattle.lane_rows.specs.Wiring.{AreMarked, AreLivePlaces, AreLiveReads, IsMadeFor, sink_place, place_at}
 use Rattle.lane_rows.proofs.Once.{places_agree}
 
 read_found : (c : Netlist) (p : ℕ → Bool) (n : ℕ) (x : Driver) → any_read c x p n ≡ true → (is_gate_driver x ≡ true) × ((r : ℕ) × Contains (reads c n) r × (p r ≡ true))
@@ -101,53 +101,26 @@ module _ (c : Netlist) (sound : IsNetlist c) where
       go (suc i) lt is later = let rest = later (i, omega arith, is) in (rest.0, Contains-cons y xs rest.0 rest.1, rest.2)
 
   module _ (order places names keys : List ℕ) (marked : ℕ → Bool) (sinks : List (List ℕ)) (ordered : IsEvaluationOrder c order)
-      (placed : (k : ℕ) → k < length order → get_or places (get_or order k 0) 0 ≡ k)
-      (live_reads : AreLiveReads c marked places (length c.pins) keys names)
+      (placed : AreLivePlaces order marked places) (sized : length places ≡ length c.nets)
+      (live_reads : AreLiveReads c places (length order) (length c.pins) keys names)
       (len : length sinks ≡ length c.nets)
       (grouped : (n : ℕ) → n < length c.nets → get_or sinks n [] ≡ map (λ i. get_or names i 0) (filter (λ i. eqb (get_or keys i 0) n) (range_with_len 0 (length keys)))) where
-    -- a pin of the group of a net is an operand of a gate
-    record IsSink (n k p : ℕ) : Type 0 where
-      gate : ℕ
-      gate_lt : gate < length c.nets
-      is_a_gate : is_gate c gate ≡ true
-      reads_it : Contains (reads c gate) n
-      stands : get_or places gate 0 ≡ k
+    -- a pin with a place is an operand of the gate there
+    sink_by_place : (n k p : ℕ) (x : PinPlace) → IsPlacedAt c p x → (pin_at c p).net ≡ n → place_at places (length order) x ≡ k → k < length order → (k < length order) × Contains (reads c (get_or order k 0)) n
+    sink_by_place n k p (place.Output i) at net is lt = absurd (omega (arith, is, lt))
+    sink_by_place n k p (place.Operand g i) at net is lt =
+        let here : get_or order k 0 ≡ g = ap (λ (j : ℕ). get_or order j 0) (sym is) ∙ placed.only g (omega (arith, at.0, sized)) (omega (arith, is, lt)) in
+        (lt, subst (λ (x : ℕ). Contains (reads c x) n) (sym here) (subst (λ (x : ℕ). Contains (reads c g) x) (ap (λ (q : ℕ). (pin_at c q).net) (sym at.2) ∙ net) (is_read c g i at.1)))
 
-    sink_by_place : (n p : ℕ) (x : PinPlace) → n < length c.nets → IsPlacedAt c p x → place_key c marked x (pin_at c p).net ≡ n → IsSink n (get_or places (place_gate x) 0) p
-    sink_by_place n p (place.Output k) lt at key = absurd (omega arith)
-    sink_by_place n p (place.Operand g i) lt at key = elim (cases_Bool (marked g && is_gate c g)) [
-      | inl live ↦
-          let net : (pin_at c p).net ≡ n = ap (λ (b : Bool). cond b (pin_at c p).net (length c.nets)) (sym live) ∙ key in
-          record {
-            gate = g;
-            gate_lt = at.0;
-            is_a_gate = (and_parts (marked g) (is_gate c g) live).1;
-            reads_it = subst (λ (x : ℕ). Contains (reads c g) x) (ap (λ (q : ℕ). (pin_at c q).net) (sym at.2) ∙ net) (is_read c g i at.1);
-            stands = refl;
-          }
-      | inr idle ↦ absurd (omega (arith, ap (λ (b : Bool). cond b (pin_at c p).net (length c.nets)) (sym idle) ∙ key))
-    ]
-
-    sink_at : (n k : ℕ) → n < length c.nets → Contains (sinks_of sinks n) k → (g : ℕ) × (g < length c.nets) × (is_gate c g ≡ true) × Contains (reads c g) n × (get_or places g 0 ≡ k)
-    sink_at n k lt sink =
+    place_in : (n k : ℕ) → n < length c.nets → Contains (sinks_of sinks n) k → (k < length order) × Contains (reads c (get_or order k 0)) n
+    place_in n k lt sink =
         let read = out_of_map (λ i. get_or names i 0) (filter (λ i. eqb (get_or keys i 0) n) (range_with_len 0 (length keys))) k (subst (λ (xs : List ℕ). Contains xs k) (grouped n lt) sink) in
         let at = read.1 in
         let facts = filter_range_at (λ i. eqb (get_or keys i 0) n) 0 (length keys) at.0 read.0 at.1 in
         let in_range : read.0 < length keys = omega (arith, facts.1, at.2) in
         let pin = live_reads.each read.0 in_range in
-        let p = pin.0 in
         let stands : get_or keys read.0 0 ≡ n = eqb-true (get_or keys read.0 0) n (ap (λ (i : ℕ). eqb (get_or keys i 0) n) (sym at.2) ∙ facts.2) in
-        let key : sink_key c marked p ≡ n = pin.2 ∙ stands in
-        let is = sink_by_place n p (pin_at c p).place lt (sound.pin_places p pin.1) key in
-        (is.gate, is.gate_lt, is.is_a_gate, is.reads_it, is.stands ∙ sym pin.3 ∙ read.2)
-
-    place_in : (n k : ℕ) → n < length c.nets → Contains (sinks_of sinks n) k → (k < length order) × Contains (reads c (get_or order k 0)) n
-    place_in n k lt sink =
-        let is = sink_at n k lt sink in
-        let at = ordered.all is.0 is.1 is.2 in
-        let here : get_or order at.0 0 ≡ is.0 = get_or_default order at.0 0 is.0 at.1 ∙ at.2 in
-        let same : k ≡ at.0 = sym is.4 ∙ ap (λ (x : ℕ). get_or places x 0) (sym here) ∙ placed at.0 at.1 in
-        (omega (arith, at.1, same), subst (λ (x : ℕ). Contains (reads c x) n) (sym here ∙ ap (λ (x : ℕ). get_or order x 0) (sym same)) is.3)
+        sink_by_place n k pin.0 (pin_at c pin.0).place (sound.pin_places pin.0 pin.1) (pin.2 ∙ stands) (pin.3 ∙ read.2) (omega (arith, pin.4, read.2))
 
     pub made_for : IsMadeFor c order marked sinks
     made_for = record {
@@ -165,7 +138,7 @@ module _ (c : Netlist) (sound : IsNetlist c) where
           let g = get_or order k 0 in
           let gate = ordered.gates k lt in
           let inside = reads_in_range c g n sound gate.0 read in
-          covered n k g lt gate.0 gate.1 live inside refl (operand_of g n gate.0 read);
+          covered n k lt live gate.0 inside (operand_of g n gate.0 read);
     }
       where
         operand_of : (g n : ℕ) → g < length c.nets → Contains (reads c g) n → (i : ℕ) × (i < (net_at c g).pin_count) × ((pin_at c ((net_at c g).first_pin + i)).net ≡ n)
@@ -173,16 +146,17 @@ module _ (c : Netlist) (sound : IsNetlist c) where
             let short : read.0 < (net_at c g).pin_count = omega (arith, read.1, length-map-range_with_len (λ p. (pin_at c p).net) (net_at c g).first_pin (net_at c g).pin_count) in
             (read.0, short, sym (get_or-map-range_with_len (λ p. (pin_at c p).net) (net_at c g).first_pin (net_at c g).pin_count read.0 ((net_at c g).first_pin + read.0) n short refl) ∙ read.2)
 
-        covered : (n k g : ℕ) → k < length order → g < length c.nets → is_gate c g ≡ true → marked g ≡ true → n < length c.nets → get_or order k 0 ≡ g
-            → (i : ℕ) × (i < (net_at c g).pin_count) × ((pin_at c ((net_at c g).first_pin + i)).net ≡ n) → Contains (sinks_of sinks n) k
-        covered n k g lt g_lt gate live n_lt is op =
+        covered : (n k : ℕ) → k < length order → marked (get_or order k 0) ≡ true → get_or order k 0 < length c.nets → n < length c.nets
+            → (i : ℕ) × (i < (net_at c (get_or order k 0)).pin_count) × ((pin_at c ((net_at c (get_or order k 0)).first_pin + i)).net ≡ n) → Contains (sinks_of sinks n) k
+        covered n k lt live g_lt n_lt op =
+            let g = get_or order k 0 in
             let p = (net_at c g).first_pin + op.0 in
             let in_range : p < length c.pins = omega (arith, sound.operand_range g g_lt, op.1) in
             let at : (pin_at c p).place ≡ place.Operand g op.0 = sound.operand_places g op.0 g_lt op.1 in
-            let key : sink_key c marked p ≡ n = ap (λ (x : PinPlace). place_key c marked x (pin_at c p).net) at ∙ ap (λ (b : Bool). cond b (pin_at c p).net (length c.nets)) (and_from (marked g) (is_gate c g) live gate) ∙ op.2 in
-            let entry = live_reads.all p in_range (omega (arith, key, n_lt)) in
+            let stands : sink_place c places (length order) p ≡ k = ap (place_at places (length order)) at ∙ placed.live k lt live in
+            let entry = live_reads.all p in_range (omega (arith, stands, lt)) in
             let e = entry.0 in
-            let name : get_or names e 0 ≡ k = entry.3 ∙ ap (λ (x : PinPlace). get_or places (place_gate x) 0) at ∙ ap (λ (x : ℕ). get_or places x 0) (sym is) ∙ placed k lt in
-            let listed = filter_range_all (λ i. eqb (get_or keys i 0) n) 0 (length keys) e (omega arith) (omega (arith, entry.1)) (eq-eqb (get_or keys e 0) n (sym entry.2 ∙ key)) in
+            let name : get_or names e 0 ≡ k = sym entry.3 ∙ stands in
+            let listed = filter_range_all (λ i. eqb (get_or keys i 0) n) 0 (length keys) e (omega arith) (omega (arith, entry.1)) (eq-eqb (get_or keys e 0) n (sym entry.2 ∙ op.2)) in
             subst (λ (xs : List ℕ). Contains xs k) (sym (grouped n n_lt))
             (subst (λ (x : ℕ). Contains (map (λ i. get_or names i 0) (filter (λ i. eqb (get_or keys i 0) n) (range_with_len 0 (length keys)))) x) name (in_map (λ i. get_or names i 0) (filter (λ i. eqb (get_or keys i 0) n) (range_with_len 0 (length keys))) e listed))

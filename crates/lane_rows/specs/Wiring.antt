@@ -1,5 +1,5 @@
 -- The wiring: the gates that lead to an observed net, in order, and those of them that read each net.
-use Rattle.std.specs.Prelude.{◌≡◌, ℕ, ◌<◌, ◌≤◌, List, [], length, cond, Bool, true, ◌&&◌, All, Contains, map, slice_index, slice_index_or, slice_range, ◌+◌}
+use Rattle.std.specs.Prelude.{◌≡◌, ℕ, ◌<◌, ◌≤◌, List, [], length, Bool, true, All, Contains, map, slice_index, slice_index_or, slice_range, ◌+◌}
 use Rattle.scan_model.specs.declared.circuit.PinPlace.{PinPlace}
 use Rattle.scan_model.specs.declared.circuit.PinPlace.TheVariants.{Operand, Output}
 use Rattle.scan_model.specs.declared.circuit.Driver.{Driver}
@@ -36,29 +36,26 @@ pub record AreMarked (c : Netlist) (nets : List ℕ) (marked : ℕ → Bool) : T
   pub own : (k : ℕ) → k < length nets → marked (slice_index nets k) ≡ true
   pub closed : (g n : ℕ) → g < length c.nets → is_gate c g ≡ true → marked g ≡ true → Contains (reads c g) n → marked n ≡ true
 
-abbrev pub place_key : Netlist → (ℕ → Bool) → PinPlace → ℕ → ℕ
-place_key c marked (Operand g i) net = cond (marked g && is_gate c g) net (length c.nets)
-place_key c marked (Output k) net = length c.nets
+-- Where the gates with a mark stand in an order, by their nets; other nets have its end.
+pub record AreLivePlaces (order : List ℕ) (marked : ℕ → Bool) (places : List ℕ) : Type 0 where
+  pub live : (k : ℕ) → k < length order → marked (slice_index order k) ≡ true → slice_index places (slice_index order k) ≡ k
+  pub only : (n : ℕ) → n < length places → slice_index places n < length order → slice_index order (slice_index places n) ≡ n
 
--- the net of a pin that is an operand of a gate with a mark, else one past the nets
-abbrev pub sink_key : Netlist → (ℕ → Bool) → ℕ → ℕ
-sink_key c marked p = place_key c marked (pin_at c p).place (pin_at c p).net
+-- the place of the gate of which a pin is an operand; that of an output is the end
+abbrev pub place_at : List ℕ → ℕ → PinPlace → ℕ
+place_at places end (Operand g i) = slice_index places g
+place_at places end (Output k) = end
 
-abbrev pub place_gate : PinPlace → ℕ
-place_gate (Operand g i) = g
-place_gate (Output k) = 0
+abbrev pub sink_place : Netlist → List ℕ → ℕ → ℕ → ℕ
+sink_place c places end p = place_at places end (pin_at c p).place
 
--- the net of which a pin is an operand
-abbrev pub sink_gate : Netlist → ℕ → ℕ
-sink_gate c p = place_gate (pin_at c p).place
-
--- The nets that operands of gates with a mark see, and beside each the place of the gate; of the first pins.
-pub record AreLiveReads (c : Netlist) (marked : ℕ → Bool) (places : List ℕ) (end : ℕ) (nets at : List ℕ) : Type 0 where
-  pub few : length nets ≤ end
+-- The nets that operands of gates with a place see, and beside each the place; of the first pins.
+pub record AreLiveReads (c : Netlist) (places : List ℕ) (end pins : ℕ) (nets at : List ℕ) : Type 0 where
+  pub few : length nets ≤ pins
   pub same : length at ≡ length nets
   pub within : All (λ n. n < length c.nets) nets
-  pub each : (i : ℕ) → i < length nets → (p : ℕ) × (p < end) × (sink_key c marked p ≡ slice_index nets i) × (slice_index at i ≡ slice_index places (sink_gate c p))
-  pub all : (p : ℕ) → p < end → sink_key c marked p < length c.nets → (i : ℕ) × (i < length nets) × (sink_key c marked p ≡ slice_index nets i) × (slice_index at i ≡ slice_index places (sink_gate c p))
+  pub each : (i : ℕ) → i < length nets → (p : ℕ) × (p < pins) × ((pin_at c p).net ≡ slice_index nets i) × (sink_place c places end p ≡ slice_index at i) × (slice_index at i < end)
+  pub all : (p : ℕ) → p < pins → sink_place c places end p < end → (i : ℕ) × (i < length nets) × ((pin_at c p).net ≡ slice_index nets i) × (sink_place c places end p ≡ slice_index at i)
 
 -- Wiring in which the gates with a mark wait for what they read.
 pub record IsMadeFor (c : Netlist) (order : List ℕ) (marked : ℕ → Bool) (sinks : List (List ℕ)) : Type 0 where

@@ -1,14 +1,14 @@
 //! An order of evaluation of the gates, and for each net the gates that read it.
-ghost use Rattle.std.specs.Prelude.{◌≡◌, ◌≢◌, ◌||◌, ◌==◌, ℕ, ◌+◌, ◌<◌, ◌≤◌, ◌^◌, true, false, Contains, length, All, IfOk, OnOk, IsTrue, slice_index};
+ghost use Rattle.std.specs.Prelude.{◌≡◌, ◌≢◌, ◌||◌, ◌==◌, ℕ, ◌+◌, ◌<◌, ◌^◌, true, false, Contains, length, All, IfOk, OnOk, IsTrue, slice_index};
 ghost use Rattle.std.specs.List.{list_any};
-ghost use Rattle.scan_model.specs.Netlist.{is_gate, is_gate_net, reads, pin_at};
+ghost use Rattle.scan_model.specs.Netlist.{is_gate, reads, pin_at};
 ghost use Rattle.scan_model.specs.Walks.{IsEvaluationOrder};
 ghost use Rattle.scan_model.specs.Marks.{is_marked};
-ghost use Rattle.lane_rows.specs.Wiring.{AreKept, AreMarked, AreLiveReads, IsMadeFor, IsWiredFor, sink_key, sink_gate};
+ghost use Rattle.lane_rows.specs.Wiring.{AreKept, AreMarked, AreLivePlaces, AreLiveReads, IsMadeFor, IsWiredFor, sink_place};
 
-use crate::groups::{Groups, name_at};
+use crate::groups::Groups;
 use crate::kept_gates::{KeptGate, kept_gates, nets_of_pins};
-use scan_model::{Circuit, Driver, Net, NoMemory, Pin, PinPlace};
+use scan_model::{Circuit, NoMemory, PinPlace};
 use std::alloc::Global;
 
 /// The gates of a circuit in an order of evaluation, and for each net who waits for it: the gates that read it and lead to an
@@ -26,26 +26,32 @@ pub struct Wiring {
     pub operands: Vec<u32>,
 }
 
-/// The place of each gate in an order.
-fn places_of(alloc: Global, order: &[u32], nets: usize) -> Result<Vec<u32>, NoMemory>
-    requires nets { All (λ g. g < nets) order.now }
+/// The place in an order of each gate with a mark, by its net; the end of the order for other nets.
+fn live_places(alloc: Global, order: &[u32], marks: &[bool]) -> Result<Vec<u32>, NoMemory>
+    requires nets { All (λ g. g < length marks.now) order.now }
     requires fits { length order.now < 2 ^ 32 }
     requires once { (i j : ℕ) → i < j → j < length order.now → slice_index order.now i ≢ slice_index order.now j }
-    ensures { IfOk result (λ places. (k : ℕ) → k < length order.now → slice_index places.items (slice_index order.now k) ≡ k) }
+    ensures len { IfOk result (λ places. length places.items ≡ length marks.now) }
+    ensures places { IfOk result (λ places. AreLivePlaces order.now (is_marked marks.now) places.items) }
 {
-    let mut places = vec![in alloc; 0u32; nets]?;
-    write_places(&mut places, order);
+    let mut places = vec![in alloc; order.len() as u32; marks.len()]?;
+    write_places(&mut places, order, marks);
     Ok(places)
 }
 
-fn write_places(places: &mut [u32], order: &[u32])
+fn write_places(places: &mut [u32], order: &[u32], marks: &[bool])
     requires nets { All (λ g. g < length places.old) order.now }
+    requires marks { length marks.now ≡ length places.old }
     requires fits { length order.now < 2 ^ 32 }
     requires once { (i j : ℕ) → i < j → j < length order.now → slice_index order.now i ≢ slice_index order.now j }
-    ensures { (k : ℕ) → k < length order.now → slice_index places.new (slice_index order.now k) ≡ k }
+    requires none { (n : ℕ) → n < length places.old → slice_index places.old n ≡ length order.now }
+    ensures { AreLivePlaces order.now (is_marked marks.now) places.new }
 {
     for k in 0..order.len() {
-        places[order[k] as usize] = k as u32;
+        let gate = order[k] as usize;
+        if marks[gate] {
+            places[gate] = k as u32;
+        }
     }
 }
 
@@ -116,40 +122,26 @@ fn live_marks(
     Ok(marks)
 }
 
-fn has_gate(nets: &[Net], net: u32) -> bool
-    requires { net < length nets.now }
-    ensures { result ≡ is_gate_net nets.now net }
-{
-    matches!(nets[net as usize].driver, Driver::Gate(_))
-}
-
-/// The net that a pin sees where it is an operand of a gate with a mark, else one past the nets.
-fn key_of(circuit: &Circuit, marks: &[bool], pin: u32) -> u32
+/// The place of the gate of which a pin is an operand; `end` for the pin of an output.
+fn place_of(circuit: &Circuit, places: &[u32], end: u32, pin: u32) -> u32
     requires pin { pin < length circuit.now.pins }
-    requires marks { length marks.now ≡ length circuit.now.nets }
-    ensures value { result ≡ sink_key circuit.now (is_marked marks.now) pin }
-    ensures range { result ≤ length circuit.now.nets }
+    requires places { length places.now ≡ length circuit.now.nets }
+    ensures { result ≡ sink_place circuit.now places.now end pin }
 {
-    let nets = circuit.nets().as_slice();
-    let pin = circuit.pins().as_slice()[pin as usize];
-    if let PinPlace::Operand { net, .. } = pin.place {
-        if marks[net as usize] && has_gate(nets, net) {
-            return pin.net;
-        }
+    let _ = circuit.nets();
+    match circuit.pins().as_slice()[pin as usize].place {
+        PinPlace::Operand { net, .. } => places[net as usize],
+        PinPlace::Output { .. } => end,
     }
-    nets.len() as u32
 }
 
-/// The place of the gate of which a pin is an operand.
-fn place_of(circuit: &Circuit, places: &[u32], pin: u32) -> u32
+/// The net that a pin sees.
+fn net_of(circuit: &Circuit, pin: u32) -> u32
     requires { pin < length circuit.now.pins }
-    ensures { result ≡ slice_index places.now (sink_gate circuit.now pin) }
+    ensures value { result ≡ (pin_at circuit.now pin).net }
+    ensures range { result < length circuit.now.nets }
 {
-    let gate = match circuit.pins().as_slice()[pin as usize].place {
-        PinPlace::Operand { net, .. } => net,
-        PinPlace::Output { .. } => 0,
-    };
-    name_at(places, gate)
+    circuit.pins().as_slice()[pin as usize].net
 }
 
 /// The nets that operands of gates with a mark see, and beside each the place of the gate.
@@ -160,25 +152,25 @@ struct LiveReads {
 }
 
 impl LiveReads {
-    /// Adds the net that a pin sees, where the pin is an operand of a gate with a mark.
+    /// Adds the net that a pin sees, where the pin is an operand of a gate with a place.
     fn add_pin(
         &mut self,
         circuit: &Circuit,
-        marks: &[bool],
         places: &[u32],
+        end: u32,
         pin: u32,
     ) -> Result<(), NoMemory>
         requires pin { pin < length circuit.now.pins }
-        requires marks { length marks.now ≡ length circuit.now.nets }
-        requires reads { AreLiveReads circuit.now (is_marked marks.now) places.now pin self.old.nets.items self.old.places.items }
-        ensures { OnOk result (AreLiveReads circuit.now (is_marked marks.now) places.now (pin + 1) self.new.nets.items self.new.places.items) }
+        requires places { length places.now ≡ length circuit.now.nets }
+        requires reads { AreLiveReads circuit.now places.now end pin self.old.nets.items self.old.places.items }
+        ensures { OnOk result (AreLiveReads circuit.now places.now end (pin + 1) self.new.nets.items self.new.places.items) }
     {
-        let key = key_of(circuit, marks, pin);
-        if key as usize >= marks.len() {
+        let place = place_of(circuit, places, end, pin);
+        if place >= end {
             return Ok(());
         }
-        self.nets.push(key)?;
-        self.places.push(place_of(circuit, places, pin))?;
+        self.nets.push(net_of(circuit, pin))?;
+        self.places.push(place)?;
         Ok(())
     }
 }
@@ -186,17 +178,17 @@ impl LiveReads {
 fn live_reads(
     alloc: Global,
     circuit: &Circuit,
-    marks: &[bool],
     places: &[u32],
+    end: u32,
 ) -> Result<LiveReads, NoMemory>
-    requires marks { length marks.now ≡ length circuit.now.nets }
-    ensures { IfOk result (λ reads. AreLiveReads circuit.now (is_marked marks.now) places.now (length circuit.now.pins) reads.nets.items reads.places.items) }
+    requires { length places.now ≡ length circuit.now.nets }
+    ensures { IfOk result (λ reads. AreLiveReads circuit.now places.now end (length circuit.now.pins) reads.nets.items reads.places.items) }
 {
     let nets = Vec::with_capacity(alloc, circuit.pins().len())?;
     let at = Vec::with_capacity(alloc, circuit.pins().len())?;
     let mut reads = LiveReads { nets, places: at };
     for pin in 0..circuit.pins().len() {
-        reads.add_pin(circuit, marks, places, pin as u32)?;
+        reads.add_pin(circuit, places, end, pin as u32)?;
     }
     Ok(reads)
 }
@@ -213,8 +205,8 @@ fn sinks_of(
     ensures { IfOk result (IsMadeFor circuit.now order.now (is_marked marks.now)) }
 {
     let nets = circuit.nets().len();
-    let places = places_of(alloc, order, nets)?;
-    let reads = live_reads(alloc, circuit, marks, &places)?;
+    let places = live_places(alloc, order, marks)?;
+    let reads = live_reads(alloc, circuit, &places, order.len() as u32)?;
     let groups = Groups::of(alloc, &reads.nets, nets)?;
     let sinks = groups.renamed(alloc, &reads.places)?;
     Ok(sinks)
