@@ -4,6 +4,7 @@
 mod fields;
 mod named_pairs;
 mod ranks;
+mod reached_rows;
 mod reading;
 mod records;
 mod sweep;

@@ -41,13 +41,16 @@ pub fn ranks_of(alloc: Global, circuit: &Circuit, order: &[u32]) -> Result<Vec<u
 }
 
 /// The nets of a pair, the one of lower rank in front. Only the second can read the first.
-pub fn in_order(ranks: &[u32], pair: &Pair) -> (usize, usize)
+pub fn in_order(ranks: &[u32], pair: &Pair) -> (u32, u32)
     requires { (pair.now.a < length ranks.now) × (pair.now.b < length ranks.now) }
     ensures { result ≡ (start_of ranks.now pair.now, target_of ranks.now pair.now) }
 {
-    let a = pair.a as usize;
-    let b = pair.b as usize;
-    if ranks[a] <= ranks[b] { (a, b) } else { (b, a) }
+    let Pair { a, b, row: _ } = *pair;
+    if ranks[a as usize] <= ranks[b as usize] {
+        (a, b)
+    } else {
+        (b, a)
+    }
 }
 
 /// Between which places of the order a sweep for a batch of pairs runs: after the lowest start, up to the highest
@@ -64,8 +67,8 @@ pub fn window(ranked: &RankedCircuit<'_>, batch: &[Pair]) -> (usize, usize)
     let mut high = 0;
     for pair in batch {
         let (start, target) = in_order(ranked.ranks, pair);
-        low = low.min(ranked.ranks[start] as usize);
-        high = high.max(ranked.ranks[target] as usize);
+        low = low.min(ranked.ranks[start as usize] as usize);
+        high = high.max(ranked.ranks[target as usize] as usize);
     }
     (low.min(high), high)
 }

@@ -1,79 +1,118 @@
 //! Which pairs are feedback pairs: sweeps over the gates, each for 512 pairs.
 
-ghost use Rattle.std.specs.Prelude.{◌≡◌, ◌<◌, ◌≤◌, ◌==◌, [], ◌∷◌, ◌++◌, ◌≢◌, ◌||◌, ℕ, if◌then◌else◌, length, filter, not, All, IfOk, OnOk, slice_index_or};
+ghost use Rattle.std.specs.Prelude.{◌≡◌, ◌<◌, ◌≤◌, ◌==◌, [], ◌∷◌, ◌++◌, ◌≢◌, ◌||◌, ℕ, if◌then◌else◌, length, filter, map, not, All, IfOk, OnOk, slice_index_or};
 ghost use Rattle.std.specs.List.{list_any};
 ghost use Rattle.scan_model.specs.Netlist.{reads};
 ghost use Rattle.bit_rows.specs.Lanes.{lane};
 ghost use Rattle.bridge_pairs.specs.PairText.{is_feedback, parted};
-ghost use Rattle.bridge_pairs.specs.PairRows.{has_pair, IsBlank};
+ghost use Rattle.bridge_pairs.specs.PairRows.{has_row, has_pair, IsBlank};
 ghost use Rattle.bridge_pairs.specs.Ranks.{IsRanked, start_of, target_of};
 
 use crate::ranks::{RankedCircuit, in_order, ranks_of, window};
+use crate::reached_rows::ReachedRows;
 use bit_rows::Row;
-use scan_model::{Circuit, NoMemory, Pair, Pairs, Rows};
+use scan_model::{Circuit, NoMemory, Pair, Pairs, Pin, Rows};
 use std::alloc::Global;
 
 /// How many pairs one sweep tells: a row has a lane for each.
 const BATCH: usize = 512;
 
+/// The pins of a gate's operands.
+fn operand_pins(circuit: &Circuit, gate: u32) -> &[Pin]
+    requires { gate < length circuit.now.nets }
+    ensures reads { map (λ p. p.net) result.now ≡ reads circuit.now gate }
+    ensures nets { All (λ p. p.net < length circuit.now.nets) result.now }
+{
+    let net = &circuit.nets().as_slice()[gate as usize];
+    let first = net.first_pin as usize;
+    &circuit.pins().as_slice()[first..first + net.pin_count as usize]
+}
+
+/// Whether a gate has an operand with a row.
+fn is_reached(circuit: &Circuit, rows: &ReachedRows, gate: u32) -> bool
+    requires gate { gate < length circuit.now.nets }
+    requires rows { length rows.now ≡ length circuit.now.nets }
+    ensures { result ≡ list_any (has_row rows.now) (reads circuit.now gate) }
+{
+    for pin in operand_pins(circuit, gate) {
+        if rows.has_row(pin.net) {
+            return true;
+        }
+    }
+    false
+}
+
 /// The lanes that a gate's operands have.
-fn read_lanes(circuit: &Circuit, rows: &[Row], gate: u32) -> Row
+fn read_lanes(circuit: &Circuit, rows: &ReachedRows, gate: u32) -> Row
     requires gate { gate < length circuit.now.nets }
     requires rows { length rows.now ≡ length circuit.now.nets }
     ensures { (j : ℕ) → j < 512 → lane result j ≡ list_any (has_pair rows.now j) (reads circuit.now gate) }
 {
-    let net = &circuit.nets().as_slice()[gate as usize];
-    let pins = circuit.pins().as_slice();
-    let first = net.first_pin as usize;
     let mut lanes = Row::none();
-    for p in first..first + net.pin_count as usize {
-        lanes = lanes.or(rows[pins[p].net as usize]);
+    for pin in operand_pins(circuit, gate) {
+        lanes = lanes.or(rows.lanes(pin.net));
     }
     lanes
 }
 
-/// Adds lanes to the row of a net.
-fn add_lanes(rows: &mut [Row], net: usize, lanes: Row)
+/// Adds lanes to those of a net.
+fn add_lanes(rows: &mut ReachedRows, net: u32, lanes: Row) -> Result<(), NoMemory>
     requires { net < length rows.old }
     ensures len { length rows.new ≡ length rows.old }
-    ensures here { (j : ℕ) → j < 512 → has_pair rows.new j net ≡ (has_pair rows.old j net || lane lanes j) }
-    ensures elsewhere { (j n : ℕ) → n ≢ net → has_pair rows.new j n ≡ has_pair rows.old j n }
+    ensures here { OnOk result ((j : ℕ) → j < 512 → has_pair rows.new j net ≡ (has_pair rows.old j net || lane lanes j)) }
+    ensures elsewhere { OnOk result ((j n : ℕ) → n ≢ net → has_pair rows.new j n ≡ has_pair rows.old j n) }
 {
-    rows[net] = rows[net].or(lanes);
+    let all = rows.lanes(net).or(lanes);
+    rows.write(net, all)
+}
+
+/// Adds the lanes of a gate's operands to those of the gate.
+fn pass_gate(circuit: &Circuit, rows: &mut ReachedRows, gate: u32) -> Result<(), NoMemory>
+    requires gate { gate < length circuit.now.nets }
+    requires rows { length rows.old ≡ length circuit.now.nets }
+    ensures len { length rows.new ≡ length rows.old }
+    ensures here { OnOk result ((j : ℕ) → j < 512 → has_pair rows.new j gate ≡ (has_pair rows.old j gate || list_any (has_pair rows.old j) (reads circuit.now gate))) }
+    ensures elsewhere { OnOk result ((j n : ℕ) → n ≢ gate → has_pair rows.new j n ≡ has_pair rows.old j n) }
+{
+    if !is_reached(circuit, rows, gate) {
+        return Ok(());
+    }
+    let lanes = read_lanes(circuit, rows, gate);
+    add_lanes(rows, gate, lanes)
 }
 
 /// Gives the start of pair j lane j.
-fn set_starts(rows: &mut [Row], ranks: &[u32], batch: &[Pair])
+fn set_starts(rows: &mut ReachedRows, ranks: &[u32], batch: &[Pair]) -> Result<(), NoMemory>
     requires rows { length rows.old ≡ length ranks.now }
     requires nets { All (λ p. (p.a < length ranks.now) × (p.b < length ranks.now)) batch.now }
     requires count { length batch.now ≤ 512 }
     requires blank { IsBlank rows.old }
     ensures len { length rows.new ≡ length rows.old }
-    ensures starts { (j n : ℕ) (d : Pair) → j < length batch.now → n < length rows.new → has_pair rows.new j n ≡ (n == start_of ranks.now (slice_index_or batch.now j d)) }
+    ensures starts { OnOk result ((j n : ℕ) (d : Pair) → j < length batch.now → n < length rows.new → has_pair rows.new j n ≡ (n == start_of ranks.now (slice_index_or batch.now j d))) }
 {
     for (j, pair) in batch.iter().enumerate() {
         let (start, _) = in_order(ranks, pair);
-        add_lanes(rows, start, Row::single(j));
+        add_lanes(rows, start, Row::single(j))?;
     }
+    Ok(())
 }
 
 /// Gives the fan-out cone of the start of pair j lane j, up to the batch's highest target.
-fn sweep(ranked: &RankedCircuit<'_>, rows: &mut [Row], batch: &[Pair])
+fn sweep(ranked: &RankedCircuit<'_>, rows: &mut ReachedRows, batch: &[Pair]) -> Result<(), NoMemory>
     requires ranked { IsRanked ranked.now.circuit.now ranked.now.order.now ranked.now.ranks.now }
     requires rows { length rows.old ≡ length ranked.now.circuit.now.nets }
     requires nets { All (λ p. (p.a < length ranked.now.circuit.now.nets) × (p.b < length ranked.now.circuit.now.nets)) batch.now }
     requires count { length batch.now ≤ 512 }
     requires blank { IsBlank rows.old }
     ensures len { length rows.new ≡ length rows.old }
-    ensures lanes { (j : ℕ) (d : Pair) → j < length batch.now → has_pair rows.new j (target_of ranked.now.ranks.now (slice_index_or batch.now j d)) ≡ is_feedback ranked.now.circuit.now (slice_index_or batch.now j d) }
+    ensures lanes { OnOk result ((j : ℕ) (d : Pair) → j < length batch.now → has_pair rows.new j (target_of ranked.now.ranks.now (slice_index_or batch.now j d)) ≡ is_feedback ranked.now.circuit.now (slice_index_or batch.now j d)) }
 {
-    set_starts(rows, ranked.ranks, batch);
+    set_starts(rows, ranked.ranks, batch)?;
     let (low, high) = window(ranked, batch);
     for k in low..high {
-        let gate = ranked.order[k];
-        let lanes = read_lanes(ranked.circuit, rows, gate);
-        add_lanes(rows, gate as usize, lanes);
+        pass_gate(ranked.circuit, rows, ranked.order[k])?;
     }
+    Ok(())
 }
 
 /// Adds a pair at the end of those kept or those left out.
@@ -91,7 +130,7 @@ fn add_parted(parts: &mut Pairs, pair: Pair, is_feedback: bool) -> Result<(), No
 /// Adds a batch of pairs at the ends of those kept and those left out.
 fn part_batch(
     ranked: &RankedCircuit<'_>,
-    rows: &mut [Row],
+    rows: &mut ReachedRows,
     batch: &[Pair],
     parts: &mut Pairs,
 ) -> Result<(), NoMemory>
@@ -99,35 +138,24 @@ fn part_batch(
     requires rows { length rows.old ≡ length ranked.now.circuit.now.nets }
     requires nets { All (λ p. (p.a < length ranked.now.circuit.now.nets) × (p.b < length ranked.now.circuit.now.nets)) batch.now }
     requires count { length batch.now ≤ 512 }
-    requires blank { IsBlank rows.old }
     ensures len { length rows.new ≡ length rows.old }
     ensures kept { OnOk result (parts.new.kept ≡ parts.old.kept ++ filter (λ p. not (is_feedback ranked.now.circuit.now p)) batch.now) }
     ensures left_out { OnOk result (parts.new.left_out ≡ parts.old.left_out ++ filter (is_feedback ranked.now.circuit.now) batch.now) }
 {
-    sweep(ranked, rows, batch);
+    rows.clear();
+    sweep(ranked, rows, batch)?;
     for (j, pair) in batch.iter().enumerate() {
         let (_, target) = in_order(ranked.ranks, pair);
-        let is_feedback = rows[target].has(j);
+        let is_feedback = rows.lanes(target).has(j);
         add_parted(parts, *pair, is_feedback)?;
     }
     Ok(())
 }
 
-/// Clears the rows of the lanes that an earlier batch has left.
-fn clear_rows(rows: &mut [Row], at: usize)
-    requires { at ≡ 0 → IsBlank rows.old }
-    ensures len { length rows.new ≡ length rows.old }
-    ensures blank { IsBlank rows.new }
-{
-    if at > 0 {
-        rows.fill(Row::none());
-    }
-}
-
 /// Adds all pairs, batch by batch.
 fn part_all(
     ranked: &RankedCircuit<'_>,
-    rows: &mut [Row],
+    rows: &mut ReachedRows,
     pairs: &[Pair],
     parts: &mut Pairs,
 ) -> Result<(), NoMemory>
@@ -136,12 +164,10 @@ fn part_all(
     requires nets { All (λ p. (p.a < length ranked.now.circuit.now.nets) × (p.b < length ranked.now.circuit.now.nets)) pairs.now }
     requires kept { parts.old.kept ≡ [] }
     requires left_out { parts.old.left_out ≡ [] }
-    requires blank { IsBlank rows.old }
     ensures { OnOk result (parts.new ≡ parted ranked.now.circuit.now pairs.now) }
 {
     let mut at = 0;
     while at < pairs.len() {
-        clear_rows(rows, at);
         let end = pairs.len().min(at + BATCH);
         part_batch(ranked, rows, &pairs[at..end], parts)?;
         at = end;
@@ -156,7 +182,7 @@ pub fn part(alloc: Global, circuit: &Circuit, pairs: &[Pair]) -> Result<Pairs, N
 {
     let order = circuit.order().as_slice();
     let ranks = ranks_of(alloc, circuit, order)?;
-    let mut rows = vec![in alloc; Row::none(); circuit.nets().len()]?;
+    let mut rows = ReachedRows::make(alloc, circuit.nets().len())?;
     let ranked = RankedCircuit {
         circuit,
         order,

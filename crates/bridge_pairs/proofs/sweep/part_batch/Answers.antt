@@ -1,11 +1,8 @@
-use Rattle.std.proofs.Common.{◌≡◌, ℕ, ◌<◌, List, [], length, get_or, ap, ◌∙◌, arith}
-use Rattle.std.proofs.lemmas.List.{get_or_default}
+use Rattle.std.proofs.Common.{◌≡◌, get_or, ap, ◌∙◌, arith}
 use Rattle.scan_model.specs.declared.parts.Pair.{Pair}
-use Rattle.bit_rows.specs.Lanes.{lane}
 use Rattle.bridge_pairs.specs.PairText.{is_feedback}
 use Rattle.bridge_pairs.specs.PairRows.{has_pair}
 use Rattle.bridge_pairs.specs.Ranks.{target_of}
-use Rattle.bridge_pairs.proofs.Ranking.{target_within}
 use Rattle.bridge_pairs.proofs.Parting.{kept_more, left_out_more}
 use Rattle.bridge_pairs.proofs.sweep.part_batch.Goals as goal
 
@@ -18,12 +15,11 @@ loop-j-preserved c =
     let rows = c.sweep.new.rows in
     let target = c.in_order-target.result.1 in
     let is_target : target ≡ target_of c.args.ranked.now.ranks.now (get_or batch j none) = ap (λ r. r.1) c.in_order-target.ensures in
-    let inside : target < length rows = omega (arith, is_target, target_within c.args.ranked.now.ranks.now (length circuit.nets) (get_or batch j none) (c.requires.nets j none c.loop-j-test.true), c.sweep.ensures.len, c.requires.rows) in
     let tested : c.has-is_feedback.result ≡ is_feedback circuit (get_or batch j none) =
     c.has-is_feedback.ensures
-    ∙ ap (λ (row : List ℕ). lane row j) (c.index-rows-target.is ∙ get_or_default rows target c.index-rows-target.result [] inside)
+    ∙ c.lanes.ensures j (omega (arith, c.loop-j-test.true, c.requires.count))
     ∙ ap (has_pair rows j) is_target
-    ∙ c.sweep.ensures.lanes j none c.loop-j-test.true in
+    ∙ c.in_ok-sweep.ensures.lanes j none c.loop-j-test.true in
     record {
       kept = kept_more (is_feedback circuit) batch j none c.has-is_feedback.result c.args.parts.now.kept c.loop-j.parts.kept c.add_parted.new.parts.kept c.loop-j-test.true tested c.loop-j.invariant.kept c.in_ok-add_parted.ensures.kept;
       left_out = left_out_more (is_feedback circuit) batch j none c.has-is_feedback.result c.args.parts.now.left_out c.loop-j.parts.left_out c.add_parted.new.parts.left_out c.loop-j-test.true tested c.loop-j.invariant.left_out c.in_ok-add_parted.ensures.left_out;

@@ -18,7 +18,7 @@ loop-k-init c =
       swept = λ j d lt.
           let p = get_or batch j d in
           swept_start circuit order ranks c.requires.ranked (start_of ranks p) c.window-low.result.0 (has_pair rows j) (start_within ranks (length circuit.nets) p (c.requires.nets j d lt)) (c.window-low.ensures.low j d lt) (omega arith)
-          (λ n n_lt. c.set_starts.ensures.starts j n d lt (omega arith));
+          (λ n n_lt. c.in_ok-set_starts.ensures.starts j n d lt (omega arith));
     }
 
 pub loop-k-preserved : goal.loop-k-preserved
@@ -29,11 +29,11 @@ loop-k-preserved c =
     let batch = c.args.batch.now in
     let within : c.loop-k.k < length order = omega arith in
     record {
-      len = c.add_lanes.ensures.len ∙ c.loop-k.invariant.len;
+      len = c.pass_gate.ensures.len ∙ c.loop-k.invariant.len;
       swept = λ j d lt.
-          swept_lane c.loop-k.rows c.add_lanes.new.rows (get_or order c.loop-k.k 0) c.read_lanes-lanes.result c.add_lanes.ensures.here c.add_lanes.ensures.elsewhere circuit order c.loop-k.k
-          (start_of ranks (get_or batch j d)) j c.requires.ranked.netlist c.requires.ranked.evaluation within refl c.read_lanes-lanes.ensures
-          (start_within ranks (length circuit.nets) (get_or batch j d) (c.requires.nets j d lt)) (omega arith) (c.loop-k.invariant.swept j d lt);
+          swept_lane circuit order c.loop-k.rows c.pass_gate.new.rows (get_or order c.loop-k.k 0) c.loop-k.k (start_of ranks (get_or batch j d)) j c.requires.ranked.netlist c.requires.ranked.evaluation within refl
+          (c.in_ok-pass_gate.ensures.here j (omega arith)) (c.in_ok-pass_gate.ensures.elsewhere j)
+          (start_within ranks (length circuit.nets) (get_or batch j d) (c.requires.nets j d lt)) (c.loop-k.invariant.swept j d lt);
     }
 
 pub returns-clause-lanes : goal.returns-clause-lanes
