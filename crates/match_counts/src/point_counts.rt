@@ -13,7 +13,7 @@ use crate::flip_rows::FlipRows;
 use lane_rows::Row;
 use log_rows::PointRow;
 use packed_sim::{PackedGood, Scratch};
-use scan_model::{NoMemory, Parts, Steps, Stuck};
+use scan_model::{NoMemory, Parts, Steps};
 use std::sync::ledger::Ledger;
 
 /// Counts how many Failing bits of a block a fault explains, and how many Passing bits it mispredicts.
@@ -58,12 +58,6 @@ impl PointCounts<'_> {
         ensures { (σ : Stimuli) → AreRowsOf self.now.parts.now.netlist σ self.now.good.now.rows → (g j : ℕ) → IsPinOf self.now.parts.now pin g → j < 512 → σ.captures (pattern_of self.now.block j) ≡ true
             → lane result j ≡ pin_flips_from self.now.parts.now.netlist (σ.source (pattern_of self.now.block j)) pin g }
     {
-        let zero = self
-            .good
-            .branch_mask(self.parts, self.block, pin, Stuck::Zero);
-        let one = self
-            .good
-            .branch_mask(self.parts, self.block, pin, Stuck::One);
-        zero.or(one)
+        self.good.pin_mask(self.parts, self.block, pin)
     }
 }
