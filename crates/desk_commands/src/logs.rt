@@ -10,7 +10,7 @@ ghost use Rattle.desk_commands.specs.Work.{log_file, logs_reading};
 
 use crate::files::{Stop, named, read_text};
 use desk_outside::Shelf;
-use diagnosis::Case;
+use diagnosis::CaseLogs;
 use scan_model::Name;
 use std::alloc::Global;
 use text_parts::ReadFault;
@@ -36,7 +36,7 @@ pub trait DieLogs {
         ensures same_frame { frame self.new ≡ frame self.old };
 }
 
-impl DieLogs for Case {
+impl DieLogs for CaseLogs<'_> {
     ghost use Rattle.std.specs.Prelude.{[]};
     ghost use Rattle.scan_model.specs.LogText.{log_frame};
     ghost use Rattle.diagnosis.specs.Designs.{texts_of};

@@ -11,7 +11,7 @@ ghost use Rattle.diagnosis.specs.Cases.{case_lines};
 ghost use Rattle.diagnosis.specs.Subjects.{IsSubject, subject_case};
 
 use crate::log::ReadLog;
-use diag_report::{Head, Report, make_text, rank_by_numbers};
+use diag_report::{Head, Report, make_text, rank_in_threads};
 use log_join::Joined;
 use match_counts::counts;
 use packed_sim::PackedGood;
@@ -104,7 +104,7 @@ fn diagnosis_over<R: Threads + Sync>(
 {
     let (parts, good, expected) = (subject.parts, subject.good, subject.expected);
     let mut rows = counts(rt, alloc, parts, good, expected, joined)?;
-    rank_by_numbers(alloc, &mut rows);
+    rank_in_threads(rt, alloc, &mut rows);
     let report = report_over(rt, alloc, subject, joined, &rows)?;
     Ok(Diagnosis {
         report,

@@ -3,6 +3,7 @@
 #![tactic(auto)]
 
 mod case;
+mod case_logs;
 mod checked;
 mod design;
 mod diagnosed;
@@ -18,6 +19,7 @@ mod view;
 mod whole;
 
 pub use case::{Case, case_diagnosis, case_report};
+pub use case_logs::{CaseLogs, report_of_logs};
 pub use checked::{CheckedView, check_report, make_diagnosis, make_report};
 pub use design::{Design, design_of, design_with, read_bundle};
 pub use design_bundle::{Sections, bundle_text};
@@ -26,6 +28,7 @@ pub use log::{ReadLog, log_of, log_over};
 pub use put::Put;
 pub use rows::DesignRows;
 pub use section::{BundleFault, DesignText, Section};
+pub use simulation::{Simulation, simulated_in_threads};
 pub use source::TextSource;
 pub use texts::{ReadDesign, parts_of, read_from};
 pub use view::DieView;

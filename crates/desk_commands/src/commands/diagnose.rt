@@ -15,8 +15,8 @@ use crate::files::Stop;
 use crate::logs::add_logs;
 use command_words::Order;
 use desk_outside::Shelf;
-use diagnosis::{Case, ReadDesign, case_report};
-use scan_model::Name;
+use diagnosis::{CaseLogs, ReadDesign, report_of_logs, simulated_in_threads};
+use scan_model::{Name, Parts};
 use std::alloc::Global;
 use std::mem::forget;
 use std::thread::Threads;
@@ -26,7 +26,7 @@ fn report_of_case<'a, R: Threads + Sync, F: Shelf>(
     rt: &R,
     alloc: Global,
     shelf: &mut F,
-    case: &mut Case,
+    case: &mut CaseLogs<'_>,
     names: &[&'a str],
 ) -> Result<Name, Stop<'a>>
     requires { case.old.logs ≡ [] }
@@ -36,8 +36,33 @@ fn report_of_case<'a, R: Threads + Sync, F: Shelf>(
     ensures later { F.faults shelf.old ≤ F.faults shelf.new }
 {
     add_logs(alloc, shelf, case, names)?;
-    let report = case_report(rt, alloc, case)?;
-    Ok(report.into_text())
+    let simulation = simulated_in_threads(rt, alloc, case.parts())?;
+    let report = report_of_logs(rt, alloc, case, &simulation);
+    forget(simulation);
+    Ok(report?.into_text())
+}
+
+// The report of a die of a design of these parts, with the logs in the files of these names.
+fn report_over_parts<'a, R: Threads + Sync, F: Shelf>(
+    rt: &R,
+    alloc: Global,
+    shelf: &mut F,
+    design: &[u8],
+    die: &[u8],
+    names: &[&'a str],
+    parts: &Parts,
+) -> Result<Name, Stop<'a>>
+    requires design { is_tag design.now ≡ true }
+    requires die { is_tag die.now ≡ true }
+    ensures told { (held : List File) (r : Request) (d : ReadTexts) → parts.now ≡ d.test → design.now ≡ r.design → die.now ≡ r.die
+        → map (λ name. name.now) names.now ≡ r.logs → F.files shelf.old ≡ Some held → Follows result (with_design held r d) }
+    ensures fault { ends_by_fault result ≡ true → Rose (F.faults shelf.old) (F.faults shelf.new) }
+    ensures later { F.faults shelf.old ≤ F.faults shelf.new }
+{
+    let mut case = CaseLogs::make(alloc, design, die, parts)?;
+    let report = report_of_case(rt, alloc, shelf, &mut case, names);
+    forget(case);
+    report
 }
 
 // The report of a die of a design that was read, with the logs in the files of these names.
@@ -57,9 +82,9 @@ fn report_over<'a, R: Threads + Sync, F: Shelf>(
     ensures fault { ends_by_fault result ≡ true → Rose (F.faults shelf.old) (F.faults shelf.new) }
     ensures later { F.faults shelf.old ≤ F.faults shelf.new }
 {
-    let mut case = Case::make(alloc, design, die, read.into_parts())?;
-    let report = report_of_case(rt, alloc, shelf, &mut case, names);
-    forget(case);
+    let parts = read.into_parts();
+    let report = report_over_parts(rt, alloc, shelf, design, die, names, &parts);
+    forget(parts);
     report
 }
 

@@ -18,11 +18,6 @@ returns-in_err-add_logs-clause-told g c = λ held r d test design die logs e.
     rw (is.1, is.2) (subst (λ (reading : Reading (List ℕ)). Follows {X = List ℕ} (Err stop) reading) (same_reading held r d k names test design die logs)
     (no_report held (log_frame k.test k.design k.die) names (die_report k.test k.design k.die) stop (c.in_err-add_logs.ensures.stops held e)))
 
-pub returns-in_err-report-clause-told : goal.returns-in_err-report-clause-told
-returns-in_err-report-clause-told g c = λ held r d test design die logs e.
-    let is = err_from_is_err_and c.from_residual-in_err-report.result c.from_residual-in_err-report.ensures.1 in
-    rw (is.1, is.2) tt
-
 pub returns-clause-told : goal.returns-clause-told
 returns-clause-told g c = λ held r d test design die logs e.
     let k = c.args.case.now in
