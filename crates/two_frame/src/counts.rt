@@ -60,7 +60,7 @@ fn reaching_suspects(
     ensures below { IfOk result (All (λ s. s.place < length (transitions parts.now))) }
     ensures places { IfOk result (λ suspects. places_of suspects ≡ filter (λ p. reaches parts.now marks.now (transition_at parts.now p)) (range_with_len 0 (length (transitions parts.now)))) }
 {
-    let mut suspects = Rows::new(alloc);
+    let mut suspects = Rows::from_vec(Vec::with_capacity(alloc, slow_len(parts) as usize)?);
     for place in 0..slow_len(parts) {
         push_reaching(&mut suspects, parts, marks, place)?;
     }
