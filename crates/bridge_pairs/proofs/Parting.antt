@@ -1,11 +1,9 @@
 -- Pairs that are kept and left out.
-use Rattle.std.proofs.Common.{◌≡◌, ℕ, ◌+◌, ◌-◌, ◌<◌, ◌≤◌, Bool, true, false, not, cond, List, [], ◌∷◌, ◌++◌, length, get_or, take, drop, refl, sym, ap, ◌∙◌, arith}
+use Rattle.std.proofs.Common.{◌≡◌, ℕ, ◌+◌, ◌<◌, Bool, true, false, not, cond, List, [], ◌∷◌, ◌++◌, length, get_or, take, refl, sym, ap, ◌∙◌, arith}
 use Rattle.std.specs.Prelude.{filter}
 use Rattle.std.specs.List.{IsDistinct, AllPairs}
-use Rattle.std.proofs.Math.Seq.{take-add}
 use Rattle.std.proofs.lemmas.Bool.{not-true, or_parts}
-use Rattle.std.proofs.lemmas.List.{append_assoc}
-use Rattle.std.proofs.lemmas.List.Elements.{All-filter, All-weaker, filter_more, filter_passes, filter-append}
+use Rattle.std.proofs.lemmas.List.Elements.{All-filter, All-weaker, filter_more, filter_passes}
 use Rattle.std.proofs.lemmas.List.Filters.{length-filter_both}
 use Rattle.std.proofs.lemmas.List.Kept.{AllPairs-filter}
 use Rattle.std.proofs.lemmas.Map.Keys.{apart_from_distinct, IsDistinct-from_apart}
@@ -20,28 +18,19 @@ kept_one : (b : Bool) (p : Pair) → cond (not b) (p ∷ []) [] ≡ cond b [] (p
 kept_one true p = refl
 kept_one false p = refl
 
--- one more pair of a batch
+-- one more pair
 
-pub left_out_more : (test : Pair → Bool) (batch : List Pair) (j : ℕ) (d : Pair) (b : Bool) (start old new : List Pair) → j < length batch → b ≡ test (get_or batch j d)
-    → old ≡ start ++ filter test (take j batch) → new ≡ old ++ cond b (get_or batch j d ∷ []) [] → new ≡ start ++ filter test (take (j + 1) batch)
-left_out_more test batch j d b start old new lt tested so_far pushed =
-    let last : List Pair = get_or batch j d ∷ [] in
-    let here : filter test (take (j + 1) batch) ≡ filter test (take j batch) ++ cond b last [] = filter_more test batch j d lt ∙ ap (λ x. filter test (take j batch) ++ cond x last []) (sym tested) in
-    pushed ∙ ap (λ xs. xs ++ cond b last []) so_far ∙ append_assoc start (filter test (take j batch)) (cond b last []) ∙ ap (λ xs. start ++ xs) (sym here)
+pub left_out_more : (test : Pair → Bool) (pairs : List Pair) (i : ℕ) (d : Pair) (b : Bool) (old new : List Pair) → i < length pairs → b ≡ test (get_or pairs i d)
+    → old ≡ filter test (take i pairs) → new ≡ old ++ cond b (get_or pairs i d ∷ []) [] → new ≡ filter test (take (i + 1) pairs)
+left_out_more test pairs i d b old new lt tested so_far pushed =
+    let last : List Pair = get_or pairs i d ∷ [] in
+    let here : filter test (take (i + 1) pairs) ≡ filter test (take i pairs) ++ cond b last [] = filter_more test pairs i d lt ∙ ap (λ x. filter test (take i pairs) ++ cond x last []) (sym tested) in
+    pushed ∙ ap (λ xs. xs ++ cond b last []) so_far ∙ sym here
 
-pub kept_more : (test : Pair → Bool) (batch : List Pair) (j : ℕ) (d : Pair) (b : Bool) (start old new : List Pair) → j < length batch → b ≡ test (get_or batch j d)
-    → old ≡ start ++ filter (λ q. not (test q)) (take j batch) → new ≡ old ++ cond b [] (get_or batch j d ∷ []) → new ≡ start ++ filter (λ q. not (test q)) (take (j + 1) batch)
-kept_more test batch j d b start old new lt tested so_far pushed =
-    left_out_more (λ q. not (test q)) batch j d (not b) start old new lt (ap not tested) so_far (pushed ∙ ap (λ xs. old ++ xs) (sym (kept_one b (get_or batch j d))))
-
--- one more batch
-pub batch_more : (test : Pair → Bool) (pairs : List Pair) (at end : ℕ) (old new : List Pair) → at ≤ end → old ≡ filter test (take at pairs) → new ≡ old ++ filter test (take (end - at) (drop at pairs)) → new ≡ filter test (take end pairs)
-batch_more test pairs at end old new le so_far pushed =
-    let split : at + (end - at) ≡ end = omega arith in
-    pushed
-    ∙ ap (λ xs. xs ++ filter test (take (end - at) (drop at pairs))) so_far
-    ∙ sym (filter-append test (take at pairs) (take (end - at) (drop at pairs)))
-    ∙ ap (filter test) (sym (take-add at (end - at) pairs) ∙ ap (λ n. take n pairs) split)
+pub kept_more : (test : Pair → Bool) (pairs : List Pair) (i : ℕ) (d : Pair) (b : Bool) (old new : List Pair) → i < length pairs → b ≡ test (get_or pairs i d)
+    → old ≡ filter (λ q. not (test q)) (take i pairs) → new ≡ old ++ cond b [] (get_or pairs i d ∷ []) → new ≡ filter (λ q. not (test q)) (take (i + 1) pairs)
+kept_more test pairs i d b old new lt tested so_far pushed =
+    left_out_more (λ q. not (test q)) pairs i d (not b) old new lt (ap not tested) so_far (pushed ∙ ap (λ xs. old ++ xs) (sym (kept_one b (get_or pairs i d))))
 
 -- the pairs of a list, parted, fit the circuit
 

@@ -5,3 +5,4 @@ pub mod FieldViews
 pub mod NamedPairs
 pub mod Ranks
 pub mod PairRows
+pub mod StartPlaces

@@ -7,6 +7,7 @@ mod ranks;
 mod reached_rows;
 mod reading;
 mod records;
+mod start_places;
 mod sweep;
 
 pub use reading::{read_pairs, read_pairs_named};

@@ -53,8 +53,8 @@ pub fn read_pairs_named(
 }
 
 /// The pairs that a list of neighbouring nets names, feedback pairs apart, or its first fault: the number of a record,
-/// counted from 1 with the header, and one of the rules 31 to 34. 512 pairs take one sweep over the gates that stand
-/// between their nets in the order of evaluation.
+/// counted from 1 with the header, and one of the rules 31 to 34. 512 pairs that begin near each other in the order of
+/// evaluation, wherever they stand in the list, take one sweep over the gates that stand between their nets.
 pub fn read_pairs(alloc: Global, circuit: &Circuit, bytes: &[u8]) -> Result<Pairs, ReadFault>
     ensures reading { Gives (λ pairs. pairs) result (pairs_reading circuit.now bytes.now) }
     ensures first { IfFault result (IsFirstFault (pairs_break (net_names circuit.now.nets) (records_in bytes.now)) (length (records_in bytes.now))) }

@@ -1,15 +1,17 @@
 //! Which pairs are feedback pairs: sweeps over the gates, each for 512 pairs.
 
-ghost use Rattle.std.specs.Prelude.{◌≡◌, ◌<◌, ◌≤◌, ◌==◌, [], ◌∷◌, ◌++◌, ◌≢◌, ◌||◌, ℕ, if◌then◌else◌, length, filter, map, not, All, IfOk, OnOk, slice_index_or};
+ghost use Rattle.std.specs.Prelude.{◌≡◌, ◌<◌, ◌≤◌, ◌==◌, [], ◌∷◌, ◌++◌, ◌≢◌, ◌||◌, ℕ, if◌then◌else◌, length, map, All, IfOk, OnOk, IsPermutation, slice_index_or};
 ghost use Rattle.std.specs.List.{list_any};
 ghost use Rattle.scan_model.specs.Netlist.{reads};
 ghost use Rattle.bit_rows.specs.Lanes.{lane};
 ghost use Rattle.bridge_pairs.specs.PairText.{is_feedback, parted};
 ghost use Rattle.bridge_pairs.specs.PairRows.{has_row, has_pair, IsBlank};
+ghost use Rattle.bridge_pairs.specs.StartPlaces.{start_places, IsNoted};
 ghost use Rattle.bridge_pairs.specs.Ranks.{IsRanked, start_of, target_of};
 
 use crate::ranks::{RankedCircuit, in_order, ranks_of, window};
 use crate::reached_rows::ReachedRows;
+use crate::start_places::{StartPlace, by_start, pairs_at};
 use bit_rows::Row;
 use scan_model::{Circuit, NoMemory, Pair, Pairs, Pin, Rows};
 use std::alloc::Global;
@@ -127,71 +129,93 @@ fn add_parted(parts: &mut Pairs, pair: Pair, is_feedback: bool) -> Result<(), No
     }
 }
 
-/// Adds a batch of pairs at the ends of those kept and those left out.
-fn part_batch(
-    ranked: &RankedCircuit<'_>,
-    rows: &mut ReachedRows,
-    batch: &[Pair],
-    parts: &mut Pairs,
-) -> Result<(), NoMemory>
-    requires ranked { IsRanked ranked.now.circuit.now ranked.now.order.now ranked.now.ranks.now }
-    requires rows { length rows.old ≡ length ranked.now.circuit.now.nets }
-    requires nets { All (λ p. (p.a < length ranked.now.circuit.now.nets) × (p.b < length ranked.now.circuit.now.nets)) batch.now }
-    requires count { length batch.now ≤ 512 }
-    ensures len { length rows.new ≡ length rows.old }
-    ensures kept { OnOk result (parts.new.kept ≡ parts.old.kept ++ filter (λ p. not (is_feedback ranked.now.circuit.now p)) batch.now) }
-    ensures left_out { OnOk result (parts.new.left_out ≡ parts.old.left_out ++ filter (is_feedback ranked.now.circuit.now) batch.now) }
-{
-    rows.clear();
-    sweep(ranked, rows, batch)?;
-    for (j, pair) in batch.iter().enumerate() {
-        let (_, target) = in_order(ranked.ranks, pair);
-        let is_feedback = rows.lanes(target).has(j);
-        add_parted(parts, *pair, is_feedback)?;
-    }
-    Ok(())
-}
-
-/// Adds all pairs, batch by batch.
-fn part_all(
+/// Notes of the pairs at some places whether they are feedback pairs.
+fn note_batch(
+    alloc: Global,
     ranked: &RankedCircuit<'_>,
     rows: &mut ReachedRows,
     pairs: &[Pair],
-    parts: &mut Pairs,
+    places: &[StartPlace],
+    noted: &mut [bool],
 ) -> Result<(), NoMemory>
     requires ranked { IsRanked ranked.now.circuit.now ranked.now.order.now ranked.now.ranks.now }
     requires rows { length rows.old ≡ length ranked.now.circuit.now.nets }
     requires nets { All (λ p. (p.a < length ranked.now.circuit.now.nets) × (p.b < length ranked.now.circuit.now.nets)) pairs.now }
-    requires kept { parts.old.kept ≡ [] }
-    requires left_out { parts.old.left_out ≡ [] }
-    ensures { OnOk result (parts.new ≡ parted ranked.now.circuit.now pairs.now) }
+    requires places { All (λ s. s.place < length pairs.now) places.now }
+    requires count { length places.now ≤ 512 }
+    requires noted { length noted.old ≡ length pairs.now }
+    ensures len { length rows.new ≡ length rows.old }
+    ensures all { OnOk result (All (λ s. IsNoted ranked.now.circuit.now pairs.now noted.new s.place) places.now) }
+    ensures kept { OnOk result ((i : ℕ) → IsNoted ranked.now.circuit.now pairs.now noted.old i → IsNoted ranked.now.circuit.now pairs.now noted.new i) }
+{
+    let batch = pairs_at(alloc, pairs, places)?;
+    rows.clear();
+    sweep(ranked, rows, &batch)?;
+    for (j, at) in places.iter().enumerate() {
+        let (_, target) = in_order(ranked.ranks, &pairs[at.place]);
+        noted[at.place] = rows.lanes(target).has(j);
+    }
+    Ok(())
+}
+
+/// Notes of all pairs whether they are feedback pairs, batch by batch.
+fn note_all(
+    alloc: Global,
+    ranked: &RankedCircuit<'_>,
+    rows: &mut ReachedRows,
+    pairs: &[Pair],
+    places: &[StartPlace],
+    noted: &mut [bool],
+) -> Result<(), NoMemory>
+    requires ranked { IsRanked ranked.now.circuit.now ranked.now.order.now ranked.now.ranks.now }
+    requires rows { length rows.old ≡ length ranked.now.circuit.now.nets }
+    requires nets { All (λ p. (p.a < length ranked.now.circuit.now.nets) × (p.b < length ranked.now.circuit.now.nets)) pairs.now }
+    requires places { IsPermutation (start_places ranked.now.ranks.now pairs.now) places.now }
+    requires noted { length noted.old ≡ length pairs.now }
+    ensures { OnOk result (noted.new ≡ map (is_feedback ranked.now.circuit.now) pairs.now) }
 {
     let mut at = 0;
-    while at < pairs.len() {
-        let end = pairs.len().min(at + BATCH);
-        part_batch(ranked, rows, &pairs[at..end], parts)?;
+    while at < places.len() {
+        let end = places.len().min(at + BATCH);
+        note_batch(alloc, ranked, rows, pairs, &places[at..end], noted)?;
         at = end;
     }
     Ok(())
 }
 
-/// Parts the feedback pairs from the others. 512 pairs take one sweep over the gates between their nets.
-pub fn part(alloc: Global, circuit: &Circuit, pairs: &[Pair]) -> Result<Pairs, NoMemory>
+/// Which pairs are feedback pairs. A batch has pairs whose starts stand near each other in the order of evaluation, so
+/// that its sweep is short.
+fn feedback_of(alloc: Global, circuit: &Circuit, pairs: &[Pair]) -> Result<Vec<bool>, NoMemory>
     requires { All (λ p. (p.a < length circuit.now.nets) × (p.b < length circuit.now.nets)) pairs.now }
-    ensures { IfOk result (λ parts. parts ≡ parted circuit.now pairs.now) }
+    ensures { IfOk result (λ noted. noted.items ≡ map (is_feedback circuit.now) pairs.now) }
 {
     let order = circuit.order().as_slice();
     let ranks = ranks_of(alloc, circuit, order)?;
+    let places = by_start(alloc, &ranks, pairs)?;
     let mut rows = ReachedRows::make(alloc, circuit.nets().len())?;
+    let mut noted = vec![in alloc; false; pairs.len()]?;
     let ranked = RankedCircuit {
         circuit,
         order,
         ranks: &ranks,
     };
+    note_all(alloc, &ranked, &mut rows, pairs, &places, &mut noted)?;
+    Ok(noted)
+}
+
+/// Parts the feedback pairs from the others, both in the order of the list. 512 pairs take one sweep over the gates
+/// between their nets: the pairs are swept in the order of their starts, so that these gates are few.
+pub fn part(alloc: Global, circuit: &Circuit, pairs: &[Pair]) -> Result<Pairs, NoMemory>
+    requires { All (λ p. (p.a < length circuit.now.nets) × (p.b < length circuit.now.nets)) pairs.now }
+    ensures { IfOk result (λ parts. parts ≡ parted circuit.now pairs.now) }
+{
+    let noted = feedback_of(alloc, circuit, pairs)?;
     let mut parts = Pairs {
         kept: Rows::new(alloc),
         left_out: Rows::new(alloc),
     };
-    part_all(&ranked, &mut rows, pairs, &mut parts)?;
+    for (i, pair) in pairs.iter().enumerate() {
+        add_parted(&mut parts, *pair, noted[i])?;
+    }
     Ok(parts)
 }
