@@ -194,6 +194,27 @@ module _ (words filled : List ℕ) (is : IsFilled words filled) where
         ],
       )
 
+  -- ---- the words emptied one by one, from the next filled one to the next
+  pub emptied_more : (now : List ℕ) (from word : ℕ) → length now ≡ length words → ((k : ℕ) → k < from → get_or now k 0 ≡ 0) → ((k : ℕ) → from ≤ k → get_or now k 0 ≡ get_or words k 0)
+      → IsNextFrom (has_place filled) from (Some word) → (k : ℕ) → k < word + 1 → get_or (set now word 0) k 0 ≡ 0
+  emptied_more now from word len before rest next k lt = elim (cases_eq k word) [
+    | inl same ↦ ap (λ (n : ℕ). get_or (set now word 0) n 0) same ∙ get_or-set_same now word 0 0 (omega (arith, len, word_within word next.1))
+    | inr other ↦ get_or-set_other now word k 0 0 other ∙ elim (cases_lt k from) [
+      | inl early ↦ before k early
+      | inr late ↦ rest k late ∙ empty k (next.2 k late (omega arith))
+    ]
+  ]
+
+  pub emptied_rest : (now : List ℕ) (from word : ℕ) → from ≤ word → ((k : ℕ) → from ≤ k → get_or now k 0 ≡ get_or words k 0) → (k : ℕ) → word + 1 ≤ k → get_or (set now word 0) k 0 ≡ get_or words k 0
+  emptied_rest now from word le rest k past = get_or-set_other now word k 0 0 (λ e. omega arith) ∙ rest k (omega arith)
+
+  pub emptied_all : (now : List ℕ) (from : ℕ) → ((k : ℕ) → k < from → get_or now k 0 ≡ 0) → ((k : ℕ) → from ≤ k → get_or now k 0 ≡ get_or words k 0)
+      → IsNextFrom (has_place filled) from None → (k : ℕ) → get_or now k 0 ≡ 0
+  emptied_all now from before rest none k = elim (cases_lt k from) [
+    | inl early ↦ before k early
+    | inr late ↦ rest k late ∙ empty k (none k late)
+  ]
+
 module _ (words filled : List ℕ) (is : IsFilled words filled) (place : ℕ) (inside : place / 64 < length words) where
   abbrev pub filled_inside : place / 64 / 64 < length filled
   filled_inside = omega (arith, inside, is.spans)

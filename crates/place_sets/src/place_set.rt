@@ -1,6 +1,6 @@
 //! A set of places, and in which of its words it has members.
-ghost use Rattle.std.specs.Prelude.{◌≡◌, ℕ, ◌+◌, ◌*◌, ◌/◌, ◌^◌, ◌<◌, ◌≤◌, false, length, IfOk, ◌==◌, ◌&&◌, ◌||◌, not};
-ghost use Rattle.place_sets.specs.Places.{bit_is_set, has_place, room, IsNextFrom, IsNextWithin};
+ghost use Rattle.std.specs.Prelude.{◌≡◌, ℕ, ◌+◌, ◌*◌, ◌/◌, ◌^◌, ◌<◌, ◌≤◌, false, length, slice_index_or, IfOk, ◌==◌, ◌&&◌, ◌||◌, not};
+ghost use Rattle.place_sets.specs.Places.{bit_is_set, has_place, room, IsNextFrom, IsNextWithin, IsFilled};
 
 use scan_model::NoMemory;
 use std::alloc::Global;
@@ -73,6 +73,19 @@ fn next_in(words: &[u64], from: usize) -> Option<usize>
     None
 }
 
+/// Empties the words of a set. No empty one is looked at.
+fn empty_words(words: &mut [u64], filled: &[u64])
+    requires { IsFilled words.old filled.now }
+    ensures empty { (k : ℕ) → slice_index_or words.new k 0 ≡ 0 }
+    ensures len { length words.new ≡ length words.old }
+{
+    let mut from = 0;
+    while let Some(word) = next_in(filled, from) {
+        words[word] = 0;
+        from = word + 1;
+    }
+}
+
 impl PlaceSet {
     /// The empty set, with room for the places below `places`. The only error is want of memory.
     pub fn make(alloc: Global, places: usize) -> Result<PlaceSet, NoMemory>
@@ -108,6 +121,15 @@ impl PlaceSet {
         if is_empty {
             self.filled[word / 64] &= !(1u64 << (word % 64));
         }
+    }
+
+    /// Takes all places out, 64 at once. No empty word is looked at.
+    pub fn clear(&mut self)
+        ensures places { (k : ℕ) → has_place self.new k ≡ false }
+        ensures room { room self.new ≡ room self.old }
+    {
+        empty_words(&mut self.words, &self.filled);
+        self.filled.fill(0);
     }
 
     /// The least member that is `from` or more, if any; `from` may lie past the room.
