@@ -13,3 +13,4 @@ pub mod Loading
 pub mod ChainBits
 pub mod Taken
 pub mod Changes
+pub mod Bridges

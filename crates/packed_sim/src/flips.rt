@@ -176,6 +176,17 @@ impl PackedGood {
         self.values(block)[net as usize]
     }
 
+    /// The fault-free row of a net, lent where it lies.
+    pub(crate) fn lent_row(&self, parts: &Parts, block: usize, net: u32) -> &Packed
+        requires built { IsBuiltFor parts.now self.now }
+        requires block { block < length self.now.rows }
+        requires net { net < length parts.now.netlist.nets }
+        ensures { (j : ℕ) → j < 512 → held result.now j ≡ good_at self.now block j net }
+    {
+        let _ = parts;
+        &self.values(block)[net as usize]
+    }
+
     /// The lanes in which a net now has the opposite of its fault-free value.
     pub fn difference(&self, parts: &Parts, scratch: &Scratch, block: usize, net: u32) -> Row
         requires built { IsBuiltFor parts.now self.now }

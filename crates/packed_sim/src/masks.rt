@@ -7,7 +7,7 @@ ghost use Rattle.scan_model.specs.declared.circuit.GateKind.{GateKind};
 ghost use Rattle.scan_model.specs.declared.fault.Fault.TheVariants as fault;
 ghost use Rattle.scan_model.specs.declared.fault.Stuck.TheVariants as stuck;
 ghost use Rattle.scan_model.specs.Values.{is_zero, is_one, is_unknown, are_opposite};
-ghost use Rattle.scan_model.specs.Faults.{stuck_value, bridged};
+ghost use Rattle.scan_model.specs.Faults.{stuck_value, bridged, takes};
 ghost use Rattle.scan_model.specs.Netlist.{pin_at, reads, driver_of, is_gate};
 ghost use Rattle.scan_model.specs.NetValue.{good_value};
 ghost use Rattle.scan_model.specs.Masks.{mask_from, mask};
@@ -21,7 +21,7 @@ ghost use Rattle.packed_sim.specs.PackedParts.{IsBuiltFor, BelongsTo, captures, 
 ghost use Rattle.packed_sim.specs.OperandValues.{read_values, senses_of, IsGateOfPin};
 
 use crate::good::PackedGood;
-use lane_rows::{Packed, Row, flipped_lanes};
+use lane_rows::{Packed, Row};
 use scan_model::{BridgeKind, Circuit, Driver, GateKind, Parts, Pin, PinPlace, Stuck};
 
 /// The lanes in which a row has the opposite of a stuck value.
@@ -31,6 +31,28 @@ fn opposite_of(row: Packed, value: Stuck) -> Row
     match value {
         Stuck::Zero => row.ones(),
         Stuck::One => row.zeros(),
+    }
+}
+
+/// The lanes in which a bridge flips the first net of its pair.
+fn first_flips(kind: BridgeKind, first: &Packed, second: &Packed) -> Row
+    ensures { (j : ℕ) → j < 512 → lane result j ≡ (takes kind true false && are_opposite (held first.now j) (bridged kind (held first.now j) (held second.now j))) }
+{
+    match kind {
+        BridgeKind::WiredAnd => first.ones().and(second.zeros()),
+        BridgeKind::WiredOr => first.zeros().and(second.ones()),
+        BridgeKind::Dominant | BridgeKind::DominantAnd | BridgeKind::DominantOr => Row::none(),
+    }
+}
+
+/// The lanes in which a bridge flips the second net of its pair, which takes the bridge's value whatever the kind.
+fn second_flips(kind: BridgeKind, first: &Packed, second: &Packed) -> Row
+    ensures { (j : ℕ) → j < 512 → lane result j ≡ are_opposite (held second.now j) (bridged kind (held first.now j) (held second.now j)) }
+{
+    match kind {
+        BridgeKind::Dominant => second.opposite(*first),
+        BridgeKind::WiredAnd | BridgeKind::DominantAnd => second.ones().and(first.zeros()),
+        BridgeKind::WiredOr | BridgeKind::DominantOr => second.zeros().and(first.ones()),
     }
 }
 
@@ -270,9 +292,14 @@ impl PackedGood {
             → lane result j ≡ mask parts.now (fault.Bridge pair.0 pair.1 kind) (pattern_of block j) net }
     {
         let _ = parts.circuit();
-        let value = self.bridged_row(parts, block, pair.0, pair.1, kind);
-        let own = self.row_of(parts, block, net);
-        let is_taken = kind.takes(net == pair.0, net == pair.1);
-        flipped_lanes(is_taken, own, value)
+        let first = self.lent_row(parts, block, pair.0);
+        let second = self.lent_row(parts, block, pair.1);
+        if net == pair.1 {
+            second_flips(kind, first, second)
+        } else if net == pair.0 {
+            first_flips(kind, first, second)
+        } else {
+            Row::none()
+        }
     }
 }
