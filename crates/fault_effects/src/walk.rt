@@ -1,5 +1,5 @@
 //! A walk down a chain: at each step one cell's load changes, and what that touches is noted again.
-ghost use Rattle.std.specs.Prelude.{◌≡◌, ◌+◌, ◌<◌, ◌≤◌, Some, None, true, length, IfSome, OnOk};
+ghost use Rattle.std.specs.Prelude.{◌≡◌, ℕ, ◌+◌, ◌<◌, ◌≤◌, Some, None, false, length, OnOk};
 ghost use Rattle.scan_model.specs.ScanTest.{chain_at};
 ghost use Rattle.place_sets.specs.Places.{has_place, room};
 ghost use Rattle.packed_sim.specs.PackedParts.{IsScratchOf, IsScratchIn};
@@ -13,31 +13,17 @@ use crate::loaded_chain::LoadedChain;
 use crate::notes::Notes;
 use crate::observer::ChainObserver;
 use packed_sim::Scratch;
-use place_sets::PlaceSet;
 use scan_model::{CellKind, NoMemory, Steps};
 use std::sync::ledger::Ledger;
 
-/// The least mark from one place on, if it stands before the end.
-fn next_mark(marks: &PlaceSet, from: usize, end: usize) -> Option<usize>
-    ensures { IfSome result (λ place. (from ≤ place) × (place < end) × (has_place marks.now place ≡ true)) }
-{
-    match marks.next_from(from) {
-        Some(place) => if place < end { Some(place) } else { None },
-        None => None,
-    }
-}
-
-/// Takes the marks of so many nets out.
-fn clear_marks(scratch: &mut Scratch, nets: usize)
+/// Takes the marks of all nets out.
+fn clear_marks(scratch: &mut Scratch)
     ensures rows { scratch.new.overlay ≡ scratch.old.overlay }
     ensures waiting { scratch.new.waiting ≡ scratch.old.waiting }
     ensures room { room scratch.new.moved ≡ room scratch.old.moved }
+    ensures unmarked { (n : ℕ) → has_place scratch.new.moved n ≡ false }
 {
-    let mut from = 0;
-    while let Some(net) = next_mark(&scratch.moved, from, nets) {
-        scratch.moved.remove(net);
-        from = net + 1;
-    }
+    scratch.moved.clear();
 }
 
 /// Begins a walk at the fault after a position: the chain is loaded, and all places are noted.
@@ -58,7 +44,7 @@ fn begin<O: ChainObserver, L: Ledger>(
 {
     work.good
         .load(work.parts, scratch, work.block, cell, kind, steps);
-    clear_marks(scratch, work.parts.circuit().nets().len());
+    clear_marks(scratch);
     let loaded = LoadedChain {
         work,
         scratch,
@@ -118,7 +104,7 @@ fn step<O: ChainObserver, L: Ledger>(
     work.good
         .load_more(work.parts, scratch, work.block, cell, kind, steps);
     note_step(work, scratch, cell, above, kind, notes);
-    clear_marks(scratch, work.parts.circuit().nets().len());
+    clear_marks(scratch);
 }
 
 /// Takes a walk down its chain from one position to another.
