@@ -12,3 +12,4 @@ pub mod SlowPlaces
 pub mod FrameLayout
 pub mod FrameFlips
 pub mod FrameSuspects
+pub mod ReachingFaults

@@ -1,71 +1,25 @@
 //! The counts of the transition faults, block by block.
-ghost use Rattle.std.specs.Prelude.{◌≡◌, ◌+◌, ◌^◌, ◌<◌, ◌≤◌, List, [], ◌∷◌, ◌++◌, All, cond, filter, length, IfOk, OnOk};
-ghost use Rattle.std.specs.List.{range_with_len};
+ghost use Rattle.std.specs.Prelude.{◌≡◌, ◌+◌, ◌<◌, List, All, length, IfOk};
 ghost use Rattle.scan_model.specs.declared.logs.LogFacts.{LogFacts};
 ghost use Rattle.scan_model.specs.ScanTest.{points_of};
 ghost use Rattle.log_join.specs.Joining.{StandsFor, IsJoinedOf};
 ghost use Rattle.scan_model.specs.Coverage.{bits_of};
-ghost use Rattle.fault_effects.specs.Owners.{IsSuspectOf, AreOwners, places_of};
+ghost use Rattle.fault_effects.specs.Owners.{IsSuspectOf, AreOwners};
 ghost use Rattle.match_counts.specs.Totals.{AreTotals};
 ghost use Rattle.two_frame.specs.TwoFrame.{transitions, frame_rows, frame_class, frame_fails, frame_candidates};
-ghost use Rattle.two_frame.specs.FrameRows.{IsFrameGood, AllCapture, transition_at};
-ghost use Rattle.two_frame.specs.FanInMarks.{reaches};
+ghost use Rattle.two_frame.specs.FrameRows.{IsFrameGood, AllCapture};
 
-use crate::fails::slow_len;
 use crate::frame_good::FrameGood;
 use crate::frame_observer::FrameCounts;
-use crate::reach::{is_reaching, reaching_nets};
+use crate::reach::reaching_nets;
+use crate::suspects::reaching_suspects;
 use fault_effects::{BlockWork, Suspect, logic_parts, owned_nets, owners_of, reads_of};
-use fault_universe::fault_at;
 use lane_rows::Groups;
 use log_join::Joined;
 use log_rows::rows_of_places;
 use match_counts::{BlockTotals, PointCounts, list_candidates};
 use scan_model::{Expected, NoMemory, Parts, Rows, Scored};
 use std::alloc::Global;
-
-/// Adds the transition fault at a place, if its site leads to a failing bit.
-fn push_reaching(
-    suspects: &mut Rows<Suspect>,
-    parts: &Parts,
-    marks: &[bool],
-    place: u32,
-) -> Result<(), NoMemory>
-    requires place { place < length (transitions parts.now) }
-    requires marks { length marks.now ≡ length parts.now.netlist.nets }
-    ensures each { OnOk result (All (IsSuspectOf parts.now) suspects.old → All (IsSuspectOf parts.now) suspects.new) }
-    ensures few { OnOk result (length suspects.new ≤ length suspects.old + 1) }
-    ensures below { OnOk result (All (λ s. s.place < length (transitions parts.now)) suspects.old → All (λ s. s.place < length (transitions parts.now)) suspects.new) }
-    ensures places { OnOk result (places_of suspects.new ≡ places_of suspects.old ++ cond (reaches parts.now marks.now (transition_at parts.now place)) (place ∷ []) []) }
-{
-    let Some(fault) = fault_at(parts, place) else {
-        unreachable!()
-    };
-    if !is_reaching(parts, marks, &fault) {
-        return Ok(());
-    }
-    suspects.push(Suspect { place, fault })?;
-    Ok(())
-}
-
-/// The transition faults whose sites lead to a failing bit, at their places.
-fn reaching_suspects(
-    alloc: Global,
-    parts: &Parts,
-    marks: &[bool],
-) -> Result<Rows<Suspect>, NoMemory>
-    requires marks { length marks.now ≡ length parts.now.netlist.nets }
-    ensures each { IfOk result (All (IsSuspectOf parts.now)) }
-    ensures few { IfOk result (λ suspects. length suspects < 2 ^ 32) }
-    ensures below { IfOk result (All (λ s. s.place < length (transitions parts.now))) }
-    ensures places { IfOk result (λ suspects. places_of suspects ≡ filter (λ p. reaches parts.now marks.now (transition_at parts.now p)) (range_with_len 0 (length (transitions parts.now)))) }
-{
-    let mut suspects = Rows::from_vec(Vec::with_capacity(alloc, slow_len(parts) as usize)?);
-    for place in 0..slow_len(parts) {
-        push_reaching(&mut suspects, parts, marks, place)?;
-    }
-    Ok(suspects)
-}
 
 /// Adds up, block by block, what the suspects explain and mispredict.
 fn count_blocks(

@@ -10,6 +10,7 @@ mod laws;
 mod names;
 mod reach;
 mod reader;
+mod suspects;
 mod text;
 
 pub use counts::{counts_over, frame_counts};

@@ -5,18 +5,17 @@ ghost use Rattle.scan_model.specs.declared.logs.LogFacts.{LogFacts};
 ghost use Rattle.scan_model.specs.Netlist.{reads, net_numbers};
 ghost use Rattle.scan_model.specs.Cone.{in_fan_in};
 ghost use Rattle.scan_model.specs.Marks.{is_marked};
-ghost use Rattle.scan_model.specs.ScanTest.{points_of, HasSite};
+ghost use Rattle.scan_model.specs.ScanTest.{points_of};
 ghost use Rattle.scan_model.specs.Coverage.{bit_of};
 ghost use Rattle.scan_model.specs.Classes.{is_failing, class_with};
 ghost use Rattle.log_join.specs.Joining.{StandsFor, IsJoinedOf, FitsExpected};
 ghost use Rattle.two_frame.specs.TwoFrame.{frame_rows};
 ghost use Rattle.two_frame.specs.FrameRows.{IsFrameGood};
-ghost use Rattle.two_frame.specs.FanInMarks.{IsSeen, AreReaching, reaches};
+ghost use Rattle.two_frame.specs.FanInMarks.{IsSeen, AreReaching};
 
 use crate::frame_good::FrameGood;
 use log_join::Joined;
-use packed_sim::net_of_pin;
-use scan_model::{Circuit, Expected, Fault, NoMemory, Parts};
+use scan_model::{Circuit, Expected, NoMemory, Parts};
 use std::alloc::Global;
 
 /// The patterns of a word.
@@ -144,18 +143,4 @@ pub(crate) fn reaching_nets(
     let mut marks = vec![in alloc; false; parts.circuit().nets().len()]?;
     mark_reaching(&mut marks, parts, good, expected, joined);
     Ok(marks)
-}
-
-/// Whether the net at the site of a transition fault has a mark.
-pub(crate) fn is_reaching(parts: &Parts, marks: &[bool], fault: &Fault) -> bool
-    requires site { HasSite parts.now fault.now }
-    requires marks { length marks.now ≡ length parts.now.netlist.nets }
-    ensures { result ≡ reaches parts.now marks.now fault.now }
-{
-    let circuit = parts.circuit();
-    match *fault {
-        Fault::Stem { net, .. } => marks[net as usize],
-        Fault::Branch { pin, .. } => marks[net_of_pin(circuit, pin) as usize],
-        Fault::Bridge { .. } | Fault::Cell { .. } => true,
-    }
 }
