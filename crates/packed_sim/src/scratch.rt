@@ -84,7 +84,7 @@ impl Scratch {
     }
 
     /// Evaluates what waits and what comes to wait, each gate once at most, until nothing does.
-    pub fn settle<L: Ledger>(
+    pub(crate) fn settle<L: Ledger>(
         &mut self,
         circuit: &Circuit,
         wiring: &Wiring,
