@@ -1,8 +1,8 @@
 -- Totals block by block, and what they come to.
-use Rattle.std.proofs.Common.{◌≡◌, ℕ, ◌+◌, ◌*◌, ◌<◌, ◌≤◌, Bool, ltb, List, length, get_or, ◌&&◌, refl, sym, ap, ◌∙◌, arith}
+use Rattle.std.proofs.Common.{◌≡◌, ℕ, ◌+◌, ◌*◌, ◌≤◌, Bool, ltb, List, length, get_or, ◌&&◌, refl, sym, ap, ◌∙◌, arith}
 use Rattle.std.specs.Prelude.{filter, sum_by, count_by}
 use Rattle.std.specs.List.{range_with_len, enumerate_from}
-use Rattle.std.proofs.lemmas.List.{length-map, get_or-map}
+use Rattle.std.proofs.lemmas.List.{length-map}
 use Rattle.std.proofs.lemmas.List.Sums.{sum_by_push, length-filter, count_by-le-length}
 use Rattle.std.proofs.lemmas.List.FromFn.{length-enumerate_from}
 use Rattle.scan_model.specs.declared.fault.Fault.{Fault}
@@ -28,11 +28,10 @@ use Rattle.log_rows.specs.declared.point_row.PointRow.{PointRow}
 use Rattle.log_rows.specs.PointRows.{is_on, no_point_row}
 use Rattle.match_counts.specs.Hits.{hits}
 use Rattle.fault_effects.specs.FaultModel.{FaultModel}
-use Rattle.fault_effects.specs.Shares.{HasShare}
 use Rattle.fault_effects.specs.Owners.{suspect_at}
 use Rattle.match_counts.specs.Flips.{row_on, point_row_at}
 use Rattle.match_counts.specs.Sides.{Classes, classes_by, IsOfBits, hits_in, lanes_at, predicted_in, count_in, AreSideRows}
-use Rattle.match_counts.specs.Totals.{total_at, no_total, no_share, plus, sum_of, HasCount, AreCounts, IsAdded, AreTotalsAtMost, TotalsSoFar, AreBlockShares, AreCounted, AreTotals}
+use Rattle.match_counts.specs.Totals.{total_at, no_total, plus, sum_of, AreCounts, IsAdded, AreTotalsAtMost, TotalsSoFar, AreBlockShares, AreCounted, AreTotals}
 use Rattle.match_counts.proofs.Sums.{sum_agree, sum_agree_in, sum_indexed}
 use Rattle.match_counts.proofs.Hits.{bits_by_block}
 use Rattle.match_counts.proofs.TableSums.{counts_are}
@@ -45,12 +44,6 @@ same_total a b x y first second = rw (first, second) refl
 
 pub sum_by_block : (f : ℕ → ℕ) (b : ℕ) → sum_by f (range_with_len 0 (b + 1)) ≡ sum_by f (range_with_len 0 b) + f b
 sum_by_block f b = ap (sum_by f) (range_more b) ∙ sum_by_push f (range_with_len 0 b) b
-
--- a share is among shares, by its place
-pub has_count : (shares : List (Share BlockCount)) (i : ℕ) → HasShare shares i → HasCount shares i
-has_count shares i has =
-    let within : has.0 < length shares = omega (arith, has.1, length-map shares (λ (s : Share BlockCount). s.suspect)) in
-    (has.0, within, sym (get_or-map (λ (s : Share BlockCount). s.suspect) shares has.0 no_share i within) ∙ has.2)
 
 -- the Failing bits of a block
 pub failing_is : (m : FaultModel) (on : Classes) (b : ℕ) (rows : List PointRow) → AreSideRows m on b rows → sum_by (λ r. count_lanes (lane r.failing)) rows ≡ hits_in m (on Failing) b
@@ -88,7 +81,7 @@ module _ (m : FaultModel) (on : Classes) (suspects : List Suspect) where
             ∙ ap (λ (n : ℕ). sum_by h (range_with_len 0 n)) (sym next);
         sums = λ i lt.
             let f = (suspect_at suspects i).fault in
-            added (λ k. count_in m on b (suspect_at suspects k).fault) right i (has_count shares i (given.there i lt))
+            added (λ k. count_in m on b (suspect_at suspects k).fault) right i (given.there i lt)
             ∙ ap (λ (x : Total). plus x (count_in m on b f)) (so_far.sums i lt)
             ∙ sym (sum_more b f)
             ∙ ap (λ (n : ℕ). sum_of m on n f) (sym next);

@@ -5,7 +5,7 @@ pub mod FlipSums
 pub mod PinShares
 pub mod TableSums
 mod BitCounting
-pub mod BlockTables
+mod AddedShares
 pub mod BlockSums
 pub mod CandidateRows
 mod WholeBlocks

@@ -23,35 +23,12 @@ use Rattle.fault_effects.specs.Owners.{suspect_at}
 use Rattle.fault_effects.specs.Shares.{AreRight, HasShare, suspect_fails}
 use Rattle.match_counts.specs.declared.block_count.BlockCount.{BlockCount}
 use Rattle.match_counts.specs.declared.totals.Total.{Total}
-use Rattle.match_counts.specs.PlaceCounts.{no_count}
 use Rattle.match_counts.specs.Sides.{Classes, hits_in, predicted_in}
 use Rattle.match_counts.specs.Tables.{IsCount}
-
-abbrev pub no_share : Share BlockCount
-no_share = record { suspect = 0; part = no_count }
-
--- one of the first shares is of suspect i
-abbrev pub HasShareBefore : List (Share BlockCount) → ℕ → ℕ → Type 0
-HasShareBefore shares n i = (k : ℕ) × (k < n) × ((slice_index_or shares k no_share).suspect ≡ i)
-
--- a share of suspect i is among them
-abbrev pub HasCount : List (Share BlockCount) → ℕ → Type 0
-HasCount shares i = HasShareBefore shares (length shares) i
 
 -- each share is what the truth says of its suspect
 abbrev pub AreCounts : (ℕ → BlockCount) → List (Share BlockCount) → Type 0
 AreCounts truth shares = All (λ s. s.part ≡ truth s.suspect) shares
-
-abbrev pub count_at : List BlockCount → ℕ → BlockCount
-count_at table i = slice_index_or table i no_count
-
--- the table says nothing of suspect i
-abbrev pub IsBlankAt : List BlockCount → ℕ → Type 0
-IsBlankAt table i = count_at table i ≡ no_count
-
--- the table says nothing of any suspect
-abbrev pub IsBlank : List BlockCount → Type 0
-IsBlank table = (i : ℕ) → IsBlankAt table i
 
 abbrev pub no_total : Total
 no_total = record { tfsf = 0; tpsf = 0 }
@@ -78,7 +55,7 @@ sum_of m on blocks f = record {
 
 -- the truth is added for each suspect that has a share
 abbrev pub IsAdded : (ℕ → BlockCount) → List (Share BlockCount) → List Total → List Total → Type 0
-IsAdded truth shares old new = (i : ℕ) → HasCount shares i → total_at new i ≡ plus (total_at old i) (truth i)
+IsAdded truth shares old new = (i : ℕ) → HasShare shares i → total_at new i ≡ plus (total_at old i) (truth i)
 
 -- ---- block by block
 
@@ -88,12 +65,11 @@ pub record TotalsSoFar : Type 0 where
   pub failing : ℕ
   pub totals : List Total
 
--- so many blocks have no more than that, and the table of the next one says nothing
-pub record AreBounded (blocks failing : ℕ) (totals : List Total) (table : List BlockCount) : Type 0 where
+-- so many blocks have no more than that, and each suspect has a mark
+pub record AreBounded (blocks failing : ℕ) (totals : List Total) (marks : List Bool) : Type 0 where
   pub few : failing ≤ blocks * 2 ^ 32
   pub small : AreTotalsAtMost (blocks * 2 ^ 32) totals
-  pub len : length table ≡ length totals
-  pub blank : IsBlank table
+  pub len : length marks ≡ length totals
 
 -- each suspect has its share of block b, and all shares are right
 pub record AreBlockShares (m : FaultModel) (b : ℕ) (rows : List PointRow) (suspects : List Suspect) (shares : List (Share BlockCount)) : Type 0 where

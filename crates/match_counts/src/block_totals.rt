@@ -20,8 +20,8 @@ pub struct BlockTotals {
     blocks: u32,
     failing: u64,
     totals: Vec<Total>,
-    // What the suspects come to in the block that is added, and nothing between two blocks.
-    table: Vec<BlockCount>,
+    // Room to mark the suspects whose share has been added, while a block is added.
+    added: Vec<bool>,
 }
 
 impl Model for BlockTotals {
@@ -31,7 +31,7 @@ impl Model for BlockTotals {
 
     ghost view = { λ n. record { blocks = n.blocks; failing = n.failing; totals = n.totals.items } };
 
-    ghost invariant = { λ n. AreBounded n.blocks n.failing n.totals.items n.table.items };
+    ghost invariant = { λ n. AreBounded n.blocks n.failing n.totals.items n.added.items };
 }
 
 impl BlockTotals {
@@ -42,12 +42,12 @@ impl BlockTotals {
         ensures none { IfOk result (λ totals. (m : FaultModel) (on : Classes) (list : List Suspect) → AreCounted m on list totals) }
     {
         let totals = vec![in alloc; Total { tfsf: 0, tpsf: 0 }; suspects]?;
-        let table = vec![in alloc; BlockCount { tfsf: 0, tpsf: 0 }; suspects]?;
+        let added = vec![in alloc; false; suspects]?;
         Ok(BlockTotals {
             blocks: 0,
             failing: 0,
             totals,
-            table,
+            added,
         })
     }
 
@@ -61,7 +61,7 @@ impl BlockTotals {
         ensures counted { (m : FaultModel) (on : Classes) (suspects : List Suspect) → AreSideRows m on self.old.blocks rows.now → AreBlockShares m self.old.blocks rows.now suspects shares.now
             → AreCounted m on suspects self.old → AreCounted m on suspects self.new }
     {
-        add_shares(&mut self.totals, &mut self.table, shares);
+        add_shares(&mut self.totals, &mut self.added, shares);
         self.failing += u64::from(failing_count(rows));
         self.blocks += 1;
     }

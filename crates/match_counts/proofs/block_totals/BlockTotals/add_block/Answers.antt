@@ -3,7 +3,7 @@ use Rattle.std.specs.Prelude.{sum_by}
 use Rattle.std.proofs.lemmas.List.{take_at}
 use Rattle.lane_rows.specs.Lanes.{lane, count_lanes}
 use Rattle.match_counts.specs.declared.totals.Total.{Total}
-use Rattle.match_counts.specs.Totals.{AreTotalsAtMost, IsBlank, TotalsSoFar, total_at, plus}
+use Rattle.match_counts.specs.Totals.{AreTotalsAtMost, TotalsSoFar, total_at, plus}
 use Rattle.match_counts.proofs.BlockSums.{AreTotalsAtMost-le, counted_next}
 use Rattle.match_counts.proofs.block_totals.BlockTotals.add_block.Goals as goal
 use Rattle.match_counts.proofs.block_totals.BlockTotals.add_block.Goals.{After-add_shares}
@@ -12,8 +12,8 @@ use Rattle.match_counts.proofs.block_totals.BlockTotals.add_block.Goals.{After-a
 totals_are : (c : After-add_shares) → take c.self.inside.totals.len (c.add_shares.new.totals ++ drop (length c.add_shares.new.totals) c.self.inside.totals.items) ≡ c.add_shares.new.totals
 totals_are c = take_at c.add_shares.new.totals (drop (length c.add_shares.new.totals) c.self.inside.totals.items) c.self.inside.totals.len (c.add_shares.auto.totals ∙ c.deref_mut.ensures.len)
 
-table_is : (c : After-add_shares) → take c.self.inside.table.len (c.add_shares.new.table ++ drop (length c.add_shares.new.table) c.self.inside.table.items) ≡ c.add_shares.new.table
-table_is c = take_at c.add_shares.new.table (drop (length c.add_shares.new.table) c.self.inside.table.items) c.self.inside.table.len (c.add_shares.auto.table ∙ c.deref_mut-2.ensures.len)
+added_is : (c : After-add_shares) → take c.self.inside.added.len (c.add_shares.new.added ++ drop (length c.add_shares.new.added) c.self.inside.added.items) ≡ c.add_shares.new.added
+added_is c = take_at c.add_shares.new.added (drop (length c.add_shares.new.added) c.self.inside.added.items) c.self.inside.added.len (c.add_shares.auto.added ∙ c.deref_mut-2.ensures.len)
 
 pub invariant_of-self : goal.invariant_of-self
 invariant_of-self c =
@@ -24,8 +24,7 @@ invariant_of-self c =
     record {
       few = omega (arith, c.self.invariant.few, c.failing_count.type_inv, c.from.ensures);
       small = subst Next (sym (totals_are at)) (AreTotalsAtMost-le (b * 2 ^ 32 + 2 ^ 32) ((b + 1) * 2 ^ 32) c.add_shares.new.totals (omega arith) (c.add_shares.ensures.at_most (b * 2 ^ 32) (subst Small (sym c.deref_mut.ensures.value) c.self.invariant.small)));
-      len = ap length (table_is at) ∙ omega (arith, c.add_shares.auto.table, c.add_shares.auto.totals, ap length c.deref_mut.ensures.value, ap length c.deref_mut-2.ensures.value, c.self.invariant.len) ∙ sym (ap length (totals_are at));
-      blank = subst IsBlank (sym (table_is at)) c.add_shares.ensures.blank;
+      len = ap length (added_is at) ∙ omega (arith, c.add_shares.auto.added, c.add_shares.auto.totals, ap length c.deref_mut.ensures.value, ap length c.deref_mut-2.ensures.value, c.self.invariant.len) ∙ sym (ap length (totals_are at));
     }
 
 pub returns-clause-counted : goal.returns-clause-counted
