@@ -146,9 +146,9 @@ fn parts_in<O: Observer, L: Ledger>(
     requires some { 0 < blank.parts }
     ensures { IfOk result (Shares (O.means work.now.observer.now) (O.model work.now.observer.now) (O.block work.now.observer.now) work.now.suspects.now (λ i. owner work.now.parts.now (suspect_at work.now.suspects.now i).fault < length work.now.parts.now.netlist.nets + 2) []) }
 {
+    let mut shares = Rows::from_vec(Vec::with_capacity(alloc, work.suspects.len())?);
     let mut steps = Steps::<L>::open(blank);
     let mut scratch = Scratch::make(alloc, work.good)?;
-    let mut shares = Rows::new(alloc);
     let shared = share_logic(alloc, work, nets, &mut scratch, &mut shares, &mut steps);
     drop(scratch);
     drop(steps);
