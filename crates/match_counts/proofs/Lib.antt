@@ -9,4 +9,5 @@ mod AddedShares
 pub mod BlockSums
 pub mod CandidateRows
 mod WholeBlocks
+mod WorkLists
 pub mod PlaceSums

@@ -1,49 +1,64 @@
--- The shares of a block's lists of work, one list after another.
-use Rattle.std.proofs.Common.{◌≡◌, ℕ, ◌+◌, ◌<◌, List, [], length, get_or, inl, inr, arith}
-use Rattle.std.specs.Prelude.{Contains}
+-- The pieces of a block's lists of work serve all suspects, and have the shares of all.
+use Rattle.std.proofs.Common.{◌≡◌, ℕ, ◌+◌, ◌<◌, List, [], ◌∷◌, ◌++◌, length, get_or, Result, Ok, IfOk, map, sym, subst, inl, inr, arith}
+use Rattle.std.specs.Prelude.{All, Contains}
+use Rattle.std.specs.List.{Any, AllZip, flat_map}
 use Rattle.std.proofs.lemmas.Bool.{cases_eq}
+use Rattle.scan_model.specs.declared.rows.NoMemory.{NoMemory}
 use Rattle.scan_model.specs.ScanTest.{ScanTest}
 use Rattle.fault_effects.specs.declared.share.Share.{Share}
 use Rattle.fault_effects.specs.declared.suspect.Suspect.{Suspect}
 use Rattle.fault_effects.specs.declared.work_kind.WorkKind.TheVariants.{Nets, Pins, Bridges, Cells}
 use Rattle.fault_effects.specs.FaultModel.{FaultModel, Table}
-use Rattle.fault_effects.specs.Owners.{AreOwners, owner, suspect_at}
-use Rattle.fault_effects.specs.Pieces.{IsServed}
+use Rattle.fault_effects.specs.Owners.{AreOwners, IsOwned, owner, suspect_at}
 use Rattle.fault_effects.specs.Shares.{Shares}
 use Rattle.fault_effects.proofs.OwnerGroups.{owned_in}
-use Rattle.fault_effects.proofs.ShareLists.{shares_join}
+use Rattle.fault_effects.proofs.PieceShares.{shares_behind}
+use Rattle.fault_effects.proofs.ShareLists.{shares_join, shares_none}
+use Rattle.match_counts.specs.declared.piece.Piece.{Piece}
+use Rattle.match_counts.specs.WorkPieces.{HasItem, IsServedIn}
+use Rattle.match_counts.proofs.WorkLists.{any_first}
 
-module _ {P : Type 0} (means : P → Table → Type 0) (m : FaultModel) (b : ℕ) (t : ScanTest) (suspects : List Suspect) (groups : List (List ℕ)) (owners : AreOwners t suspects groups) where
+module _ (t : ScanTest) (suspects : List Suspect) (groups : List (List ℕ)) (owners : AreOwners t suspects groups) where
   abbrev owner_at : ℕ → ℕ
   owner_at i = owner t (suspect_at suspects i).fault
 
   abbrev count : ℕ
   count = length t.netlist.nets
 
-  -- nets, pins and bridges are all of the logic
-  pub logic_joined : (nets pins bridges : List ℕ) (old first second new : List (Share P)) → ((i : ℕ) → i < length suspects → owner t (suspect_at suspects i).fault < length t.netlist.nets → Contains nets (owner t (suspect_at suspects i).fault))
-      → pins ≡ get_or groups (length t.netlist.nets) [] → bridges ≡ get_or groups (length t.netlist.nets + 1) []
-      → Shares means m b suspects (IsServed t suspects Nets nets) old first → Shares means m b suspects (IsServed t suspects Pins pins) first second → Shares means m b suspects (IsServed t suspects Bridges bridges) second new
-      → Shares means m b suspects (λ i. owner t (suspect_at suspects i).fault < length t.netlist.nets + 2) old new
-  logic_joined nets pins bridges old first second new all pins_are bridges_are by_nets by_pins by_bridges =
-      let with_pins = shares_join means m b suspects (IsServed t suspects Nets nets) (IsServed t suspects Pins pins) (λ i. owner_at i < count + 1) old first second by_nets by_pins
-      (λ i lt below. elim (cases_eq (owner_at i) count) [
-        | inl same ↦ inr (owned_in t suspects groups count pins owners pins_are i lt same)
-        | inr other ↦ inl (all i lt (omega (arith, below, other)))
-      ]) in
-      shares_join means m b suspects (λ i. owner_at i < count + 1) (IsServed t suspects Bridges bridges) (λ i. owner_at i < count + 2) old second new with_pins by_bridges
-      (λ i lt below. elim (cases_eq (owner_at i) (count + 1)) [
-        | inl same ↦ inr (owned_in t suspects groups (count + 1) bridges owners bridges_are i lt same)
-        | inr other ↦ inl (omega (arith, below, other))
-      ])
+  pub group_owned : (n : ℕ) (group : List ℕ) → n < length groups → group ≡ get_or groups n [] → All (IsOwned t suspects n) group
+  group_owned n group lt is = let Of : List ℕ → Type 0 = All (IsOwned t suspects n) in subst Of (sym is) (owners.owned n lt)
 
-  -- and the cells are the rest
-  pub cells_joined : (cells : List ℕ) (old first new : List (Share P)) → cells ≡ get_or groups (length t.netlist.nets + 2) []
-      → Shares means m b suspects (λ i. owner t (suspect_at suspects i).fault < length t.netlist.nets + 2) old first → Shares means m b suspects (IsServed t suspects Cells cells) first new
-      → Shares means m b suspects (λ i. owner t (suspect_at suspects i).fault < length t.netlist.nets + 3) old new
-  cells_joined cells old first new cells_are logic by_cells =
-      shares_join means m b suspects (λ i. owner_at i < count + 2) (IsServed t suspects Cells cells) (λ i. owner_at i < count + 3) old first new logic by_cells
-      (λ i lt below. elim (cases_eq (owner_at i) (count + 2)) [
-        | inl same ↦ inr (owned_in t suspects groups (count + 2) cells owners cells_are i lt same)
-        | inr other ↦ inl (omega (arith, below, other))
-      ])
+  -- a suspect is served in the list of its owner
+  pub all_served : (nets pins bridges cells : List ℕ) (pieces : List Piece) → ((i : ℕ) → i < length suspects → owner t (suspect_at suspects i).fault < length t.netlist.nets → Contains nets (owner t (suspect_at suspects i).fault))
+      → pins ≡ get_or groups (length t.netlist.nets) [] → bridges ≡ get_or groups (length t.netlist.nets + 1) [] → cells ≡ get_or groups (length t.netlist.nets + 2) []
+      → ((n : ℕ) → Contains nets n → HasItem pieces Nets n) → ((n : ℕ) → Contains pins n → HasItem pieces Pins n) → ((n : ℕ) → Contains bridges n → HasItem pieces Bridges n) → ((n : ℕ) → Contains cells n → HasItem pieces Cells n)
+      → (i : ℕ) → i < length suspects → owner t (suspect_at suspects i).fault < length t.netlist.nets + 3 → IsServedIn t suspects pieces i
+  all_served nets pins bridges cells pieces all pins_are bridges_are cells_are has_nets has_pins has_bridges has_cells i lt below = elim (cases_eq (owner_at i) (count + 2)) [
+    | inl cell ↦ (Cells, has_cells i (owned_in t suspects groups (count + 2) cells owners cells_are i lt cell))
+    | inr no_cell ↦ elim (cases_eq (owner_at i) (count + 1)) [
+      | inl bridge ↦ (Bridges, has_bridges i (owned_in t suspects groups (count + 1) bridges owners bridges_are i lt bridge))
+      | inr no_bridge ↦ elim (cases_eq (owner_at i) count) [
+        | inl pin ↦ (Pins, has_pins i (owned_in t suspects groups count pins owners pins_are i lt pin))
+        | inr no_pin ↦ (Nets, has_nets (owner_at i) (all i lt (omega (arith, below, no_cell, no_bridge, no_pin))))
+      ]
+    ]
+  ]
+
+module _ {P : Type 0} (means : P → Table → Type 0) (m : FaultModel) (b : ℕ) (suspects : List Suspect) where
+  -- what each of several works answers, all answer together
+  pub shares_of_all : {X : Type 0} (served : X → ℕ → Type 0) (works : List X) (results : List (List (Share P)))
+      → AllZip (λ (x : X) (r : Result (List (Share P)) NoMemory). IfOk r (Shares means m b suspects (served x) [])) works (map Ok results)
+      → Shares means m b suspects (λ i. Any (λ x. served x i) works) [] (flat_map (λ (l : List (Share P)). l) results)
+  shares_of_all served [] [] all = shares_none means m b suspects (λ i. Any (λ x. served x i) []) [] (λ i lt any. omega (arith, any.2))
+  shares_of_all served [] (r ∷ rs) all = absurd all
+  shares_of_all served (x ∷ xs) [] all = absurd all
+  shares_of_all served (x ∷ xs) (r ∷ rs) all =
+      let behind = flat_map (λ (l : List (Share P)). l) rs in
+      let Rest : ℕ → Type 0 = λ i. Any (λ y. served y i) xs in
+      shares_join means m b suspects (served x) Rest (λ i. Any (λ y. served y i) (x ∷ xs)) [] r (r ++ behind) all.0
+      (shares_behind means m b suspects Rest r behind (shares_of_all served xs rs all.1))
+      (λ i lt any. any_first (λ y. served y i) x xs any)
+
+  -- fewer suspects chosen among those that there are
+  pub shares_chosen : (chosen fewer : ℕ → Type 0) (old new : List (Share P)) → ((i : ℕ) → i < length suspects → fewer i → chosen i) → Shares means m b suspects chosen old new → Shares means m b suspects fewer old new
+  shares_chosen chosen fewer old new each shares = record { inside = shares.inside; right = shares.right; kept = shares.kept; there = λ i lt is. shares.there i lt (each i lt is) }

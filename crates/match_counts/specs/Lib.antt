@@ -8,3 +8,4 @@ pub mod PlaceCounts
 pub mod SameTables
 pub mod PointCounts
 pub mod Totals
+pub mod WorkPieces

@@ -10,6 +10,7 @@ mod flip_rows;
 mod gather;
 mod lane_tally;
 mod listing;
+mod piece;
 mod pieces;
 mod pin_counts;
 mod place_counts;

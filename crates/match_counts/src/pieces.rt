@@ -1,72 +1,57 @@
-//! A list of work, cut into pieces that are done at the same time.
-ghost use Rattle.std.specs.Prelude.{◌≡◌, ◌+◌, ◌<◌, ◌++◌, [], All, IfOk, OnOk};
+//! Pieces of a block's work, done at the same time.
+ghost use Rattle.std.specs.Prelude.{◌≡◌, ◌++◌, [], All, IfOk, OnOk};
 ghost use Rattle.std.specs.List.{flat_map};
 ghost use Rattle.fault_effects.specs.Pieces.{IsItem, IsServed};
 ghost use Rattle.match_counts.specs.PointCounts.{IsSoundCount, IsChainCount, CountShares};
+ghost use Rattle.match_counts.specs.WorkPieces.{AreItems, IsServedIn};
 
 use crate::block_count::BlockCount;
+use crate::piece::{Piece, least_size};
 use crate::point_counts::PointCounts;
-use fault_effects::{BlockWork, Share, WorkKind, piece_shares};
+use fault_effects::{BlockWork, Share, piece_shares};
 use rayon::current_num_threads;
 use rayon::prelude::*;
 use scan_model::{NoMemory, Rows};
 use std::alloc::Global;
 use std::thread::Threads;
 
-/// How few items are worth a thread of their own, which needs a scratch as large as the circuit.
-fn least_size(kind: WorkKind) -> usize
-    ensures { 0 < result }
-{
-    match kind {
-        WorkKind::Nets => 512,
-        WorkKind::Pins => 1024,
-        WorkKind::Bridges => 256,
-        WorkKind::Cells => 256,
+/// How many pieces a thread takes at least: all of them, where none is worth a thread of its own, and on one processor.
+fn least_run<R: Threads>(rt: &R, pieces: &[Piece<'_>]) -> usize {
+    let worth = pieces
+        .iter()
+        .any(|piece| least_size(piece.kind) <= piece.items.len());
+    if worth && current_num_threads(rt) > 1 {
+        1
+    } else {
+        pieces.len()
     }
 }
 
-/// The size of pieces, two for each of several processors. One processor takes all items at once.
-fn piece_size<R: Threads>(rt: &R, kind: WorkKind, items: usize) -> usize
-    ensures { 0 < result }
-{
-    let least = least_size(kind);
-    if items <= least {
-        return least;
-    }
-    let processors = current_num_threads(rt);
-    if processors < 2 {
-        return items;
-    }
-    items.div_ceil(processors.saturating_mul(2)).max(least)
-}
-
-/// The shares of all pieces of the work, in their order.
-fn pieces<R: Threads + Sync>(
+/// The shares of each piece.
+pub(crate) fn shares_of_pieces<R: Threads + Sync>(
     rt: &R,
     alloc: Global,
     work: &BlockWork<'_, PointCounts<'_>>,
-    kind: WorkKind,
-    items: &[u32],
-    size: usize,
+    pieces: &[Piece<'_>],
 ) -> Result<Vec<Rows<Share<BlockCount>>>, NoMemory>
     requires work { IsSoundCount work.now }
     requires chains { IsChainCount work.now }
-    requires items { All (IsItem work.now.parts.now work.now.suspects.now kind) items.now }
-    requires size { 0 < size }
-    ensures { IfOk result (λ all. CountShares work.now (IsServed work.now.parts.now work.now.suspects.now kind items.now) [] (flat_map (λ shares. shares) all.items)) }
+    requires items { AreItems work.now.parts.now work.now.suspects.now pieces.now }
+    ensures { IfOk result (λ all. CountShares work.now (IsServedIn work.now.parts.now work.now.suspects.now pieces.now) [] (flat_map (λ shares. shares) all.items)) }
 {
-    let all = items
-        .par_chunks(size)
-        .with_min_len(1)
+    let least = least_run(rt, pieces);
+    let all = pieces
+        .par_iter()
+        .with_min_len(least)
         .map(
-            |part: &[u32]| -> Result<Rows<Share<BlockCount>>, NoMemory>
-                requires { IsSoundCount work.now × IsChainCount work.now × All (IsItem work.now.parts.now work.now.suspects.now kind) part.now }
-                ensures { IfOk result (CountShares work.entry.now (IsServed work.entry.now.parts.now work.entry.now.suspects.now kind part.entry.now) []) }
-            { piece_shares(alloc, work, kind, part) },
+            |piece: &Piece<'_>| -> Result<Rows<Share<BlockCount>>, NoMemory>
+                requires { IsSoundCount work.now × IsChainCount work.now × All (IsItem work.now.parts.now work.now.suspects.now piece.now.kind) piece.now.items.now }
+                ensures { IfOk result (CountShares work.entry.now (IsServed work.entry.now.parts.now work.entry.now.suspects.now piece.entry.now.kind piece.entry.now.items.now) []) }
+            { piece_shares(alloc, work, piece.kind, piece.items) },
         )
         .collect::<Result<Vec<_>, NoMemory>>(rt, alloc);
     match all {
-        Ok(Ok(pieces)) => Ok(pieces),
+        Ok(Ok(shares)) => Ok(shares),
         Ok(Err(refused)) => Err(refused),
         Err(_) => Err(NoMemory),
     }
@@ -81,7 +66,8 @@ fn append(shares: &mut Rows<Share<BlockCount>>, piece: &[Share<BlockCount>]) -> 
     Ok(())
 }
 
-fn append_all(
+/// Puts the shares of all pieces into one list.
+pub(crate) fn append_all(
     shares: &mut Rows<Share<BlockCount>>,
     pieces: &[Rows<Share<BlockCount>>],
 ) -> Result<(), NoMemory>
@@ -91,23 +77,4 @@ fn append_all(
         append(shares, piece.as_slice())?;
     }
     Ok(())
-}
-
-/// Adds the shares of the suspects that a list of work serves, piece by piece at the same time.
-pub(crate) fn share_in_pieces<R: Threads + Sync>(
-    rt: &R,
-    alloc: Global,
-    work: &BlockWork<'_, PointCounts<'_>>,
-    kind: WorkKind,
-    items: &[u32],
-    shares: &mut Rows<Share<BlockCount>>,
-) -> Result<(), NoMemory>
-    requires work { IsSoundCount work.now }
-    requires chains { IsChainCount work.now }
-    requires items { All (IsItem work.now.parts.now work.now.suspects.now kind) items.now }
-    ensures { OnOk result (CountShares work.now (IsServed work.now.parts.now work.now.suspects.now kind items.now) shares.old shares.new) }
-{
-    let size = piece_size(rt, kind, items.len());
-    let all = pieces(rt, alloc, work, kind, items, size)?;
-    append_all(shares, &all)
 }

@@ -1,5 +1,6 @@
-use Rattle.std.proofs.Common.{ℕ, ◌+◌, ◌<◌, List, [], length, refl, sym, ap, subst, ◌∙◌, arith}
+use Rattle.std.proofs.Common.{◌≡◌, ℕ, ◌+◌, ◌<◌, List, [], ◌++◌, length, refl, sym, ap, subst, ◌∙◌, arith}
 use Rattle.std.specs.Prelude.{Contains}
+use Rattle.std.specs.List.{flat_map}
 use Rattle.std.proofs.lemmas.List.Elements.{All-nil}
 use Rattle.scan_model.specs.Netlist.{Netlist}
 use Rattle.scan_model.specs.Walks.{IsEvaluationOrder}
@@ -67,7 +68,13 @@ loop-block-preserved g c =
     let shares = c.as_slice-in-loop-block-2.result.now in
     let Known : ℕ → Type 0 = λ i. owner t (suspect_at suspects i).fault < length t.netlist.nets + 3 in
     let Part : List (Share BlockCount) → Type 0 = λ xs. Shares (IsCount seen) m b suspects Known [] xs in
-    let part : Part shares = subst Part (sym c.as_slice-in-loop-block-2.ensures) c.in_ok-shares.ensures in
+    let all = c.in_ok-pieces.pieces.items in
+    let joined : shares ≡ flat_map (λ (s : List (Share BlockCount)). s) all =
+    c.as_slice-in-loop-block-2.ensures
+    ∙ c.in_ok-append_all.ensures
+    ∙ ap (λ (old : List (Share BlockCount)). old ++ flat_map (λ (s : List (Share BlockCount)). s) c.deref-in-loop-block-3.result.now) c.new-shares.ensures
+    ∙ ap (flat_map (λ (s : List (Share BlockCount)). s)) c.deref-in-loop-block-3.ensures.value in
+    let part : Part shares = subst Part (sym joined) c.in_ok-pieces.ensures in
     let given : AreBlockShares m b seen suspects shares = record { right = part.right (All-nil _); there = λ i lt. part.there i lt (owner_below t (suspect_at suspects i).fault c.circuit.ensures.fits (c.requires.suspects i no_suspect lt).site) } in
     let Of : List PointRow → Type 0 = λ xs. AreBlockShares m b xs suspects shares in
     let In : ℕ → Type 0 = λ n. AreBlockShares m n rows suspects shares in
