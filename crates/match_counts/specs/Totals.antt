@@ -1,5 +1,5 @@
 -- Counts by suspect, added up over blocks.
-use Rattle.std.specs.Prelude.{◌≡◌, ℕ, ◌+◌, ◌*◌, ◌^◌, ◌<◌, ◌≤◌, List, length, All, map, filter, sum_by, count_by, Bool, slice_index_or}
+use Rattle.std.specs.Prelude.{◌≡◌, ℕ, ◌+◌, ◌*◌, ◌^◌, ◌<◌, ◌≤◌, List, length, All, map, filter, sum_by, count_by, Bool, true, false, slice_index_or}
 use Rattle.std.specs.List.{range_with_len}
 use Rattle.scan_model.specs.declared.fault.Fault.{Fault}
 use Rattle.scan_model.specs.declared.fault.Fault.TheVariants as fault
@@ -56,6 +56,24 @@ sum_of m on blocks f = record {
 -- the truth is added for each suspect that has a share
 abbrev pub IsAdded : (ℕ → BlockCount) → List (Share BlockCount) → List Total → List Total → Type 0
 IsAdded truth shares old new = (i : ℕ) → HasShare shares i → total_at new i ≡ plus (total_at old i) (truth i)
+
+-- ---- each suspect once
+
+-- whether suspect i is marked
+abbrev pub is_marked : List Bool → ℕ → Bool
+is_marked marks i = slice_index_or marks i false
+
+-- a suspect without a mark has room for one block more
+abbrev pub HaveRoom : List Bool → List Total → Type 0
+HaveRoom marks totals = (i : ℕ) → is_marked marks i ≡ false → IsAtMost (2 ^ 63) (total_at totals i)
+
+-- The suspects of some shares are marked beside those that were. What the truth says is added for those that weren't, and no other total changes.
+pub record AreAddedOnce (shares : List (Share BlockCount)) (marks : List Bool) (old : List Total) (added : List Bool) (new : List Total) : Type 0 where
+  pub marked : (i : ℕ) → HasShare shares i → is_marked added i ≡ true
+  pub kept : (i : ℕ) → is_marked marks i ≡ true → (is_marked added i ≡ true) × (total_at new i ≡ total_at old i)
+  pub sums : (truth : ℕ → BlockCount) → AreCounts truth shares → (i : ℕ) → is_marked marks i ≡ false → is_marked added i ≡ true → total_at new i ≡ plus (total_at old i) (truth i)
+  pub others : (i : ℕ) → is_marked added i ≡ false → total_at new i ≡ total_at old i
+  pub at_most : (n i : ℕ) → is_marked marks i ≡ false → IsAtMost n (total_at old i) → IsAtMost (n + 2 ^ 32) (total_at new i)
 
 -- ---- block by block
 

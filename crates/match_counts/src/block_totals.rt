@@ -1,5 +1,6 @@
 //! What is counted in the blocks so far.
 ghost use Rattle.std.specs.Prelude.{◌≡◌, ◌+◌, ◌^◌, ◌<◌, ◌≤◌, List, All, length, IfOk};
+ghost use Rattle.std.specs.List.{flat_map};
 ghost use Rattle.fault_effects.specs.declared.suspect.Suspect.{Suspect};
 ghost use Rattle.fault_effects.specs.FaultModel.{FaultModel};
 ghost use Rattle.match_counts.specs.Sides.{Classes, AreSideRows};
@@ -7,10 +8,11 @@ ghost use Rattle.match_counts.specs.Totals.{AreBlockShares, AreCounted};
 
 use crate::block_count::BlockCount;
 use crate::lane_tally::failing_count;
+use crate::share_lists::add_share_lists;
 use crate::totals::{Total, add_shares};
 use fault_effects::Share;
 use log_rows::PointRow;
-use scan_model::NoMemory;
+use scan_model::{NoMemory, Rows};
 use std::alloc::Global;
 use std::marker::Model;
 
@@ -62,6 +64,22 @@ impl BlockTotals {
             → AreCounted m on suspects self.old → AreCounted m on suspects self.new }
     {
         add_shares(&mut self.totals, &mut self.added, shares);
+        self.failing += u64::from(failing_count(rows));
+        self.blocks += 1;
+    }
+
+    /// Adds one block, by the rows of its places and the shares of the suspects in it, which stand in several lists. A share that
+    /// comes twice, in one list or in two, counts once.
+    pub fn add_pieces(&mut self, rows: &[PointRow], pieces: &[Rows<Share<BlockCount>>])
+        requires rows { length rows.now ≤ 2 ^ 22 }
+        requires shares { All (λ s. s.suspect < length self.old.totals) (flat_map (λ shares. shares) pieces.now) }
+        requires blocks { self.old.blocks < 2 ^ 31 }
+        ensures blocks { self.new.blocks ≡ self.old.blocks + 1 }
+        ensures len { length self.new.totals ≡ length self.old.totals }
+        ensures counted { (m : FaultModel) (on : Classes) (suspects : List Suspect) → AreSideRows m on self.old.blocks rows.now → AreBlockShares m self.old.blocks rows.now suspects (flat_map (λ shares. shares) pieces.now)
+            → AreCounted m on suspects self.old → AreCounted m on suspects self.new }
+    {
+        add_share_lists(&mut self.totals, &mut self.added, pieces);
         self.failing += u64::from(failing_count(rows));
         self.blocks += 1;
     }

@@ -10,14 +10,13 @@ ghost use Rattle.match_counts.specs.Totals.{AreTestTotals};
 
 use crate::block_piece::block_shares;
 use crate::block_totals::BlockTotals;
-use crate::pieces::append_all;
 use crate::point_counts::PointCounts;
 use fault_effects::{BlockWork, Suspect, owned_nets, reads_of};
 use lane_rows::Groups;
 use log_join::Joined;
 use log_rows::rows_of_points;
 use packed_sim::PackedGood;
-use scan_model::{Expected, NoMemory, Parts, Rows};
+use scan_model::{Expected, NoMemory, Parts};
 use std::alloc::Global;
 use std::thread::Threads;
 
@@ -64,9 +63,7 @@ pub(crate) fn count_blocks<R: Threads + Sync>(
             owners,
         };
         let pieces = block_shares(rt, alloc, &work, &nets)?;
-        let mut shares = Rows::new(alloc);
-        append_all(&mut shares, &pieces)?;
-        totals.add_block(rows.as_slice(), shares.as_slice());
+        totals.add_pieces(rows.as_slice(), &pieces);
     }
     Ok(totals)
 }

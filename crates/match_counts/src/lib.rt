@@ -17,6 +17,7 @@ mod place_counts;
 mod plain;
 mod point_counts;
 mod point_observer;
+mod share_lists;
 mod suspect_counts;
 mod tally;
 mod totals;

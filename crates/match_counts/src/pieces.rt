@@ -1,5 +1,5 @@
 //! Pieces of a block's work, done at the same time.
-ghost use Rattle.std.specs.Prelude.{◌≡◌, ◌++◌, [], All, IfOk, OnOk};
+ghost use Rattle.std.specs.Prelude.{[], All, IfOk};
 ghost use Rattle.std.specs.List.{flat_map};
 ghost use Rattle.fault_effects.specs.Pieces.{IsItem, IsServed};
 ghost use Rattle.match_counts.specs.PointCounts.{IsSoundCount, IsChainCount, CountShares};
@@ -55,26 +55,4 @@ pub(crate) fn shares_of_pieces<R: Threads + Sync>(
         Ok(Err(refused)) => Err(refused),
         Err(_) => Err(NoMemory),
     }
-}
-
-fn append(shares: &mut Rows<Share<BlockCount>>, piece: &[Share<BlockCount>]) -> Result<(), NoMemory>
-    ensures { OnOk result (shares.new ≡ shares.old ++ piece.now) }
-{
-    for share in piece {
-        shares.push(*share)?;
-    }
-    Ok(())
-}
-
-/// Puts the shares of all pieces into one list.
-pub(crate) fn append_all(
-    shares: &mut Rows<Share<BlockCount>>,
-    pieces: &[Rows<Share<BlockCount>>],
-) -> Result<(), NoMemory>
-    ensures { OnOk result (shares.new ≡ shares.old ++ flat_map (λ piece. piece) pieces.now) }
-{
-    for piece in pieces {
-        append(shares, piece.as_slice())?;
-    }
-    Ok(())
 }

@@ -1,5 +1,5 @@
-use Rattle.std.proofs.Common.{◌≡◌, ℕ, ◌+◌, ◌<◌, List, [], ◌++◌, length, refl, sym, ap, subst, ◌∙◌, arith}
-use Rattle.std.specs.Prelude.{Contains}
+use Rattle.std.proofs.Common.{ℕ, ◌+◌, ◌<◌, List, [], length, refl, sym, ap, subst, ◌∙◌, arith}
+use Rattle.std.specs.Prelude.{All, Contains}
 use Rattle.std.specs.List.{flat_map}
 use Rattle.std.proofs.lemmas.List.Elements.{All-nil}
 use Rattle.scan_model.specs.Netlist.{Netlist}
@@ -56,6 +56,12 @@ block_shares-requires-clause-all g c κs within = λ i lt below.
     let In : List ℕ → Type 0 = λ nets. Contains nets owner_at in
     subst In (sym c.deref-in-loop-block-2.ensures.value) (c.in_ok-nets.ensures.all owner_at below (omega (arith, there.1)))
 
+pub add_pieces-requires-clause-shares : goal.add_pieces-requires-clause-shares
+add_pieces-requires-clause-shares g c = λ k d lt.
+    let Inside : List (List (Share BlockCount)) → Type 0 = λ lists. All (λ s. s.suspect < length c.args.suspects.now) (flat_map (λ (s : List (Share BlockCount)). s) lists) in
+    let inside : Inside c.deref-in-loop-block-3.result.now = subst Inside (sym c.deref-in-loop-block-3.ensures.value) (c.in_ok-pieces.ensures.inside (All-nil _)) in
+    omega (arith, inside k d lt, c.loop-block.invariant.len)
+
 pub loop-block-preserved : goal.loop-block-preserved
 loop-block-preserved g c =
     let t = c.args.parts.now in
@@ -65,27 +71,21 @@ loop-block-preserved g c =
     let suspects = c.args.suspects.now in
     let seen = c.as_slice.result.now in
     let rows = c.as_slice-in-loop-block.result.now in
-    let shares = c.as_slice-in-loop-block-2.result.now in
+    let shares = flat_map (λ (s : List (Share BlockCount)). s) c.deref-in-loop-block-3.result.now in
     let Known : ℕ → Type 0 = λ i. owner t (suspect_at suspects i).fault < length t.netlist.nets + 3 in
-    let Part : List (Share BlockCount) → Type 0 = λ xs. Shares (IsCount seen) m b suspects Known [] xs in
-    let all = c.in_ok-pieces.pieces.items in
-    let joined : shares ≡ flat_map (λ (s : List (Share BlockCount)). s) all =
-    c.as_slice-in-loop-block-2.ensures
-    ∙ c.in_ok-append_all.ensures
-    ∙ ap (λ (old : List (Share BlockCount)). old ++ flat_map (λ (s : List (Share BlockCount)). s) c.deref-in-loop-block-3.result.now) c.new-shares.ensures
-    ∙ ap (flat_map (λ (s : List (Share BlockCount)). s)) c.deref-in-loop-block-3.ensures.value in
-    let part : Part shares = subst Part (sym joined) c.in_ok-pieces.ensures in
+    let Lists : List (List (Share BlockCount)) → Type 0 = λ lists. Shares (IsCount seen) m b suspects Known [] (flat_map (λ (s : List (Share BlockCount)). s) lists) in
+    let part : Lists c.deref-in-loop-block-3.result.now = subst Lists (sym c.deref-in-loop-block-3.ensures.value) c.in_ok-pieces.ensures in
     let given : AreBlockShares m b seen suspects shares = record { right = part.right (All-nil _); there = λ i lt. part.there i lt (owner_below t (suspect_at suspects i).fault c.circuit.ensures.fits (c.requires.suspects i no_suspect lt).site) } in
     let Of : List PointRow → Type 0 = λ xs. AreBlockShares m b xs suspects shares in
     let In : ℕ → Type 0 = λ n. AreBlockShares m n rows suspects shares in
     record {
-      blocks = c.add_block.ensures.blocks ∙ ap (λ (n : ℕ). n + 1) inv.blocks;
-      len = c.add_block.ensures.len ∙ inv.len;
+      blocks = c.add_pieces.ensures.blocks ∙ ap (λ (n : ℕ). n + 1) inv.blocks;
+      len = c.add_pieces.ensures.len ∙ inv.len;
       counted = λ logs stands.
           let on = classes_by (class t logs) in
           let Points : List PointRow → Type 0 = ArePointRows t logs b in
           let Sided : ℕ → Type 0 = λ n. AreSideRows m on n rows in
-          c.add_block.ensures.counted m on suspects
+          c.add_pieces.ensures.counted m on suspects
           (subst Sided (sym inv.blocks) (side_rows t logs b rows (subst Points (sym c.as_slice-in-loop-block.ensures) (c.in_ok-rows.ensures.rows logs stands))))
           (subst In (sym inv.blocks) (subst Of (c.as_slice.ensures ∙ sym c.as_slice-in-loop-block.ensures) given))
           (inv.counted logs stands);
