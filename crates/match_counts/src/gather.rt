@@ -1,11 +1,11 @@
 //! The rows of lanes in which a flip shows at Failing and at Passing bits, and what a mask has of them.
 ghost use Rattle.std.specs.Prelude.{◌≡◌, ℕ, ◌+◌, ◌^◌, ◌<◌, ◌&&◌, Bool, All, [], length, sum_by, OnOk};
 ghost use Rattle.lane_rows.specs.Lanes.{lane, count_lanes};
-ghost use Rattle.packed_sim.specs.PackedParts.{IsBuiltFor, IsScratchIn};
+ghost use Rattle.packed_sim.specs.PackedParts.{IsBuiltFor, IsScratchIn, points_of_net};
 ghost use Rattle.log_rows.specs.declared.side.Side.{Side};
 ghost use Rattle.match_counts.specs.declared.block_count.BlockCount.{BlockCount};
 ghost use Rattle.log_rows.specs.declared.side.Side.TheVariants as side;
-ghost use Rattle.match_counts.specs.Flips.{tallied, row_on, point_row_at, list_on, IsShown, AreFew, count_on};
+ghost use Rattle.match_counts.specs.Flips.{tallied, row_on, point_row_at, list_on, caught_lane, IsShown, AreFew, count_on};
 
 use crate::block_count::BlockCount;
 use crate::flip_rows::FlipRows;
@@ -61,6 +61,33 @@ impl FlipRows {
         Ok(())
     }
 
+    /// Adds what a scratch shows at the points of a net. Most nets have none.
+    fn add_net(
+        &mut self,
+        counts: &PointCounts<'_>,
+        scratch: &Scratch,
+        net: u32,
+    ) -> Result<(), NoMemory>
+        requires built { IsBuiltFor counts.now.parts.now counts.now.good.now }
+        requires scratch { IsScratchIn counts.now.good.now scratch.now }
+        requires net { net < length counts.now.parts.now.netlist.nets }
+        ensures { OnOk result ((side : Side) (m : ℕ → Bool) → tallied (list_on side self.new) m
+            ≡ tallied (list_on side self.old) m + sum_by (λ k. count_lanes (λ j. caught_lane counts.now.parts.now counts.now.good.now scratch.now counts.now.block counts.now.rows.now side k j && m j)) (points_of_net counts.now.parts.now net)) }
+    {
+        let _ = counts.parts.points();
+        let points = counts.good.points_of_net(counts.parts, net);
+        if points.is_empty() {
+            return Ok(());
+        }
+        let capture = counts.good.blocks()[counts.block].capture;
+        let caught = counts
+            .good
+            .difference(counts.parts, scratch, counts.block, net)
+            .and(capture);
+        self.add_points(counts.rows, points, caught)?;
+        Ok(())
+    }
+
     /// Takes what a scratch shows at all points, in place of what was here.
     pub(crate) fn gather(
         &mut self,
@@ -74,18 +101,9 @@ impl FlipRows {
         let _ = counts.parts.points();
         self.failing.clear();
         self.passing.clear();
-        let capture = counts.good.blocks()[counts.block].capture;
         let nets = scratch.nets();
         for net in nets {
-            let caught = counts
-                .good
-                .difference(counts.parts, scratch, counts.block, *net)
-                .and(capture);
-            self.add_points(
-                counts.rows,
-                counts.good.points_of_net(counts.parts, *net),
-                caught,
-            )?;
+            self.add_net(counts, scratch, *net)?;
         }
         Ok(())
     }
