@@ -1,5 +1,5 @@
 -- Slots, and the lists that they name.
-use Rattle.std.proofs.Common.{◌≡◌, ◌≢◌, ℕ, zero, suc, ◌+◌, ◌-◌, ◌<◌, ◌≤◌, ◌^◌, Bool, true, false, eqb, cond, ◌||◌, List, [], ◌∷◌, ◌++◌, length, get_or, set, take, replicate, Some, None, refl, sym, ap, ◌∙◌, inl, inr, arith}
+use Rattle.std.proofs.Common.{◌≡◌, ◌≢◌, ℕ, zero, suc, ◌+◌, ◌-◌, ◌/◌, ◌%◌, Bor, Option, unwrap_or, ◌<◌, ◌≤◌, ◌^◌, Bool, true, false, eqb, cond, ◌||◌, List, [], ◌∷◌, ◌++◌, length, get_or, set, take, Some, None, refl, sym, ap, ◌∙◌, inl, inr, arith}
 use Rattle.std.specs.Prelude.{Contains}
 use Rattle.std.specs.List.{list_any, IsDistinct}
 use Rattle.std.proofs.lemmas.Bool.{cases_eq, cases_lt, eq-eqb, ne_eqb, eqb-true}
@@ -10,7 +10,7 @@ use Rattle.std.proofs.lemmas.Map.Steps.{length-le_from_distinct_below}
 use Rattle.scan_model.proofs.FanSweeps.{any_found, any_among}
 use Rattle.lane_rows.specs.Planes.{Planes}
 use Rattle.lane_rows.proofs.Once.{distinct_from}
-use Rattle.packed_sim.specs.Rows.{no_row, row_at, rows_at, IsClean, forgotten, IsDense}
+use Rattle.packed_sim.specs.Rows.{no_row, row_at, rows_at, row_now, slots_of, lent_at, IsClean, at_home, IsDense, IsLaid, AreFound}
 
 -- ---- the row of a slot
 
@@ -173,15 +173,35 @@ module _ (slots nets : List ℕ) (rows : List Planes) (a b : ℕ) (dense : IsDen
             let second = dense.net_of n in_range (omega (arith, nonzero s some)) in
             sym first.1 ∙ ap (λ (k : ℕ). get_or nets (k - 1) 0) (e ∙ is) ∙ second.1
 
--- ---- all slots emptied
+-- ---- places and their slots
 
-pub forgotten_more : (nets slots now : List ℕ) (i m : ℕ) → i < length nets → m ≡ get_or nets i 0 → m < length now → ((n : ℕ) → get_or now n 0 ≡ forgotten (take i nets) slots n)
-    → (n : ℕ) → get_or (set now m 0) n 0 ≡ forgotten (take (i + 1) nets) slots n
-forgotten_more nets slots now i m lt is inside so_far n =
+pub slot_at : (places : List ℕ) (n : ℕ) → get_or (slots_of places) n 0 ≡ get_or places n 0 - 2147483647
+slot_at [] n = refl
+slot_at (p ∷ places) zero = refl
+slot_at (p ∷ places) (suc n) = slot_at places n
+
+pub slots_set : (places : List ℕ) (n p : ℕ) → slots_of (set places n p) ≡ set (slots_of places) n (p - 2147483647)
+slots_set [] n p = refl
+slots_set (q ∷ places) zero p = refl
+slots_set (q ∷ places) (suc n) p = ap (λ (xs : List ℕ). (q - 2147483647) ∷ xs) (slots_set places n p)
+
+pub own_of_home : (rows : List Planes) (places : List ℕ) (n : ℕ) → get_or places n 0 < 2147483648 → get_or (rows_at rows (slots_of places)) n None ≡ None
+own_of_home rows places n home =
+    let none : get_or (slots_of places) n 0 ≡ 0 = omega (arith, slot_at places n, home) in
+    own_at rows (slots_of places) n ∙ ap (row_at rows) none
+
+pub own_of_place : (rows : List Planes) (places : List ℕ) (n : ℕ) → 2147483648 ≤ get_or places n 0 → get_or (rows_at rows (slots_of places)) n None ≡ Some (get_or rows (get_or places n 0 - 2147483648) no_row)
+own_of_place rows places n own = own_at rows (slots_of places) n ∙ row_of_slot rows (get_or (slots_of places) n 0) (get_or places n 0 - 2147483648) (omega (arith, slot_at places n, own))
+
+-- ---- all nets sent home
+
+pub home_more : (nets places now : List ℕ) (i m : ℕ) → i < length nets → m ≡ get_or nets i 0 → m < length now → ((n : ℕ) → get_or now n 0 ≡ at_home (take i nets) places n)
+    → (n : ℕ) → get_or (set now m m) n 0 ≡ at_home (take (i + 1) nets) places n
+home_more nets places now i m lt is inside so_far n =
     let more : list_any (eqb n) (take (i + 1) nets) ≡ (list_any (eqb n) (take i nets) || (eqb n m || false)) = ap (list_any (eqb n)) (take_more nets i 0 lt ∙ ap (λ (x : ℕ). take i nets ++ x ∷ []) (sym is)) ∙ list_any-append (eqb n) (take i nets) (m ∷ []) in
     rw more (elim (cases_eq n m) [
-      | inl same ↦ rw (eq-eqb n m same, or_true (list_any (eqb n) (take i nets))) (ap (λ (k : ℕ). get_or (set now m 0) k 0) same ∙ get_or-set_same now m 0 0 inside)
-      | inr other ↦ rw (ne_eqb n m other, or_false (list_any (eqb n) (take i nets))) (get_or-set_other now m n 0 0 other ∙ so_far n)
+      | inl same ↦ rw (eq-eqb n m same, or_true (list_any (eqb n) (take i nets))) (ap (λ (k : ℕ). get_or (set now m m) k 0) same ∙ get_or-set_same now m m 0 inside ∙ sym same)
+      | inr other ↦ rw (ne_eqb n m other, or_false (list_any (eqb n) (take i nets))) (get_or-set_other now m n m 0 other ∙ so_far n)
     ])
   where
     or_true : (x : Bool) → (x || (true || false)) ≡ true
@@ -192,20 +212,19 @@ forgotten_more nets slots now i m lt is inside so_far n =
     or_false true = refl
     or_false false = refl
 
-pub all_forgotten : (slots nets now : List ℕ) (rows : List Planes) (a b : ℕ) → IsDense slots nets rows a b → length now ≡ length slots → ((n : ℕ) → get_or now n 0 ≡ forgotten nets slots n) → (n : ℕ) → get_or now n 0 ≡ 0
-all_forgotten slots nets now rows a b dense len is n = elim (cases_lt n (length slots)) [
-  | inr outside ↦ get_or_past now n 0 (omega (arith, len))
-  | inl inside ↦ elim (cases_lt 0 (get_or slots n 0)) [
-    | inl some ↦
-        let at = dense.net_of n inside some in
-        let i_in : get_or slots n 0 - 1 < length nets = omega (arith, at.0) in
-        let found : list_any (eqb n) nets ≡ true = any_among (eqb n) nets n (get_or slots n 0 - 1, i_in, get_or_default nets (get_or slots n 0 - 1) n 0 i_in ∙ at.1) (eq-eqb n n refl) in
-        is n ∙ ap (λ (t : Bool). cond t 0 (get_or slots n 0)) found
-    | inr none ↦ is n ∙ both (list_any (eqb n) nets) (get_or slots n 0) (omega arith)
-  ]
+pub all_home : (places nets now : List ℕ) (rows : List Planes) (a b : ℕ) → IsLaid places nets rows a b → length now ≡ length places → ((n : ℕ) → get_or now n 0 ≡ at_home nets places n) → (n : ℕ) → n < length now → get_or now n 0 ≡ n
+all_home places nets now rows a b laid len is n inside = elim (cases_lt 0 (get_or (slots_of places) n 0)) [
+  | inl some ↦
+      let at = laid.dense.net_of n (omega (arith, inside, len, length-map places (λ (p : ℕ). p - 2147483647))) some in
+      let i_in : get_or (slots_of places) n 0 - 1 < length nets = omega (arith, at.0, some) in
+      let found : list_any (eqb n) nets ≡ true = any_among (eqb n) nets n (get_or (slots_of places) n 0 - 1, i_in, get_or_default nets (get_or (slots_of places) n 0 - 1) n 0 i_in ∙ at.1) (eq-eqb n n refl) in
+      is n ∙ ap (λ (t : Bool). cond t n (get_or places n 0)) found
+  | inr none ↦
+      let low : get_or places n 0 < 2147483648 = omega (arith, slot_at places n, none) in
+      is n ∙ both (list_any (eqb n) nets) (get_or places n 0) (laid.home n (omega (arith, inside, len)) low)
 ]
   where
-    both : (t : Bool) (x : ℕ) → x ≡ 0 → cond t 0 x ≡ 0
+    both : (t : Bool) (x : ℕ) → x ≡ n → cond t n x ≡ n
     both true x e = refl
     both false x e = e
 
@@ -219,13 +238,126 @@ dense_none slots a b fits a_room b_room blank = record {
   room_of_rows = b_room;
 }
 
-pub zero_slots : (slots : List ℕ) (count : ℕ) → slots ≡ replicate count 0 → (n : ℕ) → get_or slots n 0 ≡ 0
-zero_slots slots count is n = ap (λ (xs : List ℕ). get_or xs n 0) is ∙ go count n
-  where
-    go : (k m : ℕ) → get_or {A = ℕ} (replicate k 0) m 0 ≡ 0
-    go zero m = refl
-    go (suc k) zero = refl
-    go (suc k) (suc m) = go k m
+-- with each net at home there is nothing of a change
+
+module _ (places : List ℕ) (few : length places ≤ 2147483648) (home : (n : ℕ) → n < length places → get_or places n 0 ≡ n) where
+  no_slot : (n : ℕ) → get_or (slots_of places) n 0 ≡ 0
+  no_slot n = slot_at places n ∙ elim (cases_lt n (length places)) [
+    | inl inside ↦ omega (arith, home n inside, few, inside)
+    | inr outside ↦ omega (arith, get_or_past places n 0 outside)
+  ]
+
+  pub laid_none : (a b : ℕ) → length places ≤ a → length places ≤ b → IsLaid places [] [] a b
+  laid_none a b a_room b_room = record {
+    dense = dense_none (slots_of places) a b (omega (arith, few, length-map places (λ (p : ℕ). p - 2147483647))) (omega (arith, a_room, length-map places (λ (p : ℕ). p - 2147483647))) (omega (arith, b_room, length-map places (λ (p : ℕ). p - 2147483647))) no_slot;
+    home = λ n inside low. home n inside;
+    few = few;
+    few_rows = omega arith;
+  }
+
+  pub home_clean : (rows : List Planes) → IsClean (rows_at rows (slots_of places))
+  home_clean rows = clean_rows rows (slots_of places) no_slot
+
+-- ---- a net that gets a row
+
+module _ (places nets : List ℕ) (rows : List Planes) (a b : ℕ) (laid : IsLaid places nets rows a b) (n : ℕ) (in_range : n < length places) (r : Planes) where
+  slot_inside : n < length (slots_of places)
+  slot_inside = omega (arith, in_range, length-map places (λ (p : ℕ). p - 2147483647))
+
+  module _ (free : get_or places n 0 < 2147483648) where
+    no_slot_yet : get_or (slots_of places) n 0 ≡ 0
+    no_slot_yet = slot_at places n ∙ omega (arith, free)
+
+    pub more_room : length nets < length places
+    more_room = omega (arith, room_left (slots_of places) nets rows a b laid.dense n slot_inside no_slot_yet r, length-map places (λ (p : ℕ). p - 2147483647))
+
+    slots_named : slots_of (set places n (2147483648 + length nets)) ≡ set (slots_of places) n (length nets + 1)
+    slots_named = slots_set places n (2147483648 + length nets) ∙ ap (λ (k : ℕ). set (slots_of places) n k) (omega arith)
+
+    pub laid_push : IsLaid (set places n (2147483648 + length nets)) (nets ++ n ∷ []) (rows ++ r ∷ []) a b
+    laid_push = record {
+      dense = rw slots_named (dense_push (slots_of places) nets rows a b laid.dense n slot_inside no_slot_yet r);
+      home = λ m inside low. elim (cases_eq m n) [
+        | inl same ↦ absurd (omega (arith, low, ap (λ (k : ℕ). get_or (set places n (2147483648 + length nets)) k 0) same ∙ get_or-set_same places n (2147483648 + length nets) 0 in_range))
+        | inr other ↦
+            let stays : get_or (set places n (2147483648 + length nets)) m 0 ≡ get_or places m 0 = get_or-set_other places n m (2147483648 + length nets) 0 other in
+            stays ∙ laid.home m (omega (arith, inside, length-set places n (2147483648 + length nets))) (omega (arith, stays, low))
+      ];
+      few = omega (arith, laid.few, length-set places n (2147483648 + length nets));
+      few_rows = omega (arith, more_room, laid.dense.one_each, length_push rows r, length-set places n (2147483648 + length nets));
+    }
+
+    pub own_push : rows_at (rows ++ r ∷ []) (slots_of (set places n (2147483648 + length nets))) ≡ set (rows_at rows (slots_of places)) n (Some r)
+    own_push = rw slots_named (rows_push (slots_of places) nets rows a b laid.dense n slot_inside no_slot_yet r)
+
+  module _ (taken : 2147483648 ≤ get_or places n 0) where
+    slot_now : get_or places n 0 - 2147483647 ≡ get_or (slots_of places) n 0
+    slot_now = sym (slot_at places n)
+
+    slot_some : get_or places n 0 - 2147483647 ≢ 0
+    slot_some e = omega (arith, e, taken)
+
+    down : (get_or places n 0 - 2147483647) - 1 ≡ get_or places n 0 - 2147483648
+    down = omega (arith, taken)
+
+    pub own_inside : get_or places n 0 - 2147483648 < length rows
+    own_inside = omega (arith, place_inside (slots_of places) nets rows a b laid.dense n slot_inside (get_or places n 0 - 2147483647) slot_now slot_some r, down)
+
+    pub own_set : rows_at (set rows (get_or places n 0 - 2147483648) r) (slots_of places) ≡ set (rows_at rows (slots_of places)) n (Some r)
+    own_set = ap (λ (k : ℕ). rows_at (set rows k r) (slots_of places)) (sym down) ∙ rows_set (slots_of places) nets rows a b laid.dense n slot_inside (get_or places n 0 - 2147483647) slot_now slot_some r
+
+-- ---- what places name
+
+pub found_of_laid : (places nets : List ℕ) (rows good : List Planes) (a b : ℕ) → IsLaid places nets rows a b → length good ≡ length places → AreFound places good rows
+found_of_laid places nets rows good a b laid fits = record {
+  fits = sym fits;
+  home = laid.home;
+  inside = λ n lt own.
+      let at = laid.dense.net_of n (omega (arith, lt, length-map places (λ (p : ℕ). p - 2147483647))) (omega (arith, slot_at places n, own)) in
+      omega (arith, at.0, slot_at places n, laid.dense.one_each, own);
+  few = omega (arith, laid.few_rows, laid.few);
+}
+
+lent_is : (lists : List (Bor (List Planes))) (i : ℕ) (d : Bor (List Planes)) → i < length lists → lent_at lists i ≡ (get_or lists i d).now
+lent_is [] i d lt = absurd (omega arith)
+lent_is (l ∷ lists) zero d lt = refl
+lent_is (l ∷ lists) (suc i) d lt = lent_is lists i d (omega arith)
+
+module _ (places : List ℕ) (lists : List (Bor (List Planes))) (two : length lists ≡ 2) (found : AreFound places (lent_at lists 0) (lent_at lists 1)) (n : ℕ) (in_range : n < length places)
+    (list : Bor (List Planes)) (is : list ≡ get_or lists (get_or places n 0 / 2147483648) list) where
+  low_list : get_or places n 0 < 2147483648 → list.now ≡ lent_at lists 0
+  low_list low =
+      let first : get_or places n 0 / 2147483648 ≡ 0 = omega (arith, low) in
+      ap (λ (l : Bor (List Planes)). l.now) (is ∙ ap (λ (i : ℕ). get_or lists i list) first) ∙ sym (lent_is lists 0 list (omega (arith, two)))
+
+  own_list : 2147483648 ≤ get_or places n 0 → list.now ≡ lent_at lists 1
+  own_list own =
+      let second : get_or places n 0 / 2147483648 ≡ 1 = omega (arith, own, found.inside n in_range own, found.few) in
+      ap (λ (l : Bor (List Planes)). l.now) (is ∙ ap (λ (i : ℕ). get_or lists i list) second) ∙ sym (lent_is lists 1 list (omega (arith, two)))
+
+  pub named_inside : get_or places n 0 % 2147483648 < length list.now
+  named_inside = elim (cases_lt (get_or places n 0) 2147483648) [
+    | inl low ↦ rw (low_list low) (omega (arith, found.home n in_range low, found.fits, in_range, low))
+    | inr own ↦ rw (own_list own) (omega (arith, found.inside n in_range own, own, found.few))
+  ]
+
+  pub named_row : (row : Planes) → row ≡ get_or list.now (get_or places n 0 % 2147483648) row → row ≡ row_now (rows_at (lent_at lists 1) (slots_of places)) (lent_at lists 0) n
+  named_row row is_row = elim (cases_lt (get_or places n 0) 2147483648) [
+    | inl low ↦
+        let at : get_or places n 0 % 2147483648 ≡ n = omega (arith, found.home n in_range low, low) in
+        is_row
+        ∙ ap (λ (k : ℕ). get_or list.now k row) at
+        ∙ ap (λ (rows : List Planes). get_or rows n row) (low_list low)
+        ∙ get_or_default (lent_at lists 0) n row no_row (omega (arith, found.fits, in_range))
+        ∙ sym (ap (λ (own : Option Planes). unwrap_or own (get_or (lent_at lists 0) n no_row)) (own_of_home (lent_at lists 1) places n low))
+    | inr own ↦
+        let at : get_or places n 0 % 2147483648 ≡ get_or places n 0 - 2147483648 = omega (arith, own, found.inside n in_range own, found.few) in
+        is_row
+        ∙ ap (λ (k : ℕ). get_or list.now k row) at
+        ∙ ap (λ (rows : List Planes). get_or rows (get_or places n 0 - 2147483648) row) (own_list own)
+        ∙ get_or_default (lent_at lists 1) (get_or places n 0 - 2147483648) row no_row (omega (arith, found.inside n in_range own, own))
+        ∙ sym (ap (λ (mine : Option Planes). unwrap_or mine (get_or (lent_at lists 0) n no_row)) (own_of_place (lent_at lists 1) places n own))
+  ]
 
 -- ---- the nets that are listed
 

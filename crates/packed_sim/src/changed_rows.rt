@@ -1,26 +1,62 @@
 //! The rows of a block under a change: those that the change gave to nets, else the fault-free ones.
-ghost use Rattle.std.specs.Prelude.{◌≡◌, length};
+ghost use Rattle.std.specs.Prelude.{◌≡◌, ◌<◌, length};
+ghost use Rattle.packed_sim.specs.Rows.{rows_at, slots_of, row_now, AreFound};
 
-use crate::overlay::Overlay;
+use crate::overlay::OWN;
 use lane_rows::{NetRows, Packed};
+use std::marker::Model;
 
+/// The rows of a block, with those that a change gave to nets in their place. A place says which list a row is in and where
+/// there, so that no row is looked for by a test: whether a net has changed can't be foreseen.
 #[derive(Drop)]
-/// The rows of a block, with those that a change gave to nets in their place.
 pub(crate) struct ChangedRows<'a> {
-    pub(crate) overlay: &'a Overlay,
-    pub(crate) good: &'a [Packed],
-    ghost fits: { length overlay.now ≡ length good.now },
+    places: &'a [u32],
+    lists: [&'a [Packed]; 2],
+}
+
+impl<'a> Model for ChangedRows<'a> {
+    ghost use Rattle.packed_sim.specs.Rows.{RowsOver, rows_at, slots_of, lent_at, AreFound};
+
+    ghost Value = { RowsOver };
+
+    ghost view = { λ c. record { own = rows_at (lent_at c.lists 1) (slots_of c.places.now); good = (lent_at c.lists 0) } };
+
+    ghost invariant = { λ c. AreFound c.places.now (lent_at c.lists 0) (lent_at c.lists 1) };
+}
+
+impl<'a> ChangedRows<'a> {
+    /// The rows of a block and those of a change, of which places name one for each net.
+    pub(crate) fn make(places: &'a [u32], good: &'a [Packed], own: &'a [Packed]) -> ChangedRows<'a>
+        requires { AreFound places.now good.now own.now }
+        ensures { result ≡ record { own = rows_at own.now (slots_of places.now); good = good.now } }
+    {
+        ChangedRows {
+            places,
+            lists: [good, own],
+        }
+    }
+
+    /// The row of a net: that of the change, else that of the block.
+    pub(crate) fn now(&self, net: u32) -> Packed
+        requires { net < length self.now.good }
+        ensures { result ≡ row_now self.now.own self.now.good net }
+    {
+        let place = self.places[net as usize];
+        let lists = &self.lists[..];
+        let list = lists[(place / OWN) as usize];
+        list[(place % OWN) as usize]
+    }
 }
 
 impl NetRows for ChangedRows<'_> {
     ghost use Rattle.std.specs.Prelude.{length};
     ghost use Rattle.packed_sim.specs.Propagation.{lane_now};
 
-    ghost nets = { λ rows. length rows.good.now };
+    ghost nets = { λ rows. length rows.good };
 
-    ghost value = { λ rows n j. lane_now rows.overlay.now rows.good.now j n };
+    ghost value = { λ rows n j. lane_now rows.own rows.good j n };
 
     fn row(&self, net: u32) -> Packed {
-        self.overlay.row(self.good, net)
+        self.now(net)
     }
 }

@@ -1,17 +1,22 @@
 //! Rows that stand over those of a block, for the few nets that a change reaches.
-ghost use Rattle.std.specs.Prelude.{◌≡◌, ◌≢◌, ◌↔◌, ℕ, ◌<◌, ◌^◌, Some, None, Contains, length, nat_eq, All, IfOk, slice_set, slice_index_or};
+ghost use Rattle.std.specs.Prelude.{◌≡◌, ◌≢◌, ◌↔◌, ℕ, ◌<◌, ◌≤◌, ◌^◌, Some, None, Contains, length, nat_eq, All, IfOk, slice_set, slice_index_or};
 ghost use Rattle.std.specs.List.{IsDistinct};
-ghost use Rattle.packed_sim.specs.Rows.{IsClean, row_now, forgotten};
+ghost use Rattle.packed_sim.specs.Rows.{IsClean, row_now, at_home};
 
+use crate::changed_rows::ChangedRows;
 use lane_rows::Packed;
 use scan_model::NoMemory;
 use std::alloc::Global;
 use std::marker::Model;
 
-/// Rows that stand for those of a block, net by net. A slot is 0, or one more than the place in the lists.
+/// Where the places of a change's own rows begin. Those below are places in the rows of the block.
+pub(crate) const OWN: u32 = 2_147_483_648;
+
+/// Rows that stand for those of a block, net by net. The place of a net is its own number, where the row of the block stands
+/// for it, or `OWN` more than a place in the lists.
 #[derive(Drop)]
 pub struct Overlay {
-    slots: Vec<u32>,
+    places: Vec<u32>,
     nets: Vec<u32>,
     rows: Vec<Packed>,
 }
@@ -23,32 +28,47 @@ impl Model for Overlay {
     ghost Value = { List (Option Planes) };
 
     ghost use Rattle.std.specs.Prelude.{vec_capacity};
-    ghost use Rattle.packed_sim.specs.Rows.{rows_at, IsDense};
+    ghost use Rattle.packed_sim.specs.Rows.{rows_at, slots_of, IsLaid};
 
-    ghost view = { λ o. rows_at o.rows.items o.slots.items };
+    ghost view = { λ o. rows_at o.rows.items (slots_of o.places.items) };
 
-    ghost invariant = { λ o. IsDense o.slots.items o.nets.items o.rows.items (vec_capacity o.nets) (vec_capacity o.rows) };
+    ghost invariant = { λ o. IsLaid o.places.items o.nets.items o.rows.items (vec_capacity o.nets) (vec_capacity o.rows) };
 }
 
-/// Empties the slots of nets.
-fn empty_slots(slots: &mut [u32], nets: &[u32])
-    requires { All (λ n. n < length slots.old) nets.now }
-    ensures { (n : ℕ) → slice_index_or slots.new n 0 ≡ forgotten nets.now slots.old n }
+/// Gives each net its place in the rows of the block.
+fn send_all_home(places: &mut [u32])
+    requires { length places.old ≤ 2 ^ 31 }
+    ensures { (n : ℕ) → n < length places.new → slice_index_or places.new n 0 ≡ n }
+{
+    for net in 0..places.len() {
+        places[net] = net as u32;
+    }
+}
+
+/// Gives nets their places in the rows of the block back.
+fn send_home(places: &mut [u32], nets: &[u32])
+    requires { All (λ n. n < length places.old) nets.now }
+    ensures { (n : ℕ) → slice_index_or places.new n 0 ≡ at_home nets.now places.old n }
 {
     for net in nets {
-        slots[*net as usize] = 0;
+        places[*net as usize] = *net;
     }
 }
 
 impl Overlay {
-    /// No rows, with room for one of each net.
+    /// No rows, with room for one of each net. More nets than there are places of the block's rows are too many for any memory.
     pub fn make(alloc: Global, nets: usize) -> Result<Overlay, NoMemory>
         requires { nets < 2 ^ 32 }
         ensures len { IfOk result (λ o. length o ≡ nets) }
         ensures clean { IfOk result IsClean }
     {
+        if nets > OWN as usize {
+            return Err(NoMemory);
+        }
+        let mut places = vec![in alloc; 0u32; nets]?;
+        send_all_home(&mut places);
         Ok(Overlay {
-            slots: vec![in alloc; 0u32; nets]?,
+            places,
             nets: Vec::with_capacity(alloc, nets)?,
             rows: Vec::with_capacity(alloc, nets)?,
         })
@@ -60,12 +80,15 @@ impl Overlay {
         requires net { net < length self.now }
         ensures { result ≡ row_now self.now good.now net }
     {
-        let slot = self.slots[net as usize];
-        if slot == 0 {
-            good[net as usize]
-        } else {
-            self.rows[slot as usize - 1]
-        }
+        self.over(good).now(net)
+    }
+
+    /// The rows of a block with those of the change in their place.
+    pub(crate) fn over<'a>(&'a self, good: &'a [Packed]) -> ChangedRows<'a>
+        requires { length good.now ≡ length self.now }
+        ensures { result ≡ record { own = self.now; good = good.now } }
+    {
+        ChangedRows::make(&self.places, good, &self.rows)
     }
 
     /// The row of its own that a net has, if any.
@@ -73,11 +96,11 @@ impl Overlay {
         requires { net < length self.now }
         ensures { result ≡ slice_index_or self.now net None }
     {
-        let slot = self.slots[net as usize];
-        if slot == 0 {
+        let place = self.places[net as usize];
+        if place < OWN {
             None
         } else {
-            Some(self.rows[slot as usize - 1])
+            Some(self.rows[(place - OWN) as usize])
         }
     }
 
@@ -94,13 +117,13 @@ impl Overlay {
         requires { net < length self.old }
         ensures { self.new ≡ slice_set self.old net (Some row) }
     {
-        let slot = self.slots[net as usize];
-        if slot == 0 {
+        let place = self.places[net as usize];
+        if place < OWN {
+            self.places[net as usize] = OWN + self.nets.len() as u32;
             self.nets.push_reserved(net);
             self.rows.push_reserved(row);
-            self.slots[net as usize] = self.nets.len() as u32;
         } else {
-            self.rows[slot as usize - 1] = row;
+            self.rows[(place - OWN) as usize] = row;
         }
     }
 
@@ -109,7 +132,7 @@ impl Overlay {
         ensures len { length self.new ≡ length self.old }
         ensures clean { IsClean self.new }
     {
-        empty_slots(&mut self.slots, &self.nets);
+        send_home(&mut self.places, &self.nets);
         self.nets.clear();
         self.rows.clear();
     }

@@ -11,7 +11,6 @@ ghost use Rattle.lane_rows.specs.Wiring.{AreKept, IsWired, Covers};
 ghost use Rattle.packed_sim.specs.Rows.{IsClean, row_now};
 ghost use Rattle.packed_sim.specs.Propagation.{lane_now, FitsScratch, IsClosed, IsFree, IsWithin, IsOpen, IsSettled, IsSet, IsTurn, HasMoved};
 
-use crate::changed_rows::ChangedRows;
 use crate::overlay::Overlay;
 use lane_rows::{Packed, Wiring};
 use place_sets::PlaceSet;
@@ -70,13 +69,10 @@ impl Scratch {
     {
         self.waiting.remove(place);
         let gate = wiring.gates[place].net;
-        let changed = ChangedRows {
-            overlay: &self.overlay,
-            good,
-        };
+        let changed = self.overlay.over(good);
         let row = wiring.gate_row(&changed, circuit, place);
+        let before = changed.now(gate);
         steps.tick();
-        let before = self.overlay.row(good, gate);
         let same = row.is_same(before);
         if !same {
             self.set(wiring, gate, row);

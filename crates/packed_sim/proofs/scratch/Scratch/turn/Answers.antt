@@ -22,7 +22,7 @@ returns-then-not-same g c =
     record {
       turn = turn_of_set c.args.circuit.now order c.args.wiring.now.sinks c.args.good.now c.args.place c.args.self.now c.set.new.self c.remove.new.self c.gate_row-row.result
           (omega (arith, (c.requires.wiring.ordered.gates c.args.place c.requires.place).0, c.requires.fits.own))
-          (rw (← is) c.set.ensures.overlay) c.remove.ensures.places (rw (← is) c.set.ensures.waiting) (c.set.ensures.room ∙ c.remove.ensures.room) (rw (← is) c.set.ensures.moved) c.set.ensures.moved_room c.gate_row-row.ensures;
+          (rw (← is) c.set.ensures.overlay) c.remove.ensures.places (rw (← is) c.set.ensures.waiting) (c.set.ensures.room ∙ c.remove.ensures.room) (rw (← is) c.set.ensures.moved) c.set.ensures.moved_room (rw c.over-changed.ensures at c.gate_row-row.ensures);
       steps = search rules;
     }
 
@@ -32,5 +32,5 @@ returns-else-not-same-clause-turn g c =
     let is = (kept_at c.args.circuit.now order c.args.wiring.now.gates.items c.args.wiring.now.operands.items c.args.place c.index.result.now c.requires.kept c.requires.place c.index.ensures).net in
     turn_of_same c.args.circuit.now order c.args.wiring.now.sinks c.args.good.now c.args.place c.args.self.now c.args.self.now c.remove.new.self c.gate_row-row.result
     c.remove.ensures.places c.remove.ensures.room
-    (λ j lt. c.is_same-same.ensures.same c.if-not-same.false j lt ∙ ap (λ (p : Planes). held p j) (c.row-before.ensures ∙ ap (λ (n : ℕ). row_now c.args.self.now.overlay c.args.good.now n) is))
-    c.gate_row-row.ensures
+    (λ j lt. c.is_same-same.ensures.same c.if-not-same.false j lt ∙ ap (λ (p : Planes). held p j) (rw c.over-changed.ensures at c.now-before.ensures ∙ ap (λ (n : ℕ). row_now c.args.self.now.overlay c.args.good.now n) is))
+    (rw c.over-changed.ensures at c.gate_row-row.ensures)
