@@ -57,7 +57,7 @@ module _ {X : Type 0} (P : X → Type 0) where
 -- ---- a list of work that is cut
 
 -- one piece of it more
-pub cut_more : (p : Piece) (later : List ℕ) (pieces : List Piece) (at : ℕ) (k : WorkKind) (n : ℕ)
+cut_more : (p : Piece) (later : List ℕ) (pieces : List Piece) (at : ℕ) (k : WorkKind) (n : ℕ)
     → (HasItem (insert pieces at p) k n ⊎ ((k ≡ p.kind) × Contains later n)) ↔ (HasItem pieces k n ⊎ ((k ≡ p.kind) × Contains (p.items.now ++ later) n))
 cut_more p later pieces at k n = (fewer, more)
   where
@@ -77,6 +77,16 @@ cut_more p later pieces at k n = (fewer, more)
       | inl here ↦ inl (one_inserted Has pieces at p (inr (sym list.0, here)))
       | inr behind ↦ inr (list.0, behind)
     ]
+
+-- and that for all kinds, where the pieces and the list that was left are so cut
+pub next_cut : (p : Piece) (left later items : List ℕ) (start pieces new : List Piece) (at : ℕ) → new ≡ insert pieces at p → left ≡ p.items.now ++ later
+    → ((k : WorkKind) (n : ℕ) → (HasItem pieces k n ⊎ ((k ≡ p.kind) × Contains left n)) ↔ (HasItem start k n ⊎ ((k ≡ p.kind) × Contains items n)))
+    → (k : WorkKind) (n : ℕ) → (HasItem new k n ⊎ ((k ≡ p.kind) × Contains later n)) ↔ (HasItem start k n ⊎ ((k ≡ p.kind) × Contains items n))
+next_cut p left later items start pieces new at more split before k n =
+    let Left : List Piece → Type 0 = λ ps. HasItem ps k n ⊎ ((k ≡ p.kind) × Contains later n) in
+    let Right : List ℕ → Type 0 = λ ns. HasItem pieces k n ⊎ ((k ≡ p.kind) × Contains ns n) in
+    let step = cut_more p later pieces at k n in
+    (λ has. (before k n).0 (subst Right (sym split) (step.0 (subst Left more has))), λ has. subst Left (sym more) (step.1 (subst Right split ((before k n).1 has))))
 
 -- ---- all lists of a block
 

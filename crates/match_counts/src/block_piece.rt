@@ -32,12 +32,12 @@ fn block_pieces<'a, R: Threads>(
     let count = work.parts.circuit().nets().len() as u32;
     let mut pieces = Vec::new(alloc);
     let cells = work.owners.group(count + 2);
-    cut(rt, WorkKind::Cells, cells, 1, &mut pieces)?;
-    cut(rt, WorkKind::Nets, nets, 2, &mut pieces)?;
+    cut(rt, WorkKind::Cells, cells, &mut pieces)?;
+    cut(rt, WorkKind::Nets, nets, &mut pieces)?;
     let pins = work.owners.group(count);
-    cut(rt, WorkKind::Pins, pins, 3, &mut pieces)?;
+    cut(rt, WorkKind::Pins, pins, &mut pieces)?;
     let bridges = work.owners.group(count + 1);
-    cut(rt, WorkKind::Bridges, bridges, 4, &mut pieces)?;
+    cut(rt, WorkKind::Bridges, bridges, &mut pieces)?;
     Ok(pieces)
 }
 

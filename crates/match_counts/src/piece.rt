@@ -41,26 +41,25 @@ fn piece_size<R: Threads>(rt: &R, kind: WorkKind, items: usize) -> usize
     items.div_ceil(processors.saturating_mul(2)).max(least)
 }
 
-/// Cuts a list, and puts its pieces among those of other lists so that every second, third .. is one of it: a thread takes
-/// pieces that stand side by side, and so some of each list.
+/// Cuts a list, and spreads its pieces evenly among those of other lists: a thread takes pieces that stand side by side, and so
+/// some of each list.
 pub(crate) fn cut<'a, R: Threads>(
     rt: &R,
     kind: WorkKind,
     items: &'a [u32],
-    every: usize,
     pieces: &mut Vec<Piece<'a>>,
 ) -> Result<(), NoMemory>
-    requires every { 0 < every }
     ensures { OnOk result (HaveMore kind items.now pieces.old.items pieces.new.items) }
 {
     let size = piece_size(rt, kind, items.len());
-    let mut place = every - 1;
+    let apart = pieces.len() / items.len().div_ceil(size).max(1);
+    let mut place = apart;
     let mut rest = items;
     while !rest.is_empty() {
         let (part, later) = rest.split_at(size.min(rest.len()));
         place = place.min(pieces.len());
         pieces.insert(place, Piece { kind, items: part })?;
-        place = place.saturating_add(every);
+        place = place.saturating_add(apart).saturating_add(1);
         rest = later;
     }
     Ok(())

@@ -1,12 +1,11 @@
-use Rattle.std.proofs.Common.{◌≡◌, ◌<◌, List, [], length, get_or, take, replicate, false, refl, subst, sym, ◌∙◌, arith}
+use Rattle.std.proofs.Common.{◌<◌, List, [], length, replicate, false, refl, subst, sym, ◌∙◌, arith}
 use Rattle.std.specs.Prelude.{All}
 use Rattle.std.specs.List.{flat_map}
 use Rattle.std.proofs.lemmas.List.{take_all, get_or_default}
 use Rattle.fault_effects.specs.declared.share.Share.{Share}
 use Rattle.match_counts.specs.declared.block_count.BlockCount.{BlockCount}
-use Rattle.match_counts.specs.declared.totals.Total.{Total}
-use Rattle.match_counts.specs.Totals.{AreAddedOnce, HaveRoom}
-use Rattle.match_counts.proofs.AddedShares.{none_added, each_list, next_list_added, room_left, room_for_all, all_added, all_at_most}
+use Rattle.match_counts.specs.Totals.{AreAddedOnce}
+use Rattle.match_counts.proofs.AddedShares.{each_list, next_list_added, all_added, all_at_most}
 use Rattle.match_counts.proofs.share_lists.add_share_lists.Goals as goal
 
 pub add_more-requires-clause-shares : goal.add_more-requires-clause-shares

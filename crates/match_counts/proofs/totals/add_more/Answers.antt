@@ -1,5 +1,5 @@
-use Rattle.std.proofs.Common.{length, get_or, take, arith}
-use Rattle.match_counts.proofs.AddedShares.{no_share, none_added, room_left, next_added}
+use Rattle.std.proofs.Common.{take}
+use Rattle.match_counts.proofs.AddedShares.{none_added, room_left, next_added}
 use Rattle.match_counts.proofs.totals.add_more.Goals as goal
 
 pub loop-share-init : goal.loop-share-init

@@ -1,5 +1,5 @@
 use Rattle.std.proofs.Common.{length}
-use Rattle.match_counts.proofs.AddedShares.{room_for_all, all_added, all_at_most}
+use Rattle.match_counts.proofs.AddedShares.{all_added, all_at_most}
 use Rattle.match_counts.proofs.totals.add_shares.Goals as goal
 
 pub returns-clause-sums : goal.returns-clause-sums
