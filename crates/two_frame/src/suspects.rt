@@ -17,6 +17,7 @@ use scan_model::{Fault, NoMemory, Parts, Rows, Stuck};
 use std::alloc::Global;
 
 /// Adds both faults of a site at a place and the next, if its net has a mark.
+#[inline(always)]
 fn push_site(
     suspects: &mut Rows<Suspect>,
     marked: bool,
