@@ -77,6 +77,11 @@ impl Inbox {
         ensures { self.new ≡ drop count self.old }
     {
         self.sought = 0;
-        self.bytes.drain(..count);
+        // Mostly one request stands there alone, and a long body isn't moved before it goes.
+        if count == self.bytes.len() {
+            self.bytes.clear();
+        } else {
+            self.bytes.drain(..count);
+        }
     }
 }
