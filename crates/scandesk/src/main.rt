@@ -16,8 +16,9 @@ use std::process::ExitCode;
 use std::rt::Env;
 use std::{env, io};
 
-// The bytes of a block that is given back before anything else is taken: just below the most by which the C library is led.
-const KEPT: usize = 33_000_000;
+// The bytes of a block that is given back before anything else is taken. A design of some 20,000 nets has no longer list; at the
+// limits the lists of suspects have, and their memory isn't kept while the report is written.
+const KEPT: usize = 16_000_000;
 
 // Leads the C library to keep what is freed, in one heap that grows in one step, so that fewer pages are asked for while the
 // program runs. It keeps blocks of up to the size of the largest that was given back; the second block makes the room.
