@@ -1,5 +1,8 @@
 //! The rows of a block under a change: those that the change gave to nets, else the fault-free ones.
-ghost use Rattle.std.specs.Prelude.{◌≡◌, ◌<◌, length};
+ghost use Rattle.std.specs.Prelude.{◌≡◌, ℕ, ◌<◌, ◌==◌, true, length};
+ghost use Rattle.std.specs.Int.{bit_at};
+ghost use Rattle.scan_model.specs.Values.{is_one};
+ghost use Rattle.lane_rows.specs.Planes.{held};
 ghost use Rattle.packed_sim.specs.Rows.{rows_at, slots_of, row_now, AreFound};
 
 use crate::overlay::OWN;
@@ -45,6 +48,23 @@ impl<'a> ChangedRows<'a> {
         let lists = &self.lists[..];
         let list = lists[(place / OWN) as usize];
         list[(place % OWN) as usize]
+    }
+
+    /// The first 64 lanes in which a net is 1.
+    pub(crate) fn first_word(&self, net: u32) -> u64
+        requires { net < length self.now.good }
+        ensures { (i : ℕ) → i < 64 → (bit_at result i == 1) ≡ is_one (held (row_now self.now.own self.now.good net) i) }
+    {
+        self.now(net).ones().word(0)
+    }
+
+    /// Whether a row is that of a net, whose first word is at hand. Where the row is another, the word mostly tells, and the rest
+    /// of the net's row isn't read.
+    pub(crate) fn has_row(&self, net: u32, word: u64, row: Packed) -> bool
+        requires { net < length self.now.good }
+        ensures { result ≡ true → (j : ℕ) → j < 512 → held row j ≡ held (row_now self.now.own self.now.good net) j }
+    {
+        row.ones().word(0) == word && row.is_same(self.now(net))
     }
 }
 

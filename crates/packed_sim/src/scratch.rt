@@ -1,5 +1,5 @@
 //! The room in which a change spreads, each gate evaluated once at most.
-ghost use Rattle.std.specs.Prelude.{◌≡◌, ℕ, ◌+◌, ◌<◌, ◌≤◌, ◌^◌, [], Some, true, false, length, All, IfOk, IsTrue, slice_set, slice_index, slice_index_or, ◌==◌, ◌||◌, Bool, count_by};
+ghost use Rattle.std.specs.Prelude.{◌≡◌, ℕ, List, ◌+◌, ◌<◌, ◌≤◌, ◌^◌, [], Some, true, false, length, All, IfOk, IsTrue, slice_set, slice_index, slice_index_or, ◌==◌, ◌||◌, Bool, count_by};
 ghost use Rattle.std.specs.List.{list_any};
 ghost use Rattle.scan_model.specs.declared.values.Tri.{Tri};
 ghost use Rattle.scan_model.specs.declared.values.Tri.TheVariants.{Unknown};
@@ -7,7 +7,7 @@ ghost use Rattle.scan_model.specs.Netlist.{is_gate};
 ghost use Rattle.scan_model.specs.NetValue.{Forced, net_node, values_of, nothing_forced};
 ghost use Rattle.lane_rows.specs.Planes.{held};
 ghost use Rattle.place_sets.specs.Places.{has_place, room};
-ghost use Rattle.lane_rows.specs.Wiring.{AreKept, IsWired, Covers};
+ghost use Rattle.lane_rows.specs.Wiring.{sinks_of, AreKept, IsWired, Covers};
 ghost use Rattle.packed_sim.specs.Rows.{IsClean, row_now};
 ghost use Rattle.packed_sim.specs.Propagation.{lane_now, FitsScratch, IsClosed, IsFree, IsWithin, IsOpen, IsSettled, IsSet, IsTurn, HasMoved};
 
@@ -38,6 +38,18 @@ fn wake(waiting: &mut PlaceSet, places: &[u32])
 }
 
 impl Scratch {
+    /// Gives a net a row, and lets the gates at some places wait, which are those that read it.
+    fn put(&mut self, net: u32, row: Packed, readers: &[u32])
+        requires net { net < length self.old.overlay }
+        requires places { All (λ k. k < room self.old.waiting) readers.now }
+        requires moved { net < room self.old.moved }
+        ensures { (sinks : List (List ℕ)) → readers.now ≡ sinks_of sinks net → IsSet sinks net row self.old self.new }
+    {
+        self.overlay.write(net, row);
+        self.moved.insert(net as usize);
+        wake(&mut self.waiting, readers);
+    }
+
     /// Gives a net a row, and lets what reads the net wait.
     pub fn set(&mut self, wiring: &Wiring, net: u32, row: Packed)
         requires net { net < length self.old.overlay }
@@ -46,9 +58,7 @@ impl Scratch {
         requires moved { net < room self.old.moved }
         ensures { IsSet wiring.now.sinks net row self.old self.new }
     {
-        self.overlay.write(net, row);
-        self.moved.insert(net as usize);
-        wake(&mut self.waiting, wiring.sinks.group(net));
+        self.put(net, row, wiring.sinks.group(net));
     }
 
     /// Takes the gate at a place out and evaluates it. Where its row is another than before, what reads it waits.
@@ -70,12 +80,14 @@ impl Scratch {
         self.waiting.remove(place);
         let gate = wiring.gates[place].net;
         let changed = self.overlay.over(good);
+        // What is asked for here comes while the gate is evaluated.
+        let word = changed.first_word(gate);
+        let readers = wiring.sinks.group(gate);
         let row = wiring.gate_row(&changed, circuit, place);
-        let before = changed.now(gate);
         steps.tick();
-        let same = row.is_same(before);
+        let same = changed.has_row(gate, word, row);
         if !same {
-            self.set(wiring, gate, row);
+            self.put(gate, row, readers);
         }
     }
 

@@ -1,10 +1,7 @@
 use Rattle.packed_sim.proofs.scratch.Scratch.set.Goals as goal
 
+pub put-requires-clause-places : goal.put-requires-clause-places
+put-requires-clause-places c = rw c.group.ensures c.requires.places
+
 pub returns : goal.returns
-returns c = record {
-  overlay = c.write.ensures;
-  waiting = λ k. rw c.group.ensures at (c.wake.ensures.places k);
-  moved = c.insert.ensures.places;
-  moved_room = c.insert.ensures.room;
-  room = c.wake.ensures.room;
-}
+returns c = c.put.ensures c.args.wiring.now.sinks c.group.ensures
