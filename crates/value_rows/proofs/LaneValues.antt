@@ -1,10 +1,10 @@
 -- Two values in one lane, by the bits that stand for them.
-use Rattle.std.proofs.Common.{◌≡◌, Bool, true, false, cond, ◌&&◌, ◌||◌, refl, sym, ap, ◌∙◌}
+use Rattle.std.proofs.Common.{◌≡◌, Bool, true, false, not, cond, ◌&&◌, ◌||◌, refl, sym, ap, ◌∙◌}
 use Rattle.scan_model.specs.declared.values.Tri.{Tri}
 use Rattle.scan_model.specs.declared.values.Tri.TheVariants.{Zero, One, Unknown}
-use Rattle.scan_model.specs.Values.{is_zero, is_one, are_opposite, tri_and, tri_or, tri_xor}
+use Rattle.scan_model.specs.Values.{is_zero, is_one, is_unknown, are_opposite, tri_and, tri_or, tri_xor}
 use Rattle.bit_rows.specs.Lanes.{differ}
-use Rattle.value_rows.specs.Planes.{value_of_bits}
+use Rattle.value_rows.specs.Planes.{value_known, value_of_bits}
 
 same_bits : (u : Tri) → (differ (is_one u) (is_one u) || differ (is_zero u) (is_zero u)) ≡ false
 same_bits Zero = refl
@@ -110,3 +110,31 @@ equal_bits One Unknown = refl
 equal_bits Unknown Zero = refl
 equal_bits Unknown One = refl
 equal_bits Unknown Unknown = refl
+
+-- ---- which lanes are known
+pub known_bits : (u : Tri) → (is_one u || is_zero u) ≡ not (is_unknown u)
+known_bits Zero = refl
+known_bits One = refl
+known_bits Unknown = refl
+
+pub of_known_bits : (k o : Bool) → value_of_bits (k && o) (k && not o) ≡ value_known k o
+of_known_bits true true = refl
+of_known_bits true false = refl
+of_known_bits false o = refl
+
+pub of_known_apart : (k o : Bool) → ((k && o) && (k && not o)) ≡ false
+of_known_apart true true = refl
+of_known_apart true false = refl
+of_known_apart false o = refl
+
+-- the XOR with one value more is known where both are, and then 1 where one of them is
+pub xor_known : (k o : Bool) (v : Tri) → value_known (k && not (is_unknown v)) (differ o (is_one v)) ≡ tri_xor (value_known k o) v
+xor_known true true Zero = refl
+xor_known true true One = refl
+xor_known true true Unknown = refl
+xor_known true false Zero = refl
+xor_known true false One = refl
+xor_known true false Unknown = refl
+xor_known false o Zero = refl
+xor_known false o One = refl
+xor_known false o Unknown = refl

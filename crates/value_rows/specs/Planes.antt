@@ -21,6 +21,12 @@ value_of_bits true zero = One
 value_of_bits false true = Zero
 value_of_bits false false = Unknown
 
+-- the value of a lane that is known or not, and 1 or 0 where it is
+abbrev pub value_known : Bool → Bool → Tri
+value_known true true = One
+value_known true false = Zero
+value_known false one = Unknown
+
 -- the value of lane j
 abbrev pub held : Planes → ℕ → Tri
 held p j = value_of_bits (lane p.ones j) (lane p.zeros j)

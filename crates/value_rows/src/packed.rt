@@ -1,9 +1,9 @@
 //! A three-valued row: 0, 1 or X in each of 512 lanes.
-ghost use Rattle.std.specs.Prelude.{◌≡◌, ℕ, ◌<◌, ◌&&◌, true, false, if◌then◌else◌};
-ghost use Rattle.scan_model.specs.Values.{is_zero, is_one, are_opposite};
+ghost use Rattle.std.specs.Prelude.{◌≡◌, ℕ, ◌<◌, ◌&&◌, true, false, not, if◌then◌else◌};
+ghost use Rattle.scan_model.specs.Values.{is_zero, is_one, is_unknown, are_opposite};
 ghost use Rattle.scan_model.specs.Values as values;
 ghost use Rattle.bit_rows.specs.Lanes.{lane};
-ghost use Rattle.value_rows.specs.Planes.{held, value_of_bits};
+ghost use Rattle.value_rows.specs.Planes.{held, value_known, value_of_bits};
 
 use bit_rows::Row;
 use scan_model::Tri;
@@ -35,6 +35,16 @@ impl Packed {
         ensures { (j : ℕ) → j < 512 → held result j ≡ value_of_bits (lane ones j) (lane zeros j) }
     {
         Packed { ones, zeros }
+    }
+
+    /// The values that are known in some lanes: 1 in those of `ones`, 0 in the others. All other lanes are X.
+    pub fn of_known(known: Row, ones: Row) -> Packed
+        ensures { (j : ℕ) → j < 512 → held result j ≡ value_known (lane known j) (lane ones j) }
+    {
+        Packed {
+            ones: known.and(ones),
+            zeros: known.and(ones.not()),
+        }
     }
 
     /// One value in all lanes.
@@ -69,6 +79,13 @@ impl Packed {
         ensures { (j : ℕ) → j < 512 → lane result j ≡ is_zero (held self j) }
     {
         self.zeros
+    }
+
+    /// The lanes that are 0 or 1, and not X.
+    pub fn known(self) -> Row
+        ensures { (j : ℕ) → j < 512 → lane result j ≡ not (is_unknown (held self j)) }
+    {
+        self.ones().or(self.zeros())
     }
 
     /// The value of one lane.
