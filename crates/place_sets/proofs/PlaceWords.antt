@@ -94,6 +94,42 @@ module _ (words : List ℕ) (word : ℕ) where
     λ j le lt. has_at j (j - word * 64) (omega (arith, some.1)) (omega arith) ∙ some.3 (j - word * 64) (omega arith) (omega arith),
   )
 
+-- ---- one word of two sets
+
+both_bits : (a b : ℕ) → a < 2 → b < 2 → eqb (min a b) 1 ≡ (eqb a 1 && eqb b 1)
+both_bits zero zero a_lt b_lt = refl
+both_bits zero (suc zero) a_lt b_lt = refl
+both_bits (suc zero) zero a_lt b_lt = refl
+both_bits (suc zero) (suc zero) a_lt b_lt = refl
+both_bits (suc (suc a)) b a_lt b_lt = absurd (omega arith)
+both_bits zero (suc (suc b)) a_lt b_lt = absurd (omega arith)
+both_bits (suc zero) (suc (suc b)) a_lt b_lt = absurd (omega arith)
+
+bit_of_both : (a b k : ℕ) → bit_is_set (bit_and a b) k ≡ (bit_is_set a k && bit_is_set b k)
+bit_of_both a b k = ap (λ (n : ℕ). eqb n 1) (bit_at_and a b k) ∙ both_bits (bit_at a k) (bit_at b k) (bit_at-lt a k) (bit_at-lt b k)
+
+module _ (words others : List ℕ) where
+  abbrev pub in_both : ℕ → Bool
+  in_both k = has_place words k && has_place others k
+
+  abbrev pub both_word : ℕ → ℕ
+  both_word word = bit_and (get_or words word 0) (get_or others word 0)
+
+  both_at : (word i k : ℕ) → k < 64 → i ≡ word * 64 + k → in_both i ≡ bit_is_set (both_word word) k
+  both_at word i k lt is = ap (λ (b : Bool). b && has_place others i) (has_at words word i k lt is) ∙ ap (λ (b : Bool). bit_is_set (get_or words word 0) k && b) (has_at others word i k lt is)
+      ∙ sym (bit_of_both (get_or words word 0) (get_or others word 0) k)
+
+  pub none_of_both : (word low : ℕ) → IsNextWithin (bit_is_set (both_word word)) low 64 None → IsNextWithin in_both (word * 64 + low) (word * 64 + 64) None
+  none_of_both word low none k le lt = both_at word k (k - word * 64) (omega arith) (omega arith) ∙ none (k - word * 64) (omega arith) (omega arith)
+
+  pub one_of_both : (word low bit : ℕ) → IsNextWithin (bit_is_set (both_word word)) low 64 (Some bit) → IsNextWithin in_both (word * 64 + low) (word * 64 + 64) (Some (word * 64 + bit))
+  one_of_both word low bit some = (
+    omega (arith, some.0),
+    omega (arith, some.1),
+    both_at word (word * 64 + bit) bit some.1 refl ∙ some.2,
+    λ j le lt. both_at word j (j - word * 64) (omega (arith, some.1)) (omega arith) ∙ some.3 (j - word * 64) (omega arith) (omega arith),
+  )
+
 -- ---- a place put in, a place taken out
 
 module _ (words : List ℕ) (place : ℕ) (inside : place / 64 < length words) where
@@ -193,6 +229,35 @@ module _ (words filled : List ℕ) (is : IsFilled words filled) where
           | inr within ↦ first.3 j (omega (arith, within)) lt
         ],
       )
+
+  -- ---- the places of two sets, from the next filled word of the first to the next
+  pub none_up_to : (others : List ℕ) (from past word : ℕ) → ((k : ℕ) → from ≤ k → k < 64 * past → in_both words others k ≡ false)
+      → ((j : ℕ) → past ≤ j → j < word → has_place filled j ≡ false) → (k : ℕ) → from ≤ k → k < 64 * word → in_both words others k ≡ false
+  none_up_to others from past word before gap k le lt = elim (cases_lt k (64 * past)) [
+    | inl early ↦ before k le early
+    | inr late ↦ ap (λ (b : Bool). b && has_place others k) (no_place_of_zero words k (empty (k / 64) (gap (k / 64) (omega (arith, late)) (omega (arith, lt)))))
+  ]
+
+  pub none_in_word : (others : List ℕ) (from past word : ℕ) → ((k : ℕ) → from ≤ k → k < 64 * past → in_both words others k ≡ false) → IsNextFrom (has_place filled) past (Some word)
+      → IsNextWithin (in_both words others) (word * 64 + 0) (word * 64 + 64) None → (k : ℕ) → from ≤ k → k < 64 * (word + 1) → in_both words others k ≡ false
+  none_in_word others from past word before next none k le lt = elim (cases_lt k (64 * word)) [
+    | inl early ↦ none_up_to others from past word before next.2 k le early
+    | inr late ↦ none k (omega (arith, late)) (omega (arith, lt))
+  ]
+
+  pub one_in_word : (others : List ℕ) (from past word place : ℕ) → from ≤ 64 * past → ((k : ℕ) → from ≤ k → k < 64 * past → in_both words others k ≡ false) → IsNextFrom (has_place filled) past (Some word)
+      → IsNextWithin (in_both words others) (word * 64 + 0) (word * 64 + 64) (Some place) → IsNextFrom (in_both words others) from (Some place)
+  one_in_word others from past word place from_le before next one = (
+    omega (arith, from_le, next.0, one.0),
+    one.2,
+    λ j le lt. elim (cases_lt j (64 * word)) [
+      | inl early ↦ none_up_to others from past word before next.2 j le early
+      | inr late ↦ one.3 j (omega (arith, late)) lt
+    ],
+  )
+
+  pub none_of_filled : (others : List ℕ) (from past : ℕ) → ((k : ℕ) → from ≤ k → k < 64 * past → in_both words others k ≡ false) → IsNextFrom (has_place filled) past None → IsNextFrom (in_both words others) from None
+  none_of_filled others from past before none k le = none_up_to others from past (k / 64 + 1) before (λ j past_le lt. none j past_le) k le (omega arith)
 
   -- ---- the words emptied one by one, from the next filled one to the next
   pub emptied_more : (now : List ℕ) (from word : ℕ) → length now ≡ length words → ((k : ℕ) → k < from → get_or now k 0 ≡ 0) → ((k : ℕ) → from ≤ k → get_or now k 0 ≡ get_or words k 0)

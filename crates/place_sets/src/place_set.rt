@@ -52,6 +52,41 @@ fn least_place(words: &[u64], word: usize, low: usize) -> Option<usize>
     }
 }
 
+/// A word, which is empty past the last.
+fn word_or_empty(words: &[u64], word: usize) -> u64
+    ensures { result ≡ slice_index_or words.now word 0 }
+{
+    if word < words.len() { words[word] } else { 0 }
+}
+
+/// The least place of a word, from bit `low` on, that is a place of others too.
+fn least_in_both(words: &[u64], others: &[u64], word: usize, low: usize) -> Option<usize>
+    requires words { length words.now ≤ 2 ^ 26 }
+    requires word { word < length words.now }
+    requires low { low < 64 }
+    ensures { IsNextWithin (λ k. has_place words.now k && has_place others.now k) (word * 64 + low) (word * 64 + 64) result }
+{
+    match least_bit(words[word] & word_or_empty(others, word), low) {
+        Some(bit) => Some(word * 64 + bit),
+        None => None,
+    }
+}
+
+/// The least place in the words from one on that is a place of others too. No empty word is looked at.
+fn next_both(words: &[u64], filled: &[u64], others: &[u64], from: usize) -> Option<usize>
+    requires { IsFilled words.now filled.now }
+    ensures { IsNextFrom (λ k. has_place words.now k && has_place others.now k) (64 * from) result }
+{
+    let mut past = from;
+    while let Some(word) = next_in(filled, past) {
+        if let Some(place) = least_in_both(words, others, word, 0) {
+            return Some(place);
+        }
+        past = word + 1;
+    }
+    None
+}
+
 /// The least place of some words that is `from` or more, found word by word.
 #[tactic(auto, using(crate::proofs::PlaceWords::no_place_past))]
 fn next_in(words: &[u64], from: usize) -> Option<usize>
@@ -144,6 +179,20 @@ impl PlaceSet {
             return Some(place);
         }
         self.next_word(first + 1)
+    }
+
+    /// The least place that is `from` or more and in both sets, if any. The sets may have room for different places.
+    pub fn next_in_both(&self, other: &PlaceSet, from: usize) -> Option<usize>
+        ensures { IsNextFrom (λ k. has_place self.now k && has_place other.now k) from result }
+    {
+        let first = from / 64;
+        if first >= self.words.len() {
+            return None;
+        }
+        if let Some(place) = least_in_both(&self.words, &other.words, first, from % 64) {
+            return Some(place);
+        }
+        next_both(&self.words, &self.filled, &other.words, first + 1)
     }
 
     /// The least member in the words from one on. No empty word is looked at.
