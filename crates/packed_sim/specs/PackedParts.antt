@@ -1,5 +1,5 @@
 -- What is made for the parts of a test, and what a scratch holds beside it.
-use Rattle.std.specs.Prelude.{◌≡◌, ℕ, ◌+◌, ◌*◌, ◌<◌, ◌≤◌, ◌^◌, All, List, [], length, map, filter, Bool, false, ◌&&◌, ◌==◌, nat_lt, is_some, None, slice_index_or}
+use Rattle.std.specs.Prelude.{◌≡◌, ◌↔◌, ℕ, ◌+◌, ◌*◌, ◌<◌, ◌≤◌, ◌^◌, All, Contains, IsTrue, List, [], length, map, filter, Bool, false, ◌&&◌, ◌==◌, nat_lt, is_some, None, slice_index_or}
 use Rattle.std.specs.List.{list_any, range_with_len}
 use Rattle.std.specs.Int.{bit_at}
 use Rattle.scan_model.specs.declared.values.Tri.{Tri}
@@ -38,13 +38,18 @@ pub record AreObserved (t : ScanTest) (nets : List ℕ) : Type 0 where
   pub in_range : All (λ n. n < length t.netlist.nets) nets
   pub few : length nets < 2 ^ 32
 
--- What was read off the circuit of a test: the nets that its points observe, the wiring for these, and the points of each net.
+-- the places of a set are the nets that points observe
+abbrev pub AreObserving : ScanTest → List ℕ → Type 0
+AreObserving t set = (n : ℕ) → Contains (map (observed_net t) (points_of t)) n ↔ IsTrue (has_place set n)
+
+-- What was read off the circuit of a test: the nets that its points observe, as a list and as a set, the wiring for these, and the points of each net.
 pub record AreLinksOf (t : ScanTest) (links : CircuitLinks) : Type 0 where
   pub observed : links.observed.items ≡ map (observed_net t) (points_of t)
   pub wired : IsWiredFor t.netlist links.observed.items links.wiring.order.items links.wiring.sinks
   pub kept : AreKept t.netlist links.wiring.order.items links.wiring.gates.items links.wiring.operands.items
   pub net_count : length links.points ≡ length t.netlist.nets
   pub points : (n : ℕ) → n < length t.netlist.nets → slice_index_or links.points n [] ≡ points_of_net t n
+  pub observing : AreObserving t links.observing
 
 -- The wiring and the points are those of a test, and each block has a row for each net, of whatever values.
 pub record IsBuiltFor (t : ScanTest) (g : PackedGood) : Type 0 where
@@ -54,6 +59,7 @@ pub record IsBuiltFor (t : ScanTest) (g : PackedGood) : Type 0 where
   pub kept : AreKept t.netlist g.wiring.order.items g.wiring.gates.items g.wiring.operands.items
   pub net_count : length g.points ≡ length t.netlist.nets
   pub points : (n : ℕ) → n < length t.netlist.nets → slice_index_or g.points n [] ≡ points_of_net t n
+  pub observing : AreObserving t g.observing
 
 -- Wiring, points and rows are those of a test, and the rows are the fault-free ones of its patterns.
 pub record BelongsTo (t : ScanTest) (g : PackedGood) : Type 0 where

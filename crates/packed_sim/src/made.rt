@@ -1,10 +1,11 @@
 //! Fault-free rows are made, and the points that observe each net are grouped.
-ghost use Rattle.std.specs.Prelude.{◌≡◌, ◌<◌, length, map, All, IfOk};
+ghost use Rattle.std.specs.Prelude.{◌≡◌, ◌↔◌, ℕ, ◌<◌, ◌^◌, length, map, All, Contains, IsTrue, IfOk};
 ghost use Rattle.scan_model.specs.ScanTest.{ScanTest, IsPoint, points_of, point_at};
 ghost use Rattle.scan_model.specs.declared.parts.Point.TheVariants as point;
 ghost use Rattle.scan_model.specs.Suspect as suspect;
 ghost use Rattle.lane_rows.specs.Stimuli.{HaveRows};
-ghost use Rattle.packed_sim.specs.PackedParts.{IsBuiltFor, BelongsTo, AreLinksOf, IsScratchOf, AreObserved, points_of_net};
+ghost use Rattle.place_sets.specs.Places.{has_place};
+ghost use Rattle.packed_sim.specs.PackedParts.{IsBuiltFor, BelongsTo, AreLinksOf, IsScratchOf, AreObserved, AreObserving, points_of_net};
 
 use crate::good::{CircuitLinks, PackedGood};
 use crate::overlay::Overlay;
@@ -42,6 +43,19 @@ fn observed_nets(alloc: Global, parts: &Parts) -> Result<Vec<u32>, NoMemory>
     Ok(nets)
 }
 
+/// The set of some nets. The only error is want of memory.
+fn set_of(alloc: Global, listed: &[u32], nets: usize) -> Result<PlaceSet, NoMemory>
+    requires nets { nets < 2 ^ 32 }
+    requires listed { All (λ n. n < nets) listed.now }
+    ensures { IfOk result (λ set. (n : ℕ) → Contains listed.now n ↔ IsTrue (has_place set n)) }
+{
+    let mut set = PlaceSet::make(alloc, nets)?;
+    for net in listed {
+        set.insert(*net as usize);
+    }
+    Ok(set)
+}
+
 /// What is read off the circuit of a test. The only error is want of memory.
 pub(crate) fn circuit_links(alloc: Global, parts: &Parts) -> Result<CircuitLinks, NoMemory>
     ensures { IfOk result (AreLinksOf parts.now) }
@@ -51,10 +65,12 @@ pub(crate) fn circuit_links(alloc: Global, parts: &Parts) -> Result<CircuitLinks
     let nets = circuit.nets().len();
     let wiring = Wiring::make(alloc, circuit, &observed)?;
     let points = Groups::of(alloc, &observed, nets)?;
+    let observing = set_of(alloc, &observed, nets)?;
     Ok(CircuitLinks {
         wiring,
         observed,
         points,
+        observing,
     })
 }
 
@@ -86,12 +102,14 @@ impl PackedGood {
             wiring,
             observed,
             points,
+            observing,
         } = links;
         PackedGood {
             rows,
             wiring,
             observed,
             points,
+            observing,
         }
     }
 
@@ -125,6 +143,15 @@ impl PackedGood {
     {
         let _ = parts;
         &self.observed
+    }
+
+    /// The nets that points observe.
+    pub fn observing(&self, parts: &Parts) -> &PlaceSet
+        requires { IsBuiltFor parts.now self.now }
+        ensures { AreObserving parts.now result.now }
+    {
+        let _ = parts;
+        &self.observing
     }
 }
 
