@@ -1,5 +1,5 @@
 -- The notes of a walk along a chain: for each place, the lanes in which a fault fails there.
-use Rattle.std.specs.Prelude.{◌≡◌, ◌⊎◌, ℕ, ◌+◌, ◌<◌, ◌≤◌, List, length, slice_index, true, Option, Some, None}
+use Rattle.std.specs.Prelude.{◌≡◌, ◌⊎◌, ℕ, ◌+◌, ◌<◌, ◌≤◌, List, Contains, map, length, slice_index, true, Option, Some, None}
 use Rattle.scan_model.specs.declared.fault.CellKind.{CellKind}
 use Rattle.scan_model.specs.declared.fault.Fault.{Fault}
 use Rattle.scan_model.specs.declared.fault.Fault.TheVariants as fault
@@ -32,6 +32,10 @@ AreFreshAt t m b f rows n = (k : ℕ) → k < length (points_of t) → observed_
 pub record IsNetDone (t : ScanTest) (m : FaultModel) (b : ℕ) (f : Fault) (h : ℕ) (rows : List (List ℕ)) (n : ℕ) : Type 0 where
   pub own : AreFreshAt t m b f rows n
   pub below : (k i : ℕ) → k < length (points_of t) → observed_at t k ≡ n → point_at t k ≡ Cell h (i + 1) → AreFreshAt t m b f rows (observed_net t (Cell h i))
+
+-- the net has a mark, and a point observes it
+abbrev pub IsMovedAndObserved : ScanTest → Scratch → ℕ → Type 0
+IsMovedAndObserved t s n = (has_place s.moved n ≡ true) × Contains (map (observed_net t) (points_of t)) n
 
 -- each row now has the lanes in which the fault fails, or is what it was
 abbrev pub IsRenoted : FaultModel → ℕ → Fault → List (List ℕ) → List (List ℕ) → Type 0

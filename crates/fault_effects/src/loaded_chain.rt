@@ -6,11 +6,11 @@ ghost use Rattle.scan_model.specs.ScanTest.{points_of, point_at, chain_at};
 ghost use Rattle.scan_model.specs.Loads.{cell};
 ghost use Rattle.scan_model.specs.Suspect.{observed_net};
 ghost use Rattle.place_sets.specs.Places.{has_place};
-ghost use Rattle.packed_sim.specs.PackedParts.{has_own_row};
+ghost use Rattle.packed_sim.specs.PackedParts.{IsBuiltFor, has_own_row};
 ghost use Rattle.packed_sim.specs.ChainLoads.{IsLoaded};
 ghost use Rattle.fault_effects.specs.Notes.{AreNotes};
 ghost use Rattle.fault_effects.specs.ChainWork.{IsChainWork};
-ghost use Rattle.fault_effects.specs.Walks.{IsFresh, ArePlacesFresh, AreFreshAt, IsNetDone, IsRenoted};
+ghost use Rattle.fault_effects.specs.Walks.{IsFresh, ArePlacesFresh, AreFreshAt, IsMovedAndObserved, IsNetDone, IsRenoted};
 
 use crate::block_work::BlockWork;
 use crate::notes::{Notes, clear_notes, note_row};
@@ -210,13 +210,16 @@ impl<O: ChainObserver> LoadedChain<'_, O> {
         Ok(())
     }
 
-    /// The least net with a mark, from one on.
+    /// The least net from one on that has a mark and that a point observes. Few nets are observed at all.
     fn next_moved(&self, from: u32) -> Option<u32>
-        ensures { MatchOption result ((n : ℕ) → from ≤ n → n < length self.now.work.now.parts.now.netlist.nets → has_place self.now.scratch.now.moved n ≡ false)
-            (λ net. (from ≤ net) × (net < length self.now.work.now.parts.now.netlist.nets) × ((n : ℕ) → from ≤ n → n < net → has_place self.now.scratch.now.moved n ≡ false)) }
+        requires { IsBuiltFor self.now.work.now.parts.now self.now.work.now.good.now }
+        ensures { MatchOption result ((n : ℕ) → from ≤ n → n < length self.now.work.now.parts.now.netlist.nets → IsMovedAndObserved self.now.work.now.parts.now self.now.scratch.now n → ⊥)
+            (λ net. (from ≤ net) × (net < length self.now.work.now.parts.now.netlist.nets) × IsMovedAndObserved self.now.work.now.parts.now self.now.scratch.now net
+            × ((n : ℕ) → from ≤ n → n < net → IsMovedAndObserved self.now.work.now.parts.now self.now.scratch.now n → ⊥)) }
     {
         let nets = self.work.parts.circuit().nets().len();
-        match self.scratch.moved.next_from(from as usize) {
+        let observing = self.work.good.observing(self.work.parts);
+        match self.scratch.moved.next_in_both(observing, from as usize) {
             Some(net) => if net < nets { Some(net as u32) } else { None },
             None => None,
         }

@@ -1,10 +1,13 @@
 use Rattle.std.proofs.Common.{ℕ, sym, subst, inl, inr, arith}
-use Rattle.std.proofs.lemmas.Bool.{cases_eq, cases_lt, both_ways}
+use Rattle.std.proofs.lemmas.Bool.{cases_eq, cases_lt}
 use Rattle.scan_model.specs.declared.fault.Fault.TheVariants as fault
-use Rattle.place_sets.specs.Places.{has_place}
 use Rattle.fault_effects.specs.Walks.{IsNetDone}
+use Rattle.fault_effects.proofs.NetPoints.{done_unobserved}
 use Rattle.fault_effects.proofs.WalkNotes.{done_kept, renoted_join}
 use Rattle.fault_effects.proofs.loaded_chain.LoadedChain.note_moved.Goals as goal
+
+pub next_moved-requires : goal.next_moved-requires
+next_moved-requires g c = c.requires.work.belongs.built
 
 pub loop-net-preserved : goal.loop-net-preserved
 loop-net-preserved g c =
@@ -25,14 +28,17 @@ loop-net-preserved g c =
         | inl same ↦ subst Done (sym same) c.note_changed.ensures.done
         | inr other ↦ elim (cases_lt n c.loop-net.from) [
           | inl below ↦ done_kept m b f t h old new c.note_changed.ensures.renoted n (c.loop-net.invariant.done n below is)
-          | inr above ↦ absurd (both_ways (has_place self.scratch.now.moved n) (c.in-Some.ensures.2 n (omega arith) (omega arith)) is)
+          | inr above ↦ done_unobserved t m b f h new n (λ observed. c.in-Some.ensures.3 n (omega arith) (omega arith) (is, observed))
         ]
       ];
       from_le = omega (arith, c.in-Some.ensures.1);
     }
 
 pub returns-clause-done : goal.returns-clause-done
-returns-clause-done g c = λ n n_lt is. elim (cases_lt n c.loop-net.from) [
-  | inl below ↦ c.loop-net.invariant.done n below is
-  | inr above ↦ absurd (both_ways (has_place c.args.self.now.scratch.now.moved n) (c.in_default.ensures n (omega arith) n_lt) is)
-]
+returns-clause-done g c = λ n n_lt is.
+    let self = c.args.self.now in
+    elim (cases_lt n c.loop-net.from) [
+      | inl below ↦ c.loop-net.invariant.done n below is
+      | inr above ↦ done_unobserved self.work.now.parts.now (g.O.Observer.model self.work.now.observer.now) self.work.now.block (fault.Cell self.chain self.pos self.kind) self.chain c.loop-net.notes.rows.items n
+          (λ observed. c.in_default.ensures n (omega arith) n_lt (is, observed))
+    ]
