@@ -39,6 +39,7 @@ fn wake(waiting: &mut PlaceSet, places: &[u32])
 
 impl Scratch {
     /// Gives a net a row, and lets the gates at some places wait, which are those that read it.
+    #[inline(always)]
     fn put(&mut self, net: u32, row: Packed, readers: &[u32])
         requires net { net < length self.old.overlay }
         requires places { All (λ k. k < room self.old.waiting) readers.now }
