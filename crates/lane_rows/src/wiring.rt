@@ -23,7 +23,7 @@ pub struct Wiring {
     /// What is kept of each gate of the order, at its place.
     pub gates: Vec<KeptGate>,
     /// The nets that the gates read.
-    pub operands: Vec<u32>,
+    pub operands: Vec<u16>,
 }
 
 /// The place in an order of each gate with a mark, by its net; the end of the order for other nets.

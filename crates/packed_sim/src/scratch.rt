@@ -79,7 +79,7 @@ impl Scratch {
         ensures steps { steps.new ≡ steps.old + 1 }
     {
         self.waiting.remove(place);
-        let gate = wiring.gates[place].net;
+        let gate = wiring.gates[place].net as u32;
         let changed = self.overlay.over(good);
         // What is asked for here comes while the gate is evaluated.
         let word = changed.first_word(gate);
