@@ -1,15 +1,18 @@
 #!/usr/bin/env python3
 """Diagnoses a die of a design at the limits: 65,536 nets, 262,144 pins, 4,096 patterns, 65,536 pairs.
 
-    python3 bench/limits.py [OTHER]           (from the top; ./scandesk must have been built)
+    python3 bench/limits.py [OTHER [ROUNDS]]           (from the top; ./scandesk must have been built)
 
 Tells the seconds of a processor and the greatest memory of `check` and `diagnose`; where OTHER is the path of another program with the
-same words and output, the two are told side by side and their bytes are compared. The desk has the setting of the C library's heap that
-./scandesk gives it, or the caller's own GLIBC_TUNABLES (none where that is empty).
+same words and output, the two are told side by side and their bytes are compared. They take turns ROUNDS times (one, if none is said):
+the least and the median of each are told, and the median of the ratios of a round, which wanders less than the seconds where
+other machines of the host take processor time away. The desk has the setting of the C library's heap that ./scandesk gives it, or the
+caller's own GLIBC_TUNABLES (none where that is empty). On one processor: `taskset -c 0 python3 ..`.
 """
 import os
 import pathlib
 import random
+import statistics
 import subprocess
 import sys
 import tempfile
@@ -81,24 +84,43 @@ def write(folder):
 
 
 def run(words, folder):
+    """One run: its bytes, its seconds of a processor and its greatest memory in MiB."""
     own = {"GLIBC_TUNABLES": HEAP} if words[0] == PROGRAM else {}
     child = subprocess.Popen(words, cwd=folder, stdout=subprocess.PIPE, env=dict(os.environ, **own))
     printed = child.stdout.read()
     _, status, usage = os.wait4(child.pid, 0)
-    print(f"  {words[0]}: status {status >> 8}, {usage.ru_utime + usage.ru_stime:.2f} s, {usage.ru_maxrss // 1024} MiB, {len(printed)} bytes")
-    return printed
+    if status:
+        sys.exit(f"{words[0]} ended with status {status >> 8}")
+    return printed, usage.ru_utime + usage.ru_stime, usage.ru_maxrss // 1024
+
+
+def beside(programs, words, folder, rounds):
+    """The programs in turns, with the same bytes each time."""
+    seconds = [[] for _ in programs]
+    memory = [0 for _ in programs]
+    for _ in range(rounds):
+        runs = [run([program, *words], folder) for program in programs]
+        if len({printed for printed, _, _ in runs}) > 1:
+            sys.exit("the bytes differ")
+        for k, (_, took, most) in enumerate(runs):
+            seconds[k].append(took)
+            memory[k] = max(memory[k], most)
+    for program, took, most in zip(programs, seconds, memory):
+        print(f"  {program}: least {min(took):.2f} s, median {statistics.median(took):.2f} s, {most} MiB")
+    if len(programs) == 2:
+        ratios = [desk / other for desk, other in zip(*seconds)]
+        print(f"  ratio: of the least {min(seconds[0]) / min(seconds[1]):.2f}, median of a round {statistics.median(ratios):.2f}")
 
 
 def main():
     texts = ["limits.bench", "limits.scan", "limits.pat", "limits.csv"]
     programs = [PROGRAM, *map(os.path.abspath, sys.argv[1:2])]
+    rounds = int(sys.argv[2]) if len(sys.argv) > 2 else 1
     with tempfile.TemporaryDirectory() as folder:
         write(folder)
         for words in [["check", *texts], ["diagnose", "demo", "demo", *texts, "limits.log"]]:
             print(words[0])
-            printed = [run([program, *words], folder) for program in programs]
-            if len(set(printed)) > 1:
-                sys.exit("the bytes differ")
+            beside(programs, words, folder, rounds)
 
 
 if __name__ == "__main__":
