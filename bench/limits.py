@@ -9,6 +9,7 @@ the least and the median of each are told, and the median of the ratios of a rou
 other machines of the host take processor time away. The desk has the setting of the C library's heap that ./scandesk gives it, or the
 caller's own GLIBC_TUNABLES (none where that is empty). On one processor: `taskset -c 0 python3 ..`.
 """
+import multiprocessing
 import os
 import pathlib
 import random
@@ -117,7 +118,10 @@ def main():
     programs = [PROGRAM, *map(os.path.abspath, sys.argv[1:2])]
     rounds = int(sys.argv[2]) if len(sys.argv) > 2 else 1
     with tempfile.TemporaryDirectory() as folder:
-        write(folder)
+        # By another process: the memory of this one counts as that of the programs that it starts.
+        writer = multiprocessing.Process(target=write, args=(folder,))
+        writer.start()
+        writer.join()
         for words in [["check", *texts], ["diagnose", "demo", "demo", *texts, "limits.log"]]:
             print(words[0])
             beside(programs, words, folder, rounds)
