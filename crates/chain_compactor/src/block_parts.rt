@@ -30,11 +30,11 @@ pub fn block_parts<O: ChainObserver>(
     requires chains { IsChainWork O.test O.good O.block O.model O.ready work.now }
     requires nets { All (λ n. n < length work.now.parts.now.netlist.nets) nets.now }
     requires all { (i : ℕ) → i < length work.now.suspects.now → owner work.now.parts.now (suspect_at work.now.suspects.now i).fault < length work.now.parts.now.netlist.nets → Contains nets.now (owner work.now.parts.now (suspect_at work.now.suspects.now i).fault) }
-    ensures { IfOk result (Shares (O.means work.now.observer.now) (O.model work.now.observer.now) (O.block work.now.observer.now) work.now.suspects.now (λ i. owner work.now.parts.now (suspect_at work.now.suspects.now i).fault < length work.now.parts.now.netlist.nets + 3) []) }
+    ensures { IfOk result (Shares (O.means work.now.observer.now) (O.model work.now.observer.now) (O.block work.now.observer.now) work.now.suspects.now (λ i. owner work.now.parts.now (suspect_at work.now.suspects.now i).fault < length work.now.parts.now.netlist.nets + 2) []) }
 {
     let count = work.parts.circuit().nets().len() as u32;
     let mut shares = logic_parts(alloc, work, nets)?;
-    let cells = cell_piece(alloc, work, work.owners.group(count + 2))?;
+    let cells = cell_piece(alloc, work, work.owners.group(count + 1))?;
     append(&mut shares, cells.as_slice())?;
     Ok(shares)
 }

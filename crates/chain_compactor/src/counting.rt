@@ -67,7 +67,7 @@ fn count_blocks<'a>(
     requires expected { expected.now ≡ compact_rows parts.now compact.now }
     requires joined { IsJoinedOf (length parts.now.patterns) (length compact.now.points) joined.now }
     requires suspects { All (IsSuspectOf parts.now) suspects.now }
-    requires count { length owners.now ≡ length parts.now.netlist.nets + 3 }
+    requires count { length owners.now ≡ length parts.now.netlist.nets + 2 }
     requires owners { AreOwners parts.now suspects.now owners.now }
     ensures len { IfOk result (λ totals. length totals.totals ≡ length suspects.now) }
     ensures whole { (logs : List LogFacts) → StandsFor logs joined.now → IfOk result (AreTotals (compact_bits parts.now compact.now) (compact_class parts.now compact.now logs) (predicts_compact_fail parts.now compact.now) suspects.now) }

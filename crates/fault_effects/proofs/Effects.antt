@@ -14,7 +14,7 @@ use Rattle.lane_rows.specs.GoodRows.{pattern_of}
 use Rattle.fault_effects.specs.declared.readers.SoleReader.{SoleReader}
 use Rattle.fault_effects.specs.FaultModel.{FaultModel, Table, IsFaultModel, fails_in, shown_in, straight_in}
 use Rattle.fault_effects.specs.Readers.{IsSoleReader}
-use Rattle.fault_effects.specs.Regions.{ShowsAs}
+use Rattle.fault_effects.specs.Regions.{ShowsAs, ShowsThrough}
 use Rattle.fault_effects.proofs.Owned.{touches_one}
 
 one_bits : (c s k x : Bool) → (c ≡ true → k ≡ x) → ((c && s) && k) ≡ (c && (((x && s) || false) || false))
@@ -67,17 +67,30 @@ in_all m b n all each q j within lt = with_all (shown_in m b n q j) (lane all j)
     with_all true l is = sym is
     with_all false l is = refl
 
+-- where a net shows where another does, and that one as it does
+pub through_both : (m : FaultModel) (b : ℕ) (root : Table) (n g : ℕ) (lanes above both : List ℕ) → ShowsThrough m b n g lanes → ShowsAs m b root g above
+    → ((j : ℕ) → j < 512 → lane both j ≡ (lane above j && lane lanes j)) → ShowsAs m b root n both
+through_both m b root n g lanes above both through shows of_both q j within lt =
+    through q j within lt
+    ∙ ap (λ (x : Bool). x && lane lanes j) (shows q j within lt)
+    ∙ and_assoc (root q j) (lane above j) (lane lanes j)
+    ∙ ap (λ (x : Bool). root q j && x) (sym (of_both j lt))
+
+-- what shows as another table does in some lanes, in other lanes besides
+pub in_lanes : (m : FaultModel) (b : ℕ) (root : Table) (n : ℕ) (lanes mask both : List ℕ) → ShowsAs m b root n lanes → ((j : ℕ) → j < 512 → lane both j ≡ (lane lanes j && lane mask j))
+    → (q j : ℕ) → q < m.places → j < 512 → (root q j && lane both j) ≡ (shown_in m b n q j && lane mask j)
+in_lanes m b root n lanes mask both shows of_both q j within lt =
+    ap (λ (x : Bool). root q j && x) (of_both j lt)
+    ∙ sym (and_assoc (root q j) (lane lanes j) (lane mask j))
+    ∙ ap (λ (x : Bool). x && lane mask j) (sym (shows q j within lt))
+
 module _ (t : ScanTest) (faults : List Fault) (m : FaultModel) (law : IsFaultModel t faults m) (b : ℕ) where
-  -- upstream of the gate that alone reads a net, in the lanes in which the pin flips the gate
-  pub behind_reader : (root : Table) (n : ℕ) (r : SoleReader) (above lanes both : List ℕ) → IsSoleReader t n r
-      → ((j : ℕ) → j < 512 → m.captures (pattern_of b j) ≡ true → lane lanes j ≡ m.pin_flips (pattern_of b j) r.pin r.gate)
-      → ((j : ℕ) → j < 512 → lane both j ≡ (lane above j && lane lanes j)) → ShowsAs m b root r.gate above → ShowsAs m b root n both
-  behind_reader root n r above lanes both sole are of_both shows q j within lt =
+  -- a net shows where the gate does that alone reads it, in the lanes in which the pin flips the gate
+  pub through_reader : (n : ℕ) (r : SoleReader) (lanes : List ℕ) → IsSoleReader t n r
+      → ((j : ℕ) → j < 512 → m.captures (pattern_of b j) ≡ true → lane lanes j ≡ m.pin_flips (pattern_of b j) r.pin r.gate) → ShowsThrough m b n r.gate lanes
+  through_reader n r lanes sole are q j within lt =
       let w = pattern_of b j in
       behind_bits (m.captures w) (m.shows w n q) (m.shows w r.gate q) (lane lanes j) (m.pin_flips w r.pin r.gate) (law.downstream w n r sole q within) (are j lt)
-      ∙ ap (λ (x : Bool). x && lane lanes j) (shows q j within lt)
-      ∙ and_assoc (root q j) (lane above j) (lane lanes j)
-      ∙ ap (λ (x : Bool). root q j && x) (sym (of_both j lt))
 
   module _ (f : Fault) (there : Contains faults f) (logic : IsLogic f) where
     -- a pattern that isn't there counts no flip

@@ -34,7 +34,7 @@ module _ {P : Type 0} (means : P → Table → Type 0) (m : FaultModel) (b : ℕ
   kinds_of f h c SlowRise is = inl (inr (subst (IsOfKind SlowRise) (sym is) refl))
   kinds_of f h c SlowFall is = inr (subst (IsOfKind SlowFall) (sym is) refl)
 
-  pub four_kinds : (t : ScanTest) (s0 s1 s2 s3 s4 : List (Share P)) → IsScanTest t → All (IsSuspectOf t) suspects → All (IsOwned t suspects (length t.netlist.nets + 2)) group
+  pub four_kinds : (t : ScanTest) (s0 s1 s2 s3 s4 : List (Share P)) → IsScanTest t → All (IsSuspectOf t) suspects → All (IsOwned t suspects (length t.netlist.nets + 1)) group
       → Shares means m b suspects (OfKind Stuck0) s0 s1 → Shares means m b suspects (OfKind Stuck1) s1 s2 → Shares means m b suspects (OfKind SlowRise) s2 s3 → Shares means m b suspects (OfKind SlowFall) s3 s4
       → Shares means m b suspects (IsAmong group (length group)) s0 s4
   four_kinds t s0 s1 s2 s3 s4 sound are owned first second third fourth =
@@ -43,7 +43,7 @@ module _ {P : Type 0} (means : P → Table → Type 0) (m : FaultModel) (b : ℕ
       let two = shares_join means m b suspects (OfKind Stuck0) (OfKind Stuck1) Two s0 s1 s2 first second (λ i lt is. is) in
       let three = shares_join means m b suspects Two (OfKind SlowRise) Three s0 s2 s3 two third (λ i lt is. is) in
       shares_join means m b suspects Three (OfKind SlowFall) (IsAmong group (length group)) s0 s3 s4 three fourth (λ i lt among.
-      let own : IsOwned t suspects (length t.netlist.nets + 2) i = subst (IsOwned t suspects (length t.netlist.nets + 2)) among.2 (owned among.0 0 among.1) in
+      let own : IsOwned t suspects (length t.netlist.nets + 1) i = subst (IsOwned t suspects (length t.netlist.nets + 1)) among.2 (owned among.0 0 among.1) in
       let is = cell_owned t (suspect_at suspects i).fault sound (are i no_suspect lt).site own.owned in
       elim (kinds_of (suspect_at suspects i).fault is.chain is.pos is.kind is.is) [
         | inl early ↦ elim early [

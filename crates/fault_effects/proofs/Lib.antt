@@ -2,6 +2,7 @@ pub mod PinReads
 pub mod SoleReader
 pub mod PointModel
 pub mod Effects
+pub mod LentFlips
 pub mod Owned
 pub mod ShareLists
 pub mod OwnerGroups

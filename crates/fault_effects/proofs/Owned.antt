@@ -7,6 +7,7 @@ use Rattle.scan_model.specs.declared.circuit.PinPlace.TheVariants as place
 use Rattle.scan_model.specs.declared.circuit.Driver.{Driver}
 use Rattle.scan_model.specs.declared.circuit.Driver.TheVariants.{Input, Flop, Gate}
 use Rattle.scan_model.specs.declared.fault.Stuck.{Stuck}
+use Rattle.scan_model.specs.declared.fault.BridgeKind.{BridgeKind}
 use Rattle.scan_model.specs.declared.fault.Fault.{Fault}
 use Rattle.scan_model.specs.declared.fault.Fault.TheVariants as fault
 use Rattle.scan_model.specs.Values.{are_opposite}
@@ -33,16 +34,29 @@ gate_pin t (place.Operand m i) n is lt = elim (cases_Bool (is_gate t.netlist m))
   | inr other ↦ absurd (let past : length t.netlist.nets ≡ n = ap (λ (g : Bool). cond g m (length t.netlist.nets)) (sym other) ∙ is in omega arith)
 ]
 
--- a fault that a net owns
+-- a fault that flips one net
 pub record IsOfNet (t : ScanTest) (f : Fault) (n : ℕ) : Type 0 where
   pub logic : IsLogic f
   pub touches : touched_nets t f ≡ n ∷ []
 
-pub of_net : (t : ScanTest) (f : Fault) (n : ℕ) → owner t f ≡ n → n < length t.netlist.nets → IsOfNet t f n
-of_net t (fault.Stem m v) n is lt = record { logic = tt; touches = ap (λ (x : ℕ). x ∷ []) is }
-of_net t (fault.Bridge a b kind) n is lt = absurd (omega arith)
-of_net t (fault.Cell h c kind) n is lt = absurd (omega arith)
-of_net t (fault.Branch p v) n is lt =
+-- the fault is a bridge
+abbrev pub IsBridge : Fault → Type 0
+IsBridge (fault.Stem n v) = ⊥
+IsBridge (fault.Branch p v) = ⊥
+IsBridge (fault.Bridge a b kind) = Unit {0}
+IsBridge (fault.Cell h c kind) = ⊥
+
+pub no_bridge : (f : Fault) → ((a b : ℕ) (kind : BridgeKind) → f ≡ fault.Bridge a b kind → ⊥) → IsBridge f → ⊥
+no_bridge (fault.Stem n v) none is = is
+no_bridge (fault.Branch p v) none is = is
+no_bridge (fault.Bridge a b kind) none is = none a b kind refl
+no_bridge (fault.Cell h c kind) none is = is
+
+pub of_net : (t : ScanTest) (f : Fault) (n : ℕ) → owner t f ≡ n → n < length t.netlist.nets → (IsBridge f → ⊥) → IsOfNet t f n
+of_net t (fault.Stem m v) n is lt apart = record { logic = tt; touches = ap (λ (x : ℕ). x ∷ []) is }
+of_net t (fault.Bridge a b kind) n is lt apart = absurd (apart tt)
+of_net t (fault.Cell h c kind) n is lt apart = absurd (omega arith)
+of_net t (fault.Branch p v) n is lt apart =
     let x = (pin_at t.netlist p).place in
     let pin = gate_pin t x n is lt in
     record {
@@ -112,21 +126,22 @@ straight_pin t p v sound lt is = of (pin_at t.netlist p).place (sound.circuit.ne
       | inr other ↦ ap (λ (g : Bool). cond g (n ∷ []) []) other
     ]
 
-abbrev pub IsBridgeOrCell : Fault → Type 0
-IsBridgeOrCell (fault.Stem n v) = ⊥
-IsBridgeOrCell (fault.Branch p v) = ⊥
-IsBridgeOrCell (fault.Bridge a b kind) = Unit {0}
-IsBridgeOrCell (fault.Cell h c kind) = Unit {0}
+-- the fault is one of a shift path
+abbrev pub IsOfPath : Fault → Type 0
+IsOfPath (fault.Stem n v) = ⊥
+IsOfPath (fault.Branch p v) = ⊥
+IsOfPath (fault.Bridge a b kind) = ⊥
+IsOfPath (fault.Cell h c kind) = Unit {0}
 
 -- what owns itself past the pins
-pub not_past : (t : ScanTest) (f : Fault) (k : ℕ) → IsScanTest t → HasSite t f → owner t f ≡ length t.netlist.nets + k → 0 < k → IsBridgeOrCell f
+pub not_past : (t : ScanTest) (f : Fault) (k : ℕ) → IsScanTest t → HasSite t f → owner t f ≡ length t.netlist.nets + k → 0 < k → IsOfPath f
 not_past t (fault.Stem n v) k sound site is some = absurd (omega arith)
 not_past t (fault.Branch p v) k sound site is some = absurd (omega (arith, pin_owner-at_most t p sound site))
-not_past t (fault.Bridge a b kind) k sound site is some = tt
+not_past t (fault.Bridge a b kind) k sound site is some = absurd (omega (arith, site.0))
 not_past t (fault.Cell h c kind) k sound site is some = tt
 
-pub owner_below : (t : ScanTest) (f : Fault) → IsScanTest t → HasSite t f → owner t f < length t.netlist.nets + 3
+pub owner_below : (t : ScanTest) (f : Fault) → IsScanTest t → HasSite t f → owner t f < length t.netlist.nets + 2
 owner_below t (fault.Stem n v) sound site = omega arith
 owner_below t (fault.Branch p v) sound site = omega (arith, pin_owner-at_most t p sound site)
-owner_below t (fault.Bridge a b kind) sound site = omega arith
+owner_below t (fault.Bridge a b kind) sound site = omega (arith, site.0)
 owner_below t (fault.Cell h c kind) sound site = omega arith

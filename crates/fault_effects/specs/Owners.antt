@@ -10,7 +10,7 @@ use Rattle.scan_model.specs.ScanTest.{ScanTest, HasSite}
 use Rattle.scan_model.specs.Universe.{universe}
 use Rattle.fault_effects.specs.declared.suspect.Suspect.{Suspect}
 
--- The one net that a fault flips. Past the nets: a pin that goes straight to a point, a bridge, a chain's cell.
+-- The net that a fault flips; of a bridge the first of its two nets. Past the nets: a pin that goes straight to a point, a chain's cell.
 abbrev pub pin_owner : ScanTest → PinPlace → ℕ
 pin_owner t (place.Operand n i) = cond (is_gate t.netlist n) n (length t.netlist.nets)
 pin_owner t (place.Output k) = length t.netlist.nets
@@ -18,8 +18,8 @@ pin_owner t (place.Output k) = length t.netlist.nets
 abbrev pub owner : ScanTest → Fault → ℕ
 owner t (fault.Stem n v) = n
 owner t (fault.Branch p v) = pin_owner t (pin_at t.netlist p).place
-owner t (fault.Bridge a b kind) = length t.netlist.nets + 1
-owner t (fault.Cell h c kind) = length t.netlist.nets + 2
+owner t (fault.Bridge a b kind) = a
+owner t (fault.Cell h c kind) = length t.netlist.nets + 1
 
 -- the fault stands at the place, and its site is there
 pub record IsSuspectOf (t : ScanTest) (s : Suspect) : Type 0 where

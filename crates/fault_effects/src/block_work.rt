@@ -20,5 +20,5 @@ pub struct BlockWork<'a, O> {
     pub owners: &'a Groups,
     ghost block_within: { block < length good.now.rows },
     ghost reads_right: { AreReads parts.now reads.now },
-    ghost owners_len: { length owners.now ≡ length parts.now.netlist.nets + 3 },
+    ghost owners_len: { length owners.now ≡ length parts.now.netlist.nets + 2 },
 }

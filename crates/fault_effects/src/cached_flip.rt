@@ -19,7 +19,8 @@ pub(crate) struct CachedFlip<F> {
 
 impl<F> CachedFlip<F> {
     pub(crate) fn new(flip: F) -> CachedFlip<F>
-        ensures { result.net ≡ None }
+        ensures net { result.net ≡ None }
+        ensures flip { result.flip ≡ flip }
     {
         CachedFlip { net: None, flip }
     }

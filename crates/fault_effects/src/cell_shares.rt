@@ -33,7 +33,7 @@ fn share_cell<O: ChainObserver, L: Ledger>(
 ) -> Result<Option<(u32, u32)>, NoMemory>
     requires work { IsSound O.test O.model O.block O.clean O.ready work.now }
     requires chains { IsChainWork O.test O.good O.block O.model O.ready work.now }
-    requires item { IsOwned work.now.parts.now work.now.suspects.now (length work.now.parts.now.netlist.nets + 2) item }
+    requires item { IsOwned work.now.parts.now work.now.suspects.now (length work.now.parts.now.netlist.nets + 1) item }
     requires walk { IsWalk work.now.parts.now work.now.good.now (O.model work.now.observer.now) (O.sums work.now.observer.now) work.now.block kind scratch.old notes.old at }
     ensures scratch { IsScratchIn work.now.good.now scratch.new }
     ensures walk { IfOk result (IsWalk work.now.parts.now work.now.good.now (O.model work.now.observer.now) (O.sums work.now.observer.now) work.now.block kind scratch.new notes.new) }
@@ -74,7 +74,7 @@ fn share_kind<O: ChainObserver, L: Ledger>(
     requires work { IsSound O.test O.model O.block O.clean O.ready work.now }
     requires chains { IsChainWork O.test O.good O.block O.model O.ready work.now }
     requires scratch { IsScratchIn work.now.good.now scratch.old }
-    requires group { All (IsOwned work.now.parts.now work.now.suspects.now (length work.now.parts.now.netlist.nets + 2)) group.now }
+    requires group { All (IsOwned work.now.parts.now work.now.suspects.now (length work.now.parts.now.netlist.nets + 1)) group.now }
     ensures scratch { IsScratchIn work.now.good.now scratch.new }
     ensures shares { OnOk result (Shares (O.means work.now.observer.now) (O.model work.now.observer.now) (O.block work.now.observer.now) work.now.suspects.now (λ i. IsAmong group.now (length group.now) i × IsOfKind kind (suspect_at work.now.suspects.now i).fault) shares.old shares.new) }
 {
@@ -99,7 +99,7 @@ fn share_kinds<O: ChainObserver, L: Ledger>(
     requires work { IsSound O.test O.model O.block O.clean O.ready work.now }
     requires chains { IsChainWork O.test O.good O.block O.model O.ready work.now }
     requires scratch { IsScratchIn work.now.good.now scratch.old }
-    requires group { All (IsOwned work.now.parts.now work.now.suspects.now (length work.now.parts.now.netlist.nets + 2)) group.now }
+    requires group { All (IsOwned work.now.parts.now work.now.suspects.now (length work.now.parts.now.netlist.nets + 1)) group.now }
     ensures scratch { IsScratchIn work.now.good.now scratch.new }
     ensures shares { OnOk result (Shares (O.means work.now.observer.now) (O.model work.now.observer.now) (O.block work.now.observer.now) work.now.suspects.now (IsAmong group.now (length group.now)) shares.old shares.new) }
 {
@@ -139,7 +139,7 @@ fn share_cells<O: ChainObserver, L: Ledger>(
     requires work { IsSound O.test O.model O.block O.clean O.ready work.now }
     requires chains { IsChainWork O.test O.good O.block O.model O.ready work.now }
     requires scratch { IsScratchIn work.now.good.now scratch.old }
-    requires group { All (IsOwned work.now.parts.now work.now.suspects.now (length work.now.parts.now.netlist.nets + 2)) group.now }
+    requires group { All (IsOwned work.now.parts.now work.now.suspects.now (length work.now.parts.now.netlist.nets + 1)) group.now }
     ensures { OnOk result (Shares (O.means work.now.observer.now) (O.model work.now.observer.now) (O.block work.now.observer.now) work.now.suspects.now (IsAmong group.now (length group.now)) shares.old shares.new) }
 {
     let mut notes = no_notes(alloc, work.observer)?;

@@ -68,7 +68,7 @@ impl Listing {
         net: u32,
     ) -> Result<(), NoMemory>
         requires reads { AreReads parts.now reads.now }
-        requires owners { length owners.now ≡ length parts.now.netlist.nets + 3 }
+        requires owners { length owners.now ≡ length parts.now.netlist.nets + 2 }
         requires net { net < length parts.now.netlist.nets }
         requires listing { IsListing owners.now (length parts.now.netlist.nets) self.old }
         ensures listing { OnOk result (IsListing owners.now (length parts.now.netlist.nets) self.new) }
@@ -95,7 +95,7 @@ impl Listing {
         root: u32,
     ) -> Result<(), NoMemory>
         requires reads { AreReads parts.now reads.now }
-        requires owners { length owners.now ≡ length parts.now.netlist.nets + 3 }
+        requires owners { length owners.now ≡ length parts.now.netlist.nets + 2 }
         requires root { root < length parts.now.netlist.nets }
         requires listing { IsListing owners.now (length parts.now.netlist.nets) self.old }
         ensures listing { OnOk result (IsListing owners.now (length parts.now.netlist.nets) self.new) }
@@ -121,7 +121,7 @@ impl Listing {
         net: u32,
     ) -> Result<(), NoMemory>
         requires reads { AreReads parts.now reads.now }
-        requires owners { length owners.now ≡ length parts.now.netlist.nets + 3 }
+        requires owners { length owners.now ≡ length parts.now.netlist.nets + 2 }
         requires net { net < length parts.now.netlist.nets }
         requires listing { IsListing owners.now (length parts.now.netlist.nets) self.old }
         ensures listing { OnOk result (IsListing owners.now (length parts.now.netlist.nets) self.new) }
@@ -137,7 +137,7 @@ impl Listing {
     /// Lists the gates, from the last that is evaluated on, each with its region.
     fn put_gates(&mut self, parts: &Parts, reads: &[Reads], owners: &Groups) -> Result<(), NoMemory>
         requires reads { AreReads parts.now reads.now }
-        requires owners { length owners.now ≡ length parts.now.netlist.nets + 3 }
+        requires owners { length owners.now ≡ length parts.now.netlist.nets + 2 }
         requires listing { IsListing owners.now (length parts.now.netlist.nets) self.old }
         ensures { OnOk result (IsListing owners.now (length parts.now.netlist.nets) self.new) }
     {
@@ -151,7 +151,7 @@ impl Listing {
     /// Lists all nets that own a suspect and weren't seen.
     fn put_all(&mut self, parts: &Parts, reads: &[Reads], owners: &Groups) -> Result<(), NoMemory>
         requires reads { AreReads parts.now reads.now }
-        requires owners { length owners.now ≡ length parts.now.netlist.nets + 3 }
+        requires owners { length owners.now ≡ length parts.now.netlist.nets + 2 }
         requires listing { IsListing owners.now (length parts.now.netlist.nets) self.old }
         ensures listing { OnOk result (IsListing owners.now (length parts.now.netlist.nets) self.new) }
         ensures all { OnOk result ((n : ℕ) → n < length parts.now.netlist.nets → 0 < length (slice_index_or owners.now n []) → slice_index_or self.new.seen.items n false ≡ true) }
@@ -172,7 +172,7 @@ pub fn owned_nets(
     owners: &Groups,
 ) -> Result<Vec<u32>, NoMemory>
     requires reads { AreReads parts.now reads.now }
-    requires owners { length owners.now ≡ length parts.now.netlist.nets + 3 }
+    requires owners { length owners.now ≡ length parts.now.netlist.nets + 2 }
     ensures within { IfOk result (λ nets. All (λ n. n < length parts.now.netlist.nets) nets.items) }
     ensures all { IfOk result (λ nets. (n : ℕ) → n < length parts.now.netlist.nets → 0 < length (slice_index_or owners.now n []) → Contains nets.items n) }
 {

@@ -1,5 +1,5 @@
 //! A table of flips that are kept for the next looks at their nets.
-ghost use Rattle.std.specs.Prelude.{ℕ, ◌<◌, ◌&&◌, length, IfOk, OnOk};
+ghost use Rattle.std.specs.Prelude.{◌≡◌, ℕ, ◌<◌, ◌&&◌, ◌∷◌, All, Contains, length, IfOk, OnOk};
 ghost use Rattle.lane_rows.specs.Lanes.{lane};
 ghost use Rattle.fault_effects.specs.FaultModel.{shown_in};
 ghost use Rattle.fault_effects.specs.CachedFlips.{AreKeptFlips};
@@ -12,6 +12,7 @@ use lane_rows::Row;
 use packed_sim::Scratch;
 use scan_model::{NoMemory, Steps};
 use std::alloc::Global;
+use std::mem::swap;
 use std::sync::ledger::Ledger;
 
 /// Some flips. A net's flip has one place, which it shares with those of other nets.
@@ -34,6 +35,31 @@ pub(crate) fn no_flips<O: Observer>(
         flips.push(CachedFlip::new(observer.new_flip(alloc)))?;
     }
     Ok(KeptFlips { flips })
+}
+
+impl<F> KeptFlips<F> {
+    /// Takes a flip back that was lent, and lends what stood in its place.
+    pub(crate) fn put_back(&mut self, flip: &mut CachedFlip<F>)
+        requires { 0 < length self.old.flips.items }
+        ensures len { length self.new.flips.items ≡ length self.old.flips.items }
+        ensures kept { All (Contains (flip.old ∷ self.old.flips.items)) self.new.flips.items }
+        ensures lent { Contains (flip.old ∷ self.old.flips.items) flip.new }
+    {
+        if let Some(net) = flip.net {
+            self.lend(flip, net);
+        }
+    }
+
+    /// Lends what stands in the place of a net's flip, and keeps another there.
+    pub(crate) fn lend(&mut self, flip: &mut CachedFlip<F>, net: u32)
+        requires { 0 < length self.old.flips.items }
+        ensures len { length self.new.flips.items ≡ length self.old.flips.items }
+        ensures kept { All (Contains (flip.old ∷ self.old.flips.items)) self.new.flips.items }
+        ensures lent { Contains (flip.old ∷ self.old.flips.items) flip.new }
+    {
+        let place = net as usize % self.flips.len();
+        swap(&mut self.flips[place], flip);
+    }
 }
 
 /// What a flip of a net comes to in some lanes. The flip is kept in place of another net's.

@@ -3,7 +3,6 @@
 #![tactic(auto)]
 
 mod block_work;
-mod bridge_piece;
 mod cached_flip;
 mod cell_shares;
 mod flip_order;
@@ -17,6 +16,7 @@ mod piece;
 mod pin_piece;
 mod readers;
 mod region;
+mod rooted;
 mod share;
 mod suspect;
 mod walk;

@@ -27,11 +27,11 @@ fn pin_owner(parts: &Parts, place: PinPlace) -> u32
     }
 }
 
-/// The one net that a fault flips. Past the nets: a pin that goes straight to a point, a bridge, a chain's cell.
+/// The net that a fault flips; of a bridge the first of its two nets. Past the nets: a pin that goes straight to a point, a chain's cell.
 fn owner(parts: &Parts, fault: &Fault) -> u32
     requires { HasSite parts.now fault.now }
     ensures value { result ≡ owners.owner parts.now fault.now }
-    ensures below { result < length parts.now.netlist.nets + 3 }
+    ensures below { result < length parts.now.netlist.nets + 2 }
 {
     let nets = parts.circuit().nets().len() as u32;
     match *fault {
@@ -40,8 +40,8 @@ fn owner(parts: &Parts, fault: &Fault) -> u32
             let place = parts.circuit().pins().as_slice()[pin as usize].place;
             pin_owner(parts, place)
         }
-        Fault::Bridge { .. } => nets + 1,
-        Fault::Cell { .. } => nets + 2,
+        Fault::Bridge { a, .. } => a,
+        Fault::Cell { .. } => nets + 1,
     }
 }
 
@@ -75,13 +75,13 @@ pub fn suspects_at(alloc: Global, parts: &Parts, places: &[u32]) -> Result<Rows<
 pub fn owners_of(alloc: Global, parts: &Parts, suspects: &[Suspect]) -> Result<Groups, NoMemory>
     requires suspects { All (IsSuspectOf parts.now) suspects.now }
     requires few { length suspects.now < 2 ^ 32 }
-    ensures len { IfOk result (λ groups. length groups ≡ length parts.now.netlist.nets + 3) }
+    ensures len { IfOk result (λ groups. length groups ≡ length parts.now.netlist.nets + 2) }
     ensures groups { IfOk result (AreOwners parts.now suspects.now) }
 {
     let mut keys = Vec::with_capacity(alloc, suspects.len())?;
     for suspect in suspects {
         keys.push(owner(parts, &suspect.fault))?;
     }
-    let groups = Groups::of(alloc, &keys, parts.circuit().nets().len() + 3)?;
+    let groups = Groups::of(alloc, &keys, parts.circuit().nets().len() + 2)?;
     Ok(groups)
 }

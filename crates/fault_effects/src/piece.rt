@@ -1,4 +1,4 @@
-//! The share of one piece of a block's work: a list of nets, pins, bridges or cells, with a scratch of its own.
+//! The share of one piece of a block's work: a list of nets, pins or cells, with a scratch of its own.
 ghost use Rattle.std.specs.Prelude.{◌≡◌, ◌≢◌, ℕ, ◌+◌, ◌<◌, [], All, Contains, length, OnOk, IfOk};
 ghost use Rattle.fault_effects.specs.declared.work_kind.WorkKind.TheVariants as kinds;
 ghost use Rattle.fault_effects.specs.Owners.{owner, suspect_at};
@@ -8,7 +8,6 @@ ghost use Rattle.fault_effects.specs.ChainWork.{IsChainWork};
 ghost use Rattle.fault_effects.specs.SoundWork.{IsSound};
 
 use crate::block_work::BlockWork;
-use crate::bridge_piece::share_bridges;
 use crate::cell_shares::cell_piece;
 use crate::net_piece::share_nets;
 use crate::observer::{ChainObserver, Observer};
@@ -41,7 +40,6 @@ fn share_items<O: Observer, L: Ledger>(
     match kind {
         WorkKind::Nets => share_nets(alloc, work, scratch, items, shares, steps),
         WorkKind::Pins => share_pins(work, items, shares),
-        WorkKind::Bridges => share_bridges(alloc, work, scratch, items, shares, steps),
         WorkKind::Cells => unreachable!(),
     }
 }
@@ -85,7 +83,7 @@ fn piece_in<O: Observer, L: Ledger>(
     }
 }
 
-/// The shares of one piece of the work of the logic, with a scratch of its own: nets, pins or bridges. The only error is want of memory.
+/// The shares of one piece of the work of the logic, with a scratch of its own: nets or pins. The only error is want of memory.
 pub fn logic_piece<O: Observer>(
     alloc: Global,
     work: &BlockWork<'_, O>,
@@ -100,7 +98,7 @@ pub fn logic_piece<O: Observer>(
     piece_in::<O, Brand>(alloc, work, kind, items, Blank::new(1))
 }
 
-/// Adds the shares of all suspects of the logic: those that nets own in the order of the nets, then pins and bridges.
+/// Adds the shares of all suspects of the logic: those that nets own in the order of the nets, then pins.
 fn share_logic<O: Observer, L: Ledger>(
     alloc: Global,
     work: &BlockWork<'_, O>,
@@ -113,22 +111,12 @@ fn share_logic<O: Observer, L: Ledger>(
     requires nets { All (λ n. n < length work.now.parts.now.netlist.nets) nets.now }
     requires all { (i : ℕ) → i < length work.now.suspects.now → owner work.now.parts.now (suspect_at work.now.suspects.now i).fault < length work.now.parts.now.netlist.nets → Contains nets.now (owner work.now.parts.now (suspect_at work.now.suspects.now i).fault) }
     requires scratch { O.clean work.now.observer.now scratch.old }
-    ensures { OnOk result (Shares (O.means work.now.observer.now) (O.model work.now.observer.now) (O.block work.now.observer.now) work.now.suspects.now (λ i. owner work.now.parts.now (suspect_at work.now.suspects.now i).fault < length work.now.parts.now.netlist.nets + 2) shares.old shares.new) }
+    ensures { OnOk result (Shares (O.means work.now.observer.now) (O.model work.now.observer.now) (O.block work.now.observer.now) work.now.suspects.now (λ i. owner work.now.parts.now (suspect_at work.now.suspects.now i).fault < length work.now.parts.now.netlist.nets + 1) shares.old shares.new) }
 {
     let count = work.parts.circuit().nets().len() as u32;
     let pins = work.owners.group(count);
-    let bridges = work.owners.group(count + 1);
     share_items(alloc, work, WorkKind::Nets, nets, scratch, shares, steps)?;
-    share_items(alloc, work, WorkKind::Pins, pins, scratch, shares, steps)?;
-    share_items(
-        alloc,
-        work,
-        WorkKind::Bridges,
-        bridges,
-        scratch,
-        shares,
-        steps,
-    )
+    share_items(alloc, work, WorkKind::Pins, pins, scratch, shares, steps)
 }
 
 /// `logic_parts` with a ledger for its steps of simulation.
@@ -144,7 +132,7 @@ fn parts_in<O: Observer, L: Ledger>(
     requires name { blank.name ≡ L.name }
     requires parts { blank.parts ≡ L.parts }
     requires some { 0 < blank.parts }
-    ensures { IfOk result (Shares (O.means work.now.observer.now) (O.model work.now.observer.now) (O.block work.now.observer.now) work.now.suspects.now (λ i. owner work.now.parts.now (suspect_at work.now.suspects.now i).fault < length work.now.parts.now.netlist.nets + 2) []) }
+    ensures { IfOk result (Shares (O.means work.now.observer.now) (O.model work.now.observer.now) (O.block work.now.observer.now) work.now.suspects.now (λ i. owner work.now.parts.now (suspect_at work.now.suspects.now i).fault < length work.now.parts.now.netlist.nets + 1) []) }
 {
     let mut shares = Rows::from_vec(Vec::with_capacity(alloc, work.suspects.len())?);
     let mut steps = Steps::<L>::open(blank);
@@ -162,7 +150,7 @@ fn parts_in<O: Observer, L: Ledger>(
 }
 
 /// The shares of all suspects of the logic in a block, with one scratch: those that nets own in the order of the nets, then
-/// pins and bridges. The only error is want of memory.
+/// pins. The only error is want of memory.
 pub fn logic_parts<O: Observer>(
     alloc: Global,
     work: &BlockWork<'_, O>,
@@ -171,7 +159,7 @@ pub fn logic_parts<O: Observer>(
     requires work { IsSound O.test O.model O.block O.clean O.ready work.now }
     requires nets { All (λ n. n < length work.now.parts.now.netlist.nets) nets.now }
     requires all { (i : ℕ) → i < length work.now.suspects.now → owner work.now.parts.now (suspect_at work.now.suspects.now i).fault < length work.now.parts.now.netlist.nets → Contains nets.now (owner work.now.parts.now (suspect_at work.now.suspects.now i).fault) }
-    ensures { IfOk result (Shares (O.means work.now.observer.now) (O.model work.now.observer.now) (O.block work.now.observer.now) work.now.suspects.now (λ i. owner work.now.parts.now (suspect_at work.now.suspects.now i).fault < length work.now.parts.now.netlist.nets + 2) []) }
+    ensures { IfOk result (Shares (O.means work.now.observer.now) (O.model work.now.observer.now) (O.block work.now.observer.now) work.now.suspects.now (λ i. owner work.now.parts.now (suspect_at work.now.suspects.now i).fault < length work.now.parts.now.netlist.nets + 1) []) }
 {
     parts_in::<O, Brand>(alloc, work, nets, Blank::new(1))
 }
@@ -192,6 +180,5 @@ pub fn piece_shares<O: ChainObserver>(
         WorkKind::Cells => cell_piece(alloc, work, items),
         WorkKind::Nets => logic_piece(alloc, work, WorkKind::Nets, items),
         WorkKind::Pins => logic_piece(alloc, work, WorkKind::Pins, items),
-        WorkKind::Bridges => logic_piece(alloc, work, WorkKind::Bridges, items),
     }
 }

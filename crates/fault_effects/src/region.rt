@@ -1,11 +1,14 @@
 //! A region: nets of which each is read by one gate alone, up to one that isn't, its root. A net shows where its one reader does, in the lanes in
 //! which it flips the reader. So of a region the root alone is flipped.
-ghost use Rattle.std.specs.Prelude.{◌≡◌, ℕ, ◌<◌, All, length, IfOk, IfSome, OnOk, []};
+ghost use Rattle.std.specs.Prelude.{◌≡◌, ℕ, ◌<◌, All, length, IfOk, IfSome, OnOk, None, []};
 ghost use Rattle.fault_effects.specs.FaultModel.{FaultModel, Table};
+ghost use Rattle.fault_effects.specs.CachedFlips.{AreKeptFlips};
 ghost use Rattle.fault_effects.specs.Regions.{IsRegion, IsEntered, ShowsAs};
 ghost use Rattle.fault_effects.specs.SoundWork.{IsSound};
 
 use crate::block_work::BlockWork;
+use crate::cached_flip::{CachedFlip, keep};
+use crate::kept_flips::KeptFlips;
 use crate::observer::Observer;
 use crate::readers::{SoleReader, sole_reader};
 use lane_rows::Row;
@@ -21,23 +24,24 @@ pub(crate) struct Member {
     pub lanes: Row,
 }
 
-/// The region of the net that was shown last. `flip` is kept of its root, `members` go upstream from the root to that net, and
+/// The region of the net that was shown last. `flip` is that of its root, `members` go upstream from the root to that net, and
 /// `path` has the gates from the net that is shown next downstream to its root, the root last.
 #[derive(Drop)]
 pub(crate) struct Region<F> {
-    pub flip: F,
+    pub flip: CachedFlip<F>,
     pub members: Vec<Member>,
     pub path: Vec<u32>,
 }
 
 impl<F> Region<F> {
     pub(crate) fn new(alloc: Global, flip: F) -> Region<F>
-        ensures flip { result.flip ≡ flip }
+        ensures flip { result.flip.flip ≡ flip }
+        ensures net { result.flip.net ≡ None }
         ensures members { result.members.items ≡ [] }
         ensures path { result.path.items ≡ [] }
     {
         Region {
-            flip,
+            flip: CachedFlip::new(flip),
             members: Vec::new(alloc),
             path: Vec::new(alloc),
         }
@@ -109,23 +113,28 @@ fn upstream_lanes<O: Observer>(
     Some(last.lanes.and(lanes))
 }
 
-/// Takes a net as the root of a region: it is flipped.
+/// Takes a net as the root of a region: it is flipped, unless its flip is kept.
 fn begin<O: Observer, L: Ledger>(
     work: &BlockWork<'_, O>,
     scratch: &mut Scratch,
+    kept: &mut KeptFlips<O::Flip>,
     region: &mut Region<O::Flip>,
     net: u32,
     steps: &mut Steps<L>,
 ) -> Result<Row, NoMemory>
     requires work { IsSound O.test O.model O.block O.clean O.ready work.now }
     requires scratch { O.clean work.now.observer.now scratch.old }
+    requires kept { AreKeptFlips (O.holds work.now.observer.now) (O.model work.now.observer.now) (O.block work.now.observer.now) kept.old }
     requires region { IsRegion (O.holds work.now.observer.now) (O.model work.now.observer.now) (O.block work.now.observer.now) (length work.now.parts.now.netlist.nets) region.old }
     requires net { net < length work.now.parts.now.netlist.nets }
     ensures scratch { O.clean work.now.observer.now scratch.new }
+    ensures kept { OnOk result (AreKeptFlips (O.holds work.now.observer.now) (O.model work.now.observer.now) (O.block work.now.observer.now) kept.new) }
     ensures region { IfOk result (IsEntered (O.holds work.now.observer.now) (O.model work.now.observer.now) (O.block work.now.observer.now) (length work.now.parts.now.netlist.nets) region.new net) }
 {
     region.members.clear();
-    work.observer.flip(scratch, net, &mut region.flip, steps)?;
+    kept.put_back(&mut region.flip);
+    kept.lend(&mut region.flip, net);
+    keep(work, scratch, &mut region.flip, net, steps)?;
     Ok(Row::all())
 }
 
@@ -134,20 +143,23 @@ fn begin<O: Observer, L: Ledger>(
 fn enter<O: Observer, L: Ledger>(
     work: &BlockWork<'_, O>,
     scratch: &mut Scratch,
+    kept: &mut KeptFlips<O::Flip>,
     region: &mut Region<O::Flip>,
     net: u32,
     steps: &mut Steps<L>,
 ) -> Result<Row, NoMemory>
     requires work { IsSound O.test O.model O.block O.clean O.ready work.now }
     requires scratch { O.clean work.now.observer.now scratch.old }
+    requires kept { AreKeptFlips (O.holds work.now.observer.now) (O.model work.now.observer.now) (O.block work.now.observer.now) kept.old }
     requires region { IsRegion (O.holds work.now.observer.now) (O.model work.now.observer.now) (O.block work.now.observer.now) (length work.now.parts.now.netlist.nets) region.old }
     requires net { net < length work.now.parts.now.netlist.nets }
     ensures scratch { O.clean work.now.observer.now scratch.new }
+    ensures kept { OnOk result (AreKeptFlips (O.holds work.now.observer.now) (O.model work.now.observer.now) (O.block work.now.observer.now) kept.new) }
     ensures region { IfOk result (IsEntered (O.holds work.now.observer.now) (O.model work.now.observer.now) (O.block work.now.observer.now) (length work.now.parts.now.netlist.nets) region.new net) }
 {
     let lanes = match upstream_lanes(work, region, net) {
         Some(lanes) => lanes,
-        None => begin(work, scratch, region, net, steps)?,
+        None => begin(work, scratch, kept, region, net, steps)?,
     };
     region.members.push(Member { net, lanes })?;
     Ok(lanes)
@@ -157,20 +169,23 @@ fn enter<O: Observer, L: Ledger>(
 fn descend<O: Observer, L: Ledger>(
     work: &BlockWork<'_, O>,
     scratch: &mut Scratch,
+    kept: &mut KeptFlips<O::Flip>,
     region: &mut Region<O::Flip>,
     steps: &mut Steps<L>,
 ) -> Result<(), NoMemory>
     requires work { IsSound O.test O.model O.block O.clean O.ready work.now }
     requires scratch { O.clean work.now.observer.now scratch.old }
+    requires kept { AreKeptFlips (O.holds work.now.observer.now) (O.model work.now.observer.now) (O.block work.now.observer.now) kept.old }
     requires region { IsRegion (O.holds work.now.observer.now) (O.model work.now.observer.now) (O.block work.now.observer.now) (length work.now.parts.now.netlist.nets) region.old }
     ensures scratch { O.clean work.now.observer.now scratch.new }
+    ensures kept { OnOk result (AreKeptFlips (O.holds work.now.observer.now) (O.model work.now.observer.now) (O.block work.now.observer.now) kept.new) }
     ensures region { OnOk result (IsRegion (O.holds work.now.observer.now) (O.model work.now.observer.now) (O.block work.now.observer.now) (length work.now.parts.now.netlist.nets) region.new) }
 {
     for _ in 0..region.path.len() {
         let Some(above) = region.path.pop() else {
             return Ok(());
         };
-        enter(work, scratch, region, above, steps)?;
+        enter(work, scratch, kept, region, above, steps)?;
     }
     Ok(())
 }
@@ -179,20 +194,23 @@ fn descend<O: Observer, L: Ledger>(
 pub(crate) fn show<O: Observer, L: Ledger>(
     work: &BlockWork<'_, O>,
     scratch: &mut Scratch,
+    kept: &mut KeptFlips<O::Flip>,
     region: &mut Region<O::Flip>,
     net: u32,
     steps: &mut Steps<L>,
 ) -> Result<Row, NoMemory>
     requires work { IsSound O.test O.model O.block O.clean O.ready work.now }
     requires scratch { O.clean work.now.observer.now scratch.old }
+    requires kept { AreKeptFlips (O.holds work.now.observer.now) (O.model work.now.observer.now) (O.block work.now.observer.now) kept.old }
     requires region { IsRegion (O.holds work.now.observer.now) (O.model work.now.observer.now) (O.block work.now.observer.now) (length work.now.parts.now.netlist.nets) region.old }
     requires net { net < length work.now.parts.now.netlist.nets }
     ensures scratch { O.clean work.now.observer.now scratch.new }
+    ensures kept { OnOk result (AreKeptFlips (O.holds work.now.observer.now) (O.model work.now.observer.now) (O.block work.now.observer.now) kept.new) }
     ensures region { IfOk result (IsEntered (O.holds work.now.observer.now) (O.model work.now.observer.now) (O.block work.now.observer.now) (length work.now.parts.now.netlist.nets) region.new net) }
 {
     let reader = sole_reader(work.parts, work.reads, net);
     leave(&mut region.members, reader);
     climb(work, region, net)?;
-    descend(work, scratch, region, steps)?;
-    enter(work, scratch, region, net, steps)
+    descend(work, scratch, kept, region, steps)?;
+    enter(work, scratch, kept, region, net, steps)
 }

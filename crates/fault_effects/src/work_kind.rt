@@ -4,6 +4,5 @@
 pub enum WorkKind {
     Nets,
     Pins,
-    Bridges,
     Cells,
 }

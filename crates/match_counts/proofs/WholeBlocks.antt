@@ -7,7 +7,7 @@ use Rattle.scan_model.specs.declared.rows.NoMemory.{NoMemory}
 use Rattle.scan_model.specs.ScanTest.{ScanTest}
 use Rattle.fault_effects.specs.declared.share.Share.{Share}
 use Rattle.fault_effects.specs.declared.suspect.Suspect.{Suspect}
-use Rattle.fault_effects.specs.declared.work_kind.WorkKind.TheVariants.{Nets, Pins, Bridges, Cells}
+use Rattle.fault_effects.specs.declared.work_kind.WorkKind.TheVariants.{Nets, Pins, Cells}
 use Rattle.fault_effects.specs.FaultModel.{FaultModel, Table}
 use Rattle.fault_effects.specs.Owners.{AreOwners, IsOwned, owner, suspect_at}
 use Rattle.fault_effects.specs.Shares.{Shares}
@@ -29,18 +29,15 @@ module _ (t : ScanTest) (suspects : List Suspect) (groups : List (List ℕ)) (ow
   group_owned n group lt is = let Of : List ℕ → Type 0 = All (IsOwned t suspects n) in subst Of (sym is) (owners.owned n lt)
 
   -- a suspect is served in the list of its owner
-  pub all_served : (nets pins bridges cells : List ℕ) (pieces : List Piece) → ((i : ℕ) → i < length suspects → owner t (suspect_at suspects i).fault < length t.netlist.nets → Contains nets (owner t (suspect_at suspects i).fault))
-      → pins ≡ get_or groups (length t.netlist.nets) [] → bridges ≡ get_or groups (length t.netlist.nets + 1) [] → cells ≡ get_or groups (length t.netlist.nets + 2) []
-      → ((n : ℕ) → Contains nets n → HasItem pieces Nets n) → ((n : ℕ) → Contains pins n → HasItem pieces Pins n) → ((n : ℕ) → Contains bridges n → HasItem pieces Bridges n) → ((n : ℕ) → Contains cells n → HasItem pieces Cells n)
-      → (i : ℕ) → i < length suspects → owner t (suspect_at suspects i).fault < length t.netlist.nets + 3 → IsServedIn t suspects pieces i
-  all_served nets pins bridges cells pieces all pins_are bridges_are cells_are has_nets has_pins has_bridges has_cells i lt below = elim (cases_eq (owner_at i) (count + 2)) [
-    | inl cell ↦ (Cells, has_cells i (owned_in t suspects groups (count + 2) cells owners cells_are i lt cell))
-    | inr no_cell ↦ elim (cases_eq (owner_at i) (count + 1)) [
-      | inl bridge ↦ (Bridges, has_bridges i (owned_in t suspects groups (count + 1) bridges owners bridges_are i lt bridge))
-      | inr no_bridge ↦ elim (cases_eq (owner_at i) count) [
-        | inl pin ↦ (Pins, has_pins i (owned_in t suspects groups count pins owners pins_are i lt pin))
-        | inr no_pin ↦ (Nets, has_nets (owner_at i) (all i lt (omega (arith, below, no_cell, no_bridge, no_pin))))
-      ]
+  pub all_served : (nets pins cells : List ℕ) (pieces : List Piece) → ((i : ℕ) → i < length suspects → owner t (suspect_at suspects i).fault < length t.netlist.nets → Contains nets (owner t (suspect_at suspects i).fault))
+      → pins ≡ get_or groups (length t.netlist.nets) [] → cells ≡ get_or groups (length t.netlist.nets + 1) []
+      → ((n : ℕ) → Contains nets n → HasItem pieces Nets n) → ((n : ℕ) → Contains pins n → HasItem pieces Pins n) → ((n : ℕ) → Contains cells n → HasItem pieces Cells n)
+      → (i : ℕ) → i < length suspects → owner t (suspect_at suspects i).fault < length t.netlist.nets + 2 → IsServedIn t suspects pieces i
+  all_served nets pins cells pieces all pins_are cells_are has_nets has_pins has_cells i lt below = elim (cases_eq (owner_at i) (count + 1)) [
+    | inl cell ↦ (Cells, has_cells i (owned_in t suspects groups (count + 1) cells owners cells_are i lt cell))
+    | inr no_cell ↦ elim (cases_eq (owner_at i) count) [
+      | inl pin ↦ (Pins, has_pins i (owned_in t suspects groups count pins owners pins_are i lt pin))
+      | inr no_pin ↦ (Nets, has_nets (owner_at i) (all i lt (omega (arith, below, no_cell, no_pin))))
     ]
   ]
 

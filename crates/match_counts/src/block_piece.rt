@@ -26,18 +26,16 @@ fn block_pieces<'a, R: Threads>(
     requires nets { All (λ n. n < length work.now.parts.now.netlist.nets) nets.now }
     requires all { (i : ℕ) → i < length work.now.suspects.now → owning.owner work.now.parts.now (suspect_at work.now.suspects.now i).fault < length work.now.parts.now.netlist.nets → Contains nets.now (owning.owner work.now.parts.now (suspect_at work.now.suspects.now i).fault) }
     ensures items { IfOk result (λ pieces. AreItems work.now.parts.now work.now.suspects.now pieces.items) }
-    ensures served { IfOk result (λ pieces. (i : ℕ) → i < length work.now.suspects.now → owning.owner work.now.parts.now (suspect_at work.now.suspects.now i).fault < length work.now.parts.now.netlist.nets + 3
+    ensures served { IfOk result (λ pieces. (i : ℕ) → i < length work.now.suspects.now → owning.owner work.now.parts.now (suspect_at work.now.suspects.now i).fault < length work.now.parts.now.netlist.nets + 2
         → IsServedIn work.now.parts.now work.now.suspects.now pieces.items i) }
 {
     let count = work.parts.circuit().nets().len() as u32;
     let mut pieces = Vec::new(alloc);
-    let cells = work.owners.group(count + 2);
+    let cells = work.owners.group(count + 1);
     cut(rt, WorkKind::Cells, cells, &mut pieces)?;
     cut(rt, WorkKind::Nets, nets, &mut pieces)?;
     let pins = work.owners.group(count);
     cut(rt, WorkKind::Pins, pins, &mut pieces)?;
-    let bridges = work.owners.group(count + 1);
-    cut(rt, WorkKind::Bridges, bridges, &mut pieces)?;
     Ok(pieces)
 }
 
@@ -52,7 +50,7 @@ pub(crate) fn block_shares<R: Threads + Sync>(
     requires chains { IsChainCount work.now }
     requires nets { All (λ n. n < length work.now.parts.now.netlist.nets) nets.now }
     requires all { (i : ℕ) → i < length work.now.suspects.now → owning.owner work.now.parts.now (suspect_at work.now.suspects.now i).fault < length work.now.parts.now.netlist.nets → Contains nets.now (owning.owner work.now.parts.now (suspect_at work.now.suspects.now i).fault) }
-    ensures { IfOk result (λ all. CountShares work.now (λ i. owning.owner work.now.parts.now (suspect_at work.now.suspects.now i).fault < length work.now.parts.now.netlist.nets + 3) [] (flat_map (λ shares. shares) all.items)) }
+    ensures { IfOk result (λ all. CountShares work.now (λ i. owning.owner work.now.parts.now (suspect_at work.now.suspects.now i).fault < length work.now.parts.now.netlist.nets + 2) [] (flat_map (λ shares. shares) all.items)) }
 {
     let pieces = block_pieces(rt, alloc, work, nets)?;
     shares_of_pieces(rt, alloc, work, &pieces)

@@ -35,7 +35,7 @@ pub(crate) fn count_blocks<R: Threads + Sync>(
     requires expected { expected.now ≡ expected_rows parts.now }
     requires joined { IsJoinedOf (length parts.now.patterns) (length (points_of parts.now)) joined.now }
     requires suspects { All (IsSuspectOf parts.now) suspects.now }
-    requires count { length owners.now ≡ length parts.now.netlist.nets + 3 }
+    requires count { length owners.now ≡ length parts.now.netlist.nets + 2 }
     requires owners { AreOwners parts.now suspects.now owners.now }
     ensures len { IfOk result (λ totals. length totals.totals ≡ length suspects.now) }
     ensures whole { (logs : List LogFacts) → StandsFor logs joined.now → IfOk result (AreTestTotals parts.now logs suspects.now) }

@@ -21,7 +21,6 @@ pub(crate) fn least_size(kind: WorkKind) -> usize
     match kind {
         WorkKind::Nets => 512,
         WorkKind::Pins => 1024,
-        WorkKind::Bridges => 256,
         WorkKind::Cells => 256,
     }
 }

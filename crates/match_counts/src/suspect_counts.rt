@@ -49,7 +49,7 @@ fn counts_over<R: Threads + Sync>(
     requires expected { expected.now ≡ expected_rows parts.now }
     requires joined { IsJoinedOf (length parts.now.patterns) (length (points_of parts.now)) joined.now }
     requires suspects { All (IsSuspectOf parts.now) suspects.now }
-    requires count { length owners.now ≡ length parts.now.netlist.nets + 3 }
+    requires count { length owners.now ≡ length parts.now.netlist.nets + 2 }
     requires owners { AreOwners parts.now suspects.now owners.now }
     ensures { (logs : List LogFacts) → StandsFor logs joined.now → IfOk result (λ rows. rows ≡ candidates_at parts.now logs (places_of suspects.now)) }
 {

@@ -23,7 +23,7 @@ pub record AreDieSuspects (t : ScanTest) (x : DieSuspects) : Type 0 where
   pub good : BelongsTo t x.good.now
   pub joined : IsJoinedOf (length t.patterns) (length (points_of t)) x.joined
   pub suspects : All (IsSuspectOf t) x.suspects
-  pub groups : length x.owners ≡ length t.netlist.nets + 3
+  pub groups : length x.owners ≡ length t.netlist.nets + 2
   pub owners : AreOwners t x.suspects x.owners
   pub reads : AreReads t x.reads.items
   pub nets : All (λ n. n < length t.netlist.nets) x.nets.items

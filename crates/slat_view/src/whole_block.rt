@@ -87,10 +87,10 @@ pub(crate) fn block_parts<R: Threads + Sync>(
     requires chains { IsChainFit work.now }
     requires nets { All (λ n. n < length work.now.parts.now.netlist.nets) nets.now }
     requires all { (i : ℕ) → i < length work.now.suspects.now → owner work.now.parts.now (suspect_at work.now.suspects.now i).fault < length work.now.parts.now.netlist.nets → Contains nets.now (owner work.now.parts.now (suspect_at work.now.suspects.now i).fault) }
-    ensures { IfOk result (FitShares work.now (λ i. owner work.now.parts.now (suspect_at work.now.suspects.now i).fault < length work.now.parts.now.netlist.nets + 3) []) }
+    ensures { IfOk result (FitShares work.now (λ i. owner work.now.parts.now (suspect_at work.now.suspects.now i).fault < length work.now.parts.now.netlist.nets + 2) []) }
 {
     let count = work.parts.circuit().nets().len() as u32;
-    let group = work.owners.group(count + 2);
+    let group = work.owners.group(count + 1);
     let mut shares = logic_parts(alloc, work, nets)?;
     let size = piece_size(rt, group.len());
     let cells = cell_pieces(rt, alloc, work, group, size)?;

@@ -23,7 +23,7 @@ use Rattle.fault_effects.specs.declared.suspect.Suspect.{Suspect}
 use Rattle.log_rows.specs.PointRows.{is_on, is_on_at}
 use Rattle.log_rows.specs.PlaceRows.{ArePlaceRows}
 use Rattle.fault_effects.specs.Owners.{owner, IsSuspectOf}
-use Rattle.fault_effects.proofs.Owned.{IsBridgeOrCell, not_past}
+use Rattle.fault_effects.proofs.Owned.{IsOfPath, not_past}
 use Rattle.match_counts.specs.Flips.{row_on, point_row_at}
 use Rattle.match_counts.specs.Sides.{classes_by, AreSideRows}
 use Rattle.two_frame.specs.TwoFrame.{transitions, frame_response, frame_rows, frame_class}
@@ -47,16 +47,16 @@ module _ (t : ScanTest) (suspects : List Suspect) (are : All (IsSuspectOf t) sus
       let at = suspects_in k d lt in
       (s.place, slice_get_within (transitions t) s.place s.fault at, get_or_from_slice_get (transitions t) s.place s.fault s.fault at)
 
-owned_by_logic : (t : ScanTest) (f : Fault) → IsScanTest t → HasSite t f → (IsBridgeOrCell f → ⊥) → owner t f < length t.netlist.nets + 2
-owned_by_logic t f sound site other = elim (cases_Bool (ltb (owner t f) (length t.netlist.nets + 2))) [
-  | inl within ↦ ltb-true (owner t f) (length t.netlist.nets + 2) within
+owned_by_logic : (t : ScanTest) (f : Fault) → IsScanTest t → HasSite t f → (IsOfPath f → ⊥) → owner t f < length t.netlist.nets + 1
+owned_by_logic t f sound site other = elim (cases_Bool (ltb (owner t f) (length t.netlist.nets + 1))) [
+  | inl within ↦ ltb-true (owner t f) (length t.netlist.nets + 1) within
   | inr past ↦
-      let above = ltb-false (owner t f) (length t.netlist.nets + 2) past in
+      let above = ltb-false (owner t f) (length t.netlist.nets + 1) past in
       absurd (other (not_past t f (owner t f - length t.netlist.nets) sound site (omega (arith, above)) (omega (arith, above))))
 ]
 
 -- a transition fault is a net's, or a pin's
-pub transition_owner : (t : ScanTest) (f : Fault) → IsScanTest t → HasSite t f → Contains (transitions t) f → owner t f < length t.netlist.nets + 2
+pub transition_owner : (t : ScanTest) (f : Fault) → IsScanTest t → HasSite t f → Contains (transitions t) f → owner t f < length t.netlist.nets + 1
 transition_owner t (fault.Stem n v) sound site there = owned_by_logic t (fault.Stem n v) sound site (λ no. no)
 transition_owner t (fault.Branch p v) sound site there = owned_by_logic t (fault.Branch p v) sound site (λ no. no)
 transition_owner t (fault.Bridge a b kind) sound site there = absurd (no_bridge_in t a b kind there)

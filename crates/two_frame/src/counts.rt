@@ -37,7 +37,7 @@ fn count_blocks(
     requires joined { IsJoinedOf (length parts.now.patterns) (length (points_of parts.now)) joined.now }
     requires suspects { All (IsSuspectOf parts.now) suspects.now }
     requires transitions { All (λ s. s.place < length (transitions parts.now)) suspects.now }
-    requires count { length owners.now ≡ length parts.now.netlist.nets + 3 }
+    requires count { length owners.now ≡ length parts.now.netlist.nets + 2 }
     requires owners { AreOwners parts.now suspects.now owners.now }
     ensures len { IfOk result (λ counts. length counts.totals ≡ length suspects.now) }
     ensures totals { (logs : List LogFacts) → StandsFor logs joined.now → IfOk result (AreTotals (bits_of parts.now) (frame_class parts.now logs) (frame_fails parts.now) suspects.now) }

@@ -26,12 +26,12 @@ returns g c =
     let model = g.O.Observer.model o in
     let block = g.O.Observer.block o in
     let nets : c.len-count.result ≡ count = c.len-count.ensures ∙ ap length (c.nets.ensures.value ∙ ap (λ (n : Netlist). n.nets) c.circuit.ensures.value) in
-    let cells_are : cells ≡ get_or w.owners.now (count + 2) [] = c.group.ensures ∙ ap (λ (n : ℕ). get_or w.owners.now (n + 2) []) nets in
+    let cells_are : cells ≡ get_or w.owners.now (count + 1) [] = c.group.ensures ∙ ap (λ (n : ℕ). get_or w.owners.now (n + 1) []) nets in
     let Joined : List (Share g.row.O-Part.Denot) → Type 0 = Shares means model block w.suspects.now served logic in
     let behind : Joined c.append.new.shares = subst Joined (sym (c.in_ok-append.ensures ∙ ap (λ (piece : List (Share g.row.O-Part.Denot)). logic ++ piece) c.as_slice.ensures))
     (shares_behind means model block w.suspects.now served logic c.in_ok-cells.cells c.in_ok-cells.ensures) in
-    shares_join means model block w.suspects.now (λ i. owner_at i < count + 2) served (λ i. owner_at i < count + 3) [] logic c.append.new.shares c.in_ok-shares.ensures behind
-    (λ i lt below. elim (cases_eq (owner_at i) (count + 2)) [
-      | inl same ↦ inr (owned_in t w.suspects.now w.owners.now (count + 2) cells c.requires.work.owners cells_are i lt same)
+    shares_join means model block w.suspects.now (λ i. owner_at i < count + 1) served (λ i. owner_at i < count + 2) [] logic c.append.new.shares c.in_ok-shares.ensures behind
+    (λ i lt below. elim (cases_eq (owner_at i) (count + 1)) [
+      | inl same ↦ inr (owned_in t w.suspects.now w.owners.now (count + 1) cells c.requires.work.owners cells_are i lt same)
       | inr other ↦ inl (omega (arith, below, other))
     ])

@@ -112,7 +112,7 @@ loop-block-preserved c =
     let seen = c.as_slice.result.now in
     let rows = c.as_slice-in-loop-block.result.now in
     let shares = c.as_slice-in-loop-block-2.result.now in
-    let Known : ℕ → Type 0 = λ i. owner t (suspect_at suspects i).fault < length t.netlist.nets + 3 in
+    let Known : ℕ → Type 0 = λ i. owner t (suspect_at suspects i).fault < length t.netlist.nets + 2 in
     let Part : List (Share BlockCount) → Type 0 = λ xs. Shares (IsCount seen) m b suspects Known [] xs in
     let part : Part shares = subst Part (sym c.as_slice-in-loop-block-2.ensures) c.in_ok-shares.ensures in
     let given : AreBlockShares m b seen suspects shares = record { right = part.right (All-nil _); there = λ i lt. part.there i lt (owner_below t (suspect_at suspects i).fault c.circuit.ensures.fits (c.requires.suspects i no_suspect lt).site) } in

@@ -12,9 +12,11 @@ loop-net-init g c =
     let o = c.args.work.now.observer.now in
     record {
       scratch = c.requires.scratch;
+      kept = c.in_ok-kept.ensures;
       region = record {
         root = no_places;
         held = rw c.new-region.ensures.flip c.new_flip.ensures;
+        flip = rw c.new-region.ensures.net tt;
         members = rw c.new-region.ensures.members (All-nil _);
         path = rw c.new-region.ensures.path (All-nil _);
       };
@@ -32,6 +34,7 @@ loop-net-preserved g c =
     let owner_at : ℕ → ℕ = λ i. owner t (suspect_at suspects i).fault in
     record {
       scratch = c.share_net.ensures.scratch;
+      kept = c.in_ok-share_net.ensures.kept;
       region = c.in_ok-share_net.ensures.region;
       shares = shares_join (g.O.Observer.means o) (g.O.Observer.model o) (g.O.Observer.block o) suspects (λ i. IsAmong nets k (owner_at i)) (IsAmong group (length group)) (λ i. IsAmong nets (k + 1) (owner_at i)) c.args.shares.now c.loop-net.shares c.share_net.new.shares c.loop-net.invariant.shares
           c.in_ok-share_net.ensures.shares

@@ -16,7 +16,7 @@ returns-clause-groups c =
     let inv = c.loop-suspect.invariant in
     let whole : c.loop-suspect.suspect-index ≡ length suspects = omega arith in
     let nets : c.len.result ≡ length t.netlist.nets = c.len.ensures ∙ ap length (c.nets.ensures.value ∙ ap (λ (n : Netlist). n.nets) c.circuit.ensures.value) in
-    grouped t suspects keys c.in_ok-groups.groups (c.len.result + 3) (inv.len ∙ whole) c.in_ok-groups.ensures.len (λ i lt. inv.keys i (omega arith))
+    grouped t suspects keys c.in_ok-groups.groups (c.len.result + 2) (inv.len ∙ whole) c.in_ok-groups.ensures.len (λ i lt. inv.keys i (omega arith))
     (λ i lt. omega (arith, inv.below i (omega arith), inv.keys i (omega arith), nets))
     (λ k lt. c.in_ok-groups.ensures.groups k lt ∙ ap (λ (ks : List ℕ). members ks k (length ks)) c.deref.ensures.value)
 

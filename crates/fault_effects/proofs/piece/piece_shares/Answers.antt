@@ -22,9 +22,6 @@ logic_piece-requires-clause-items g c = let Each : WorkKind → Type 0 = λ kind
 pub logic_piece-requires-in-Pins-clause-items : goal.logic_piece-requires-in-Pins-clause-items
 logic_piece-requires-in-Pins-clause-items g c = let Each : WorkKind → Type 0 = λ kind. All (IsItem c.args.work.now.parts.now c.args.work.now.suspects.now kind) c.args.items.now in subst Each c.in-Pins.is c.requires.items
 
-pub logic_piece-requires-in-Bridges-clause-items : goal.logic_piece-requires-in-Bridges-clause-items
-logic_piece-requires-in-Bridges-clause-items g c = let Each : WorkKind → Type 0 = λ kind. All (IsItem c.args.work.now.parts.now c.args.work.now.suspects.now kind) c.args.items.now in subst Each c.in-Bridges.is c.requires.items
-
 pub returns-in-Cells : goal.returns-in-Cells
 returns-in-Cells g c = subst (Answer (g.O.Observer.means c.args.work.now.observer.now) (g.O.Observer.model c.args.work.now.observer.now) (g.O.Observer.block c.args.work.now.observer.now) c.args.work.now.parts.now c.args.work.now.suspects.now c.args.items.now c.cell_piece.result) (sym c.in-Cells.is) c.cell_piece.ensures
 
@@ -33,6 +30,3 @@ returns-in-Nets g c = subst (Answer (g.O.Observer.means c.args.work.now.observer
 
 pub returns-in-Pins : goal.returns-in-Pins
 returns-in-Pins g c = subst (Answer (g.O.Observer.means c.args.work.now.observer.now) (g.O.Observer.model c.args.work.now.observer.now) (g.O.Observer.block c.args.work.now.observer.now) c.args.work.now.parts.now c.args.work.now.suspects.now c.args.items.now c.logic_piece-in-Pins.result) (sym c.in-Pins.is) c.logic_piece-in-Pins.ensures
-
-pub returns-in-Bridges : goal.returns-in-Bridges
-returns-in-Bridges g c = subst (Answer (g.O.Observer.means c.args.work.now.observer.now) (g.O.Observer.model c.args.work.now.observer.now) (g.O.Observer.block c.args.work.now.observer.now) c.args.work.now.parts.now c.args.work.now.suspects.now c.args.items.now c.logic_piece-in-Bridges.result) (sym c.in-Bridges.is) c.logic_piece-in-Bridges.ensures

@@ -2,7 +2,7 @@ use Rattle.std.proofs.Common.{◌≡◌, ℕ, ◌+◌, ◌<◌, List, [], length
 use Rattle.std.proofs.lemmas.Bool.{cases_eq}
 use Rattle.std.proofs.lemmas.Result.{on_ok_weaker}
 use Rattle.scan_model.specs.Netlist.{Netlist}
-use Rattle.fault_effects.specs.declared.work_kind.WorkKind.TheVariants.{Nets, Pins, Bridges}
+use Rattle.fault_effects.specs.declared.work_kind.WorkKind.TheVariants.{Nets, Pins}
 use Rattle.fault_effects.specs.Owners.{owner, suspect_at}
 use Rattle.fault_effects.specs.Shares.{Shares}
 use Rattle.fault_effects.specs.Pieces.{IsServed}
@@ -24,21 +24,13 @@ returns g c =
     let owner_at : ℕ → ℕ = λ i. owner t (suspect_at suspects i).fault in
     let none = c.args.shares.now in
     let one = c.share_items.new.shares in
-    let two = c.share_items-2.new.shares in
     let count : c.len-count.result ≡ N = c.len-count.ensures ∙ ap length (c.nets.ensures.value ∙ ap (λ (n : Netlist). n.nets) c.circuit.ensures.value) in
     let pins = c.group-pins.result.now in
-    let bridges = c.group-bridges.result.now in
     let pins_are : pins ≡ get_or groups N [] = c.group-pins.ensures ∙ ap (λ (n : ℕ). get_or groups n []) count in
-    let bridges_are : bridges ≡ get_or groups (N + 1) [] = c.group-bridges.ensures ∙ ap (λ (n : ℕ). get_or groups (n + 1) []) count in
-    let with_pins = shares_join means m b suspects (IsServed t suspects Nets c.args.nets.now) (IsServed t suspects Pins pins) (λ i. owner_at i < N + 1) none one two c.in_ok-share_items.ensures.shares c.in_ok-share_items-2.ensures.shares
+    on_ok_weaker c.share_items-2.result
+    (λ (last : Shares means m b suspects (IsServed t suspects Pins pins) one c.share_items-2.new.shares). shares_join means m b suspects (IsServed t suspects Nets c.args.nets.now) (IsServed t suspects Pins pins) (λ i. owner_at i < N + 1) none one c.share_items-2.new.shares c.in_ok-share_items.ensures.shares last
     (λ i lt below. elim (cases_eq (owner_at i) N) [
       | inl same ↦ inr (owned_in t suspects groups N pins c.requires.work.owners pins_are i lt same)
       | inr other ↦ inl (c.requires.all i lt (omega (arith, below, other)))
-    ]) in
-    on_ok_weaker c.share_items-3.result
-    (λ (last : Shares means m b suspects (IsServed t suspects Bridges bridges) two c.share_items-3.new.shares). shares_join means m b suspects (λ i. owner_at i < N + 1) (IsServed t suspects Bridges bridges) (λ i. owner_at i < N + 2) none two c.share_items-3.new.shares with_pins last
-    (λ i lt below. elim (cases_eq (owner_at i) (N + 1)) [
-      | inl same ↦ inr (owned_in t suspects groups (N + 1) bridges c.requires.work.owners bridges_are i lt same)
-      | inr other ↦ inl (omega (arith, below, other))
     ]))
-    c.share_items-3.ensures.shares
+    c.share_items-2.ensures.shares

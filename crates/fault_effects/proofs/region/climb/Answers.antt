@@ -9,6 +9,7 @@ loop-init g c = record {
   region = record {
     root = c.requires.region.root;
     held = c.requires.region.held;
+    flip = c.requires.region.flip;
     members = c.requires.region.members;
     path = rw c.clear.ensures.items (All-nil _);
   };
@@ -26,6 +27,7 @@ loop-preserved g c =
       region = record {
         root = before.root;
         held = before.held;
+        flip = before.flip;
         members = before.members;
         path = subst Each (sym c.in_ok-push.ensures.items) (All-push Below c.loop.region.path.items gate before.path there);
       };

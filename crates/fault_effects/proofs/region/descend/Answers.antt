@@ -9,6 +9,7 @@ returns-in_default-clause-region g c =
     record {
       root = before.root;
       held = before.held;
+      flip = before.flip;
       members = before.members;
       path = (All-pop Below c.loop.region.path.items c.pop.new.self.items c.pop.result c.pop.ensures.items before.path).0;
     }
@@ -20,6 +21,7 @@ enter-requires-clause-region g c =
     record {
       root = before.root;
       held = before.held;
+      flip = before.flip;
       members = before.members;
       path = (All-pop Below c.loop.region.path.items c.pop.new.self.items c.pop.result c.pop.ensures.items before.path).0;
     }
@@ -32,5 +34,6 @@ enter-requires-clause-net g c =
 pub loop-preserved : goal.loop-preserved
 loop-preserved g c = record {
   scratch = c.enter.ensures.scratch;
+  kept = c.in_ok-enter.ensures.kept;
   region = c.in_ok-enter.ensures.region.region;
 }

@@ -23,6 +23,7 @@ returns-clause-region g c =
       region = record {
         root = told.region.root;
         held = told.region.held;
+        flip = told.region.flip;
         members = subst Each (sym c.in_ok-push.ensures.items) (All-push (λ x. ShowsAs m b told.region.root x.net x.lanes) region.members.items member told.region.members told.shows);
         path = told.region.path;
       };

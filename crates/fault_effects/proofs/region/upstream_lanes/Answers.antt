@@ -1,11 +1,12 @@
-use Rattle.std.proofs.Common.{◌-◌, ℕ, List, length, sym, subst}
+use Rattle.std.proofs.Common.{◌≡◌, ◌-◌, ℕ, ◌<◌, true, List, length, sym, subst}
 use Rattle.std.specs.Prelude.{All}
 use Rattle.std.proofs.lemmas.Option.{get_or_from_slice_get, slice_get_within}
 use Rattle.scan_model.specs.ScanTest.{ScanTest}
+use Rattle.lane_rows.specs.GoodRows.{pattern_of}
 use Rattle.fault_effects.specs.declared.region.Member.{Member}
 use Rattle.fault_effects.specs.Readers.{IsPinOf}
 use Rattle.fault_effects.specs.Regions.{ShowsAs}
-use Rattle.fault_effects.proofs.Effects.{behind_reader}
+use Rattle.fault_effects.proofs.Effects.{through_reader, through_both}
 use Rattle.fault_effects.proofs.region.upstream_lanes.Goals as goal
 
 pub downstream-lanes-requires-clause-pin : goal.downstream-lanes-requires-clause-pin
@@ -32,8 +33,9 @@ returns g c =
     let member : Shown last = subst Shown (get_or_from_slice_get members i last last told) (each i last (slice_get_within members i last told)) in
     let Above : ℕ → Type 0 = λ n. ShowsAs m b root n last.lanes in
     let Of : ScanTest → Type 0 = λ x. IsPinOf x reader.pin reader.gate in
+    let step = through_reader t work.faults m work.model b c.args.net reader c.downstream-lanes.result sole
+    (λ (j : ℕ) (lt : j < 512) (captured : m.captures (pattern_of b j) ≡ true). c.downstream-lanes.ensures reader.gate j (subst Of (sym work.test) sole.operand) lt captured) in
     record {
       region = region;
-      shows = behind_reader t work.faults m work.model b root c.args.net reader last.lanes c.downstream-lanes.result c.and.result sole
-          (λ j lt captured. c.downstream-lanes.ensures reader.gate j (subst Of (sym work.test) sole.operand) lt captured) c.and.ensures (subst Above (sym c.if-reader-last.false) member);
+      shows = through_both m b root c.args.net reader.gate c.downstream-lanes.result last.lanes c.and.result step (subst Above (sym c.if-reader-last.false) member) c.and.ensures;
     }

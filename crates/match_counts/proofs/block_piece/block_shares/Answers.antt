@@ -15,7 +15,7 @@ pub returns : goal.returns
 returns g c =
     let w = c.args.work.now in
     let Served : List Piece → ℕ → Type 0 = IsServedIn w.parts.now w.suspects.now in
-    let Known : ℕ → Type 0 = λ i. owner w.parts.now (suspect_at w.suspects.now i).fault < length w.parts.now.netlist.nets + 3 in
+    let Known : ℕ → Type 0 = λ i. owner w.parts.now (suspect_at w.suspects.now i).fault < length w.parts.now.netlist.nets + 2 in
     let pieces = c.deref.result.now in
     IfOk-weaker c.shares_of_pieces.result (λ all. CountShares w (Served pieces) [] (flat_map (λ (s : List (Share BlockCount)). s) all.items)) (λ all. CountShares w Known [] (flat_map (λ (s : List (Share BlockCount)). s) all.items))
     (λ all shares. shares_chosen (IsCount w.observer.now.rows.now) (model_of w.observer.now) (block_of w.observer.now) w.suspects.now (Served pieces) Known [] (flat_map (λ (s : List (Share BlockCount)). s) all.items)

@@ -72,7 +72,7 @@ loop-block-preserved g c =
     let seen = c.as_slice.result.now in
     let rows = c.as_slice-in-loop-block.result.now in
     let shares = flat_map (λ (s : List (Share BlockCount)). s) c.deref-in-loop-block-3.result.now in
-    let Known : ℕ → Type 0 = λ i. owner t (suspect_at suspects i).fault < length t.netlist.nets + 3 in
+    let Known : ℕ → Type 0 = λ i. owner t (suspect_at suspects i).fault < length t.netlist.nets + 2 in
     let Lists : List (List (Share BlockCount)) → Type 0 = λ lists. Shares (IsCount seen) m b suspects Known [] (flat_map (λ (s : List (Share BlockCount)). s) lists) in
     let part : Lists c.deref-in-loop-block-3.result.now = subst Lists (sym c.deref-in-loop-block-3.ensures.value) c.in_ok-pieces.ensures in
     let given : AreBlockShares m b seen suspects shares = record { right = part.right (All-nil _); there = λ i lt. part.there i lt (owner_below t (suspect_at suspects i).fault c.circuit.ensures.fits (c.requires.suspects i no_suspect lt).site) } in

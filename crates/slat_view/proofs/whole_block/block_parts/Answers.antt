@@ -26,13 +26,13 @@ returns g c =
     let logic = c.in_ok-shares.shares in
     let cells = flat_map (λ (s : List (Share (List ℕ))). s) c.deref.result.now in
     let count : c.len-count.result ≡ N = c.len-count.ensures ∙ ap length (c.nets.ensures.value ∙ ap (λ (n : Netlist). n.nets) c.circuit.ensures.value) in
-    let cells_are : group ≡ get_or w.owners.now (N + 2) [] = c.group-group.ensures ∙ ap (λ (n : ℕ). get_or w.owners.now (n + 2) []) count in
+    let cells_are : group ≡ get_or w.owners.now (N + 1) [] = c.group-group.ensures ∙ ap (λ (n : ℕ). get_or w.owners.now (n + 1) []) count in
     let Pieces : List (List (Share (List ℕ))) → Type 0 = λ pieces. FitShares w served [] (flat_map (λ (s : List (Share (List ℕ))). s) pieces) in
     let of_cells : Pieces c.deref.result.now = subst Pieces (sym c.deref.ensures.value) c.in_ok-cells.ensures in
     let Joined : List (Share (List ℕ)) → Type 0 = FitShares w served logic in
     let behind : Joined c.append_all.new.shares = subst Joined (sym c.in_ok-append_all.ensures) (shares_behind (AreFitting o.points.rows.now) (model_of o) (block_of o) suspects served logic cells of_cells) in
-    shares_join (AreFitting o.points.rows.now) (model_of o) (block_of o) suspects (λ i. owner_at i < N + 2) served (λ i. owner_at i < N + 3) [] logic c.append_all.new.shares c.in_ok-shares.ensures behind
-    (λ i lt below. elim (cases_eq (owner_at i) (N + 2)) [
-      | inl same ↦ inr (owned_in t suspects w.owners.now (N + 2) group c.requires.work.owners cells_are i lt same)
+    shares_join (AreFitting o.points.rows.now) (model_of o) (block_of o) suspects (λ i. owner_at i < N + 1) served (λ i. owner_at i < N + 2) [] logic c.append_all.new.shares c.in_ok-shares.ensures behind
+    (λ i lt below. elim (cases_eq (owner_at i) (N + 1)) [
+      | inl same ↦ inr (owned_in t suspects w.owners.now (N + 1) group c.requires.work.owners cells_are i lt same)
       | inr other ↦ inl (omega (arith, below, other))
     ])
