@@ -15,4 +15,5 @@ pub use ranking::{rank, rank_by_numbers, rank_in_threads};
 pub use report::{PastEnd, Report};
 pub use report_lines::ReportNames;
 pub use summary::summary_text;
+pub use tally::{Tally, tally_bits};
 pub use text::{Head, make_text, make_text_of};

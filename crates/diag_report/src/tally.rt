@@ -14,13 +14,13 @@ use log_rows::{Side, side_word};
 use scan_model::{Bit, BitClass, Expected, NoMemory, Rows};
 use std::alloc::Global;
 
-/// How many bits are Failing and Passing, and which are Conflict and Masked.
+/// How many bits of a die are Failing and Passing, and which are Conflict and Masked.
 #[derive(Drop)]
-pub(crate) struct Tally {
-    pub(crate) failing: u64,
-    pub(crate) passing: u64,
-    pub(crate) conflict: Rows<Bit>,
-    pub(crate) masked: Rows<Bit>,
+pub struct Tally {
+    pub failing: u64,
+    pub passing: u64,
+    pub conflict: Rows<Bit>,
+    pub masked: Rows<Bit>,
 }
 
 /// How many bits of the 64 patterns of a word are of a side.
@@ -138,12 +138,9 @@ fn list_word(
     Ok(())
 }
 
-/// Divides all bits into classes, 64 patterns at a time.
-pub(crate) fn tally_bits(
-    alloc: Global,
-    expected: &Expected,
-    joined: &Joined,
-) -> Result<Tally, NoMemory>
+/// Divides all bits of joined logs into the classes that the given expected values make, and lists the Conflict and the Masked
+/// ones in bit order. Takes time linear in the bits, of which it reads those of 64 patterns at a time.
+pub fn tally_bits(alloc: Global, expected: &Expected, joined: &Joined) -> Result<Tally, NoMemory>
     requires expected { FitsExpected expected.now joined.now }
     requires patterns { joined.now.patterns ≤ pattern_limit }
     ensures classes { (logs : List LogFacts) → StandsFor logs joined.now → IfOk result (λ tally. tally ≡ tally_over (class_with expected.now logs) (bits_over joined.now.patterns joined.now.points)) }

@@ -1,14 +1,17 @@
 //! The text of a report, head first.
 ghost use Rattle.std.specs.Prelude.{◌≡◌, ◌<◌, ◌≤◌, [], List, All, length, IfOk, OnOk};
+ghost use Rattle.scan_model.specs.declared.logs.Bit.{Bit};
+ghost use Rattle.scan_model.specs.declared.logs.BitClass.{BitClass};
 ghost use Rattle.scan_model.specs.declared.logs.LogFacts.{LogFacts};
 ghost use Rattle.scan_model.specs.ScanTest.{points_of};
 ghost use Rattle.scan_model.specs.PatternText.{pattern_limit};
-ghost use Rattle.scan_model.specs.Coverage.{bits_over};
+ghost use Rattle.scan_model.specs.Coverage.{bits_of, bits_over};
 ghost use Rattle.scan_model.specs.Classes.{class_with};
 ghost use Rattle.scan_model.specs.Universe.{universe};
 ghost use Rattle.scan_model.specs.ReportText as text_of;
-ghost use Rattle.log_join.specs.Joining.{StandsFor, IsJoinedOf, FitsExpected};
+ghost use Rattle.log_join.specs.Joining.{StandsFor, FitsExpected};
 ghost use Rattle.report_lines.specs.LineEnds.{AddsLines, HasLines};
+ghost use Rattle.diag_report.specs.BitTally.{tally_over};
 ghost use Rattle.diag_report.specs.Layout.{title_lines, total_lines, opening_lines, layout};
 
 use crate::names::PartsNames;
@@ -160,25 +163,23 @@ pub fn make_text_of<N: ReportNames>(
     written(alloc, names, head, &tally, ranked.as_slice())
 }
 
-/// The report of a die: its head, the Conflict and the Masked bits in bit order, and its candidates in their order. The
-/// classes are those that the given expected values make. Many candidates are written in pieces, one for each processor.
-/// Takes time linear in the text and in the bits.
+/// The report of a die: its head, the Conflict and the Masked bits in bit order, and its candidates in their order. Where the
+/// tally is that of all bits by some classes, the report is by these. Many candidates are written in pieces, one for each
+/// processor. Takes time linear in the text.
 pub fn make_text<R: Threads + Sync>(
     rt: &R,
     alloc: Global,
     parts: &Parts,
     head: &Head,
-    expected: &Expected,
-    joined: &Joined,
+    tally: &Tally,
     ranked: &Rows<Scored>,
 ) -> Result<Report, NoMemory>
-    requires expected { FitsExpected expected.now joined.now }
-    requires joined { IsJoinedOf (length parts.now.patterns) (length (points_of parts.now)) joined.now }
+    requires conflict { All (λ b. b.point < length (points_of parts.now)) tally.now.conflict }
+    requires masked { All (λ b. b.point < length (points_of parts.now)) tally.now.masked }
     requires places { All (λ row. row.place < length (universe parts.now)) ranked.now }
-    ensures { (logs : List LogFacts) → StandsFor logs joined.now → IfOk result (λ r. r ≡ text_of.layout_by_class (universe parts.now) parts.now head.now.design head.now.die head.now.logs (class_with expected.now logs) ranked.now) }
+    ensures { (classes : Bit → BitClass) → tally.now ≡ tally_over classes (bits_of parts.now)
+        → IfOk result (λ r. r ≡ text_of.layout_by_class (universe parts.now) parts.now head.now.design head.now.die head.now.logs classes ranked.now) }
 {
-    let _ = parts.patterns();
     let names = PartsNames { parts };
-    let tally = tally_bits(alloc, expected, joined)?;
-    written_in_pieces(rt, alloc, &names, head, &tally, ranked.as_slice())
+    written_in_pieces(rt, alloc, &names, head, tally, ranked.as_slice())
 }

@@ -8,17 +8,20 @@ ghost use Rattle.scan_model.specs.Ranking.{ranked};
 ghost use Rattle.log_join.specs.Joining.{StandsFor, IsJoinedOf};
 ghost use Rattle.diagnosis.specs.Designs.{StandsOver, facts_of};
 ghost use Rattle.diagnosis.specs.Cases.{case_lines};
-ghost use Rattle.diagnosis.specs.Subjects.{IsSubject, subject_case};
+ghost use Rattle.diagnosis.specs.Subjects.{IsSubject, AreItsLogs, IsTallyOver, subject_case, subject_candidates};
 
 use crate::log::ReadLog;
-use diag_report::{Head, Report, make_text, rank_in_threads};
+use diag_report::{Head, Report, Tally, make_text, rank_in_threads, tally_bits};
 use log_join::Joined;
 use match_counts::counts;
 use packed_sim::PackedGood;
 use scan_model::{Expected, Name, NoMemory, Parts, Rows, Scored};
 use std::alloc::Global;
 use std::sync::Arc;
-use std::thread::Threads;
+use std::thread::{Threads, available_parallelism, join};
+
+/// How few bits aren't worth a thread.
+const LEAST_BITS: usize = 262_144;
 
 /// The report of a die, and the candidates that it lists, best first.
 #[derive(Drop)]
@@ -64,19 +67,107 @@ fn head_of(alloc: Global, design: &[u8], die: &[u8], logs: u64) -> Result<Head, 
     Ok(Head { design, die, logs })
 }
 
-// The report over the logs of a die, joined, given its candidates in order.
-fn report_over<R: Threads + Sync>(
+/// Whether the joined logs have so many bits that their division into classes is worth a thread, and there is more than one
+/// processor.
+fn wants_threads<R: Threads>(rt: &R, joined: &Joined) -> bool {
+    let bits = (joined.patterns() as usize).saturating_mul(joined.points() as usize);
+    if bits < LEAST_BITS {
+        return false;
+    }
+    match available_parallelism(rt) {
+        Ok(processors) => processors.get() > 1,
+        Err(_) => false,
+    }
+}
+
+// The candidates of a die with their counts.
+fn counts_of<R: Threads + Sync>(
     rt: &R,
     alloc: Global,
     subject: &Subject<'_>,
     joined: &Joined,
+) -> Result<Rows<Scored>, NoMemory>
+    requires subject { IsSubject subject.now }
+    requires joined { AreItsLogs subject.now joined.now }
+    ensures { IfOk result (λ rows. rows ≡ subject_candidates subject.now) }
+{
+    counts(
+        rt,
+        alloc,
+        subject.parts,
+        subject.good,
+        subject.expected,
+        joined,
+    )
+}
+
+// The bits of a die by class.
+fn tally_of(alloc: Global, subject: &Subject<'_>, joined: &Joined) -> Result<Tally, NoMemory>
+    requires subject { IsSubject subject.now }
+    requires joined { AreItsLogs subject.now joined.now }
+    ensures { IfOk result (IsTallyOver subject.now) }
+{
+    let _ = subject.parts.patterns();
+    tally_bits(alloc, subject.expected, joined)
+}
+
+// Both at the same time: the counts are made in this thread.
+fn counts_beside_tally<R: Threads + Sync>(
+    rt: &R,
+    alloc: Global,
+    subject: &Subject<'_>,
+    joined: &Joined,
+) -> (Result<Tally, NoMemory>, Result<Rows<Scored>, NoMemory>)
+    requires subject { IsSubject subject.now }
+    requires joined { AreItsLogs subject.now joined.now }
+    ensures tally { IfOk result.0 (IsTallyOver subject.now) }
+    ensures rows { IfOk result.1 (λ rows. rows ≡ subject_candidates subject.now) }
+{
+    let tally = move || -> Result<Tally, NoMemory>
+        requires subject { IsSubject subject.now }
+        requires joined { AreItsLogs subject.now joined.now }
+        ensures { IfOk result (IsTallyOver subject.entry.now) }
+    { tally_of(alloc, subject, joined) };
+    let rows = move || -> Result<Rows<Scored>, NoMemory>
+        requires subject { IsSubject subject.now }
+        requires joined { AreItsLogs subject.now joined.now }
+        ensures { IfOk result (λ rows. rows ≡ subject_candidates subject.entry.now) }
+    { counts_of(rt, alloc, subject, joined) };
+    join(rt, tally, rows)
+}
+
+// Both; where the bits are few, or there is one processor, one after the other.
+fn counts_and_tally<R: Threads + Sync>(
+    rt: &R,
+    alloc: Global,
+    subject: &Subject<'_>,
+    joined: &Joined,
+) -> (Result<Tally, NoMemory>, Result<Rows<Scored>, NoMemory>)
+    requires subject { IsSubject subject.now }
+    requires joined { AreItsLogs subject.now joined.now }
+    ensures tally { IfOk result.0 (IsTallyOver subject.now) }
+    ensures rows { IfOk result.1 (λ rows. rows ≡ subject_candidates subject.now) }
+{
+    if wants_threads(rt, joined) {
+        return counts_beside_tally(rt, alloc, subject, joined);
+    }
+    let rows = counts_of(rt, alloc, subject, joined);
+    let tally = tally_of(alloc, subject, joined);
+    (tally, rows)
+}
+
+// The report of a die, given the classes of its bits and its candidates in order.
+fn report_over<R: Threads + Sync>(
+    rt: &R,
+    alloc: Global,
+    subject: &Subject<'_>,
+    tally: &Tally,
     rows: &Rows<Scored>,
 ) -> Result<Report, NoMemory>
     requires subject { IsSubject subject.now }
-    requires size { IsJoinedOf (length subject.now.parts.now.patterns) (length (points_of subject.now.parts.now)) joined.now }
-    requires stands { StandsFor (facts_of (subject_case subject.now).logs) joined.now }
+    requires tally { IsTallyOver subject.now tally.now }
     requires places { All (λ row. row.place < length (universe subject.now.parts.now)) rows.now }
-    requires ranked { rows.now ≡ ranked (candidates subject.now.parts.now (facts_of (subject_case subject.now).logs)) }
+    requires ranked { rows.now ≡ ranked (subject_candidates subject.now) }
     ensures { IfOk result (λ report. report ≡ case_lines (subject_case subject.now)) }
 {
     let head = head_of(
@@ -85,8 +176,7 @@ fn report_over<R: Threads + Sync>(
         subject.die,
         subject.logs.len() as u64,
     )?;
-    let (parts, expected) = (subject.parts, subject.expected);
-    make_text(rt, alloc, parts, &head, expected, joined, rows)
+    make_text(rt, alloc, subject.parts, &head, tally, rows)
 }
 
 // The diagnosis of a die from its logs, joined.
@@ -97,15 +187,15 @@ fn diagnosis_over<R: Threads + Sync>(
     joined: &Joined,
 ) -> Result<Diagnosis, NoMemory>
     requires subject { IsSubject subject.now }
-    requires size { IsJoinedOf (length subject.now.parts.now.patterns) (length (points_of subject.now.parts.now)) joined.now }
-    requires stands { StandsFor (facts_of (subject_case subject.now).logs) joined.now }
+    requires joined { AreItsLogs subject.now joined.now }
     ensures lines { IfOk result (λ d. d.report ≡ case_lines (subject_case subject.now)) }
-    ensures candidates { IfOk result (λ d. d.candidates ≡ ranked (candidates subject.now.parts.now (facts_of (subject_case subject.now).logs))) }
+    ensures candidates { IfOk result (λ d. d.candidates ≡ ranked (subject_candidates subject.now)) }
 {
-    let (parts, good, expected) = (subject.parts, subject.good, subject.expected);
-    let mut rows = counts(rt, alloc, parts, good, expected, joined)?;
+    let (tally, rows) = counts_and_tally(rt, alloc, subject, joined);
+    let tally = tally?;
+    let mut rows = rows?;
     rank_in_threads(rt, alloc, &mut rows);
-    let report = report_over(rt, alloc, subject, joined, &rows)?;
+    let report = report_over(rt, alloc, subject, &tally, &rows)?;
     Ok(Diagnosis {
         report,
         candidates: rows,
