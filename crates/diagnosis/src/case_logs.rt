@@ -6,6 +6,7 @@ ghost use Rattle.scan_model.specs.LogText.{log_frame, log_reading};
 ghost use Rattle.scan_model.specs.DieReport.{die_report};
 ghost use Rattle.scan_model.specs.ReportText as text_of;
 ghost use Rattle.packed_sim.specs.PackedParts.{BelongsTo};
+ghost use Rattle.text_parts.specs.declared.fault.ReadFault.TheVariants as read_fault;
 ghost use Rattle.text_parts.specs.ReadResults.{Fails, Gives};
 ghost use Rattle.diagnosis.specs.Designs.{HaveSameTexts, texts_of};
 ghost use Rattle.diagnosis.specs.Cases.{IsLogOver, AddedAmong, IsTextAdded, with_logs, case_lines, case_report};
@@ -15,7 +16,7 @@ use crate::diagnosed::{Subject, diagnosis_of};
 use crate::log::{ReadLog, log_over};
 use crate::logs::push_log;
 use crate::put::Put;
-use crate::simulation::Simulation;
+use crate::simulation::{Simulation, read_and_simulated};
 use diag_report::Report;
 use scan_model::{Name, NoMemory, Parts, Rows};
 use std::alloc::Global;
@@ -85,6 +86,50 @@ impl<'a> CaseLogs<'a> {
         Ok(self.push(alloc, log)?)
     }
 
+    /// Adds a log as `add` does, which is read in a thread of its own while this one simulates the design.
+    pub fn add_beside<R: Threads>(
+        &mut self,
+        rt: &R,
+        alloc: Global,
+        text: Name,
+    ) -> (Result<Put, ReadFault>, Result<Simulation, NoMemory>)
+        ensures added { IfOk result.0 (λ put. IsTextAdded put text self.old self.new.logs) }
+        ensures kept { self.new ≡ with_logs self.old self.new.logs }
+        ensures fault { IfErr result.0 (λ fault. Fails fault (log_reading (log_frame self.old.test self.old.design self.old.die) text)) }
+        ensures err { OnErr result.0 (self.new ≡ self.old) }
+        ensures good { IfOk result.1 (λ made. BelongsTo self.old.test made.good) }
+        ensures expected { IfOk result.1 (λ made. made.expected ≡ expected_rows self.old.test) }
+    {
+        let (log, simulation) = self.read_beside(rt, alloc, text);
+        match log {
+            Ok(log) => (self.add_read(alloc, log), simulation),
+            Err(fault) => (Err(fault), simulation),
+        }
+    }
+
+    // The log of that text, and the simulation of the design, made at the same time.
+    fn read_beside<R: Threads>(
+        &self,
+        rt: &R,
+        alloc: Global,
+        text: Name,
+    ) -> (Result<ReadLog, ReadFault>, Result<Simulation, NoMemory>)
+        ensures text { IfOk result.0 (λ log. log.text ≡ text) }
+        ensures log { IfOk result.0 (IsLogOver self.now.test self.now.design self.now.die) }
+        ensures reading { Gives (λ log. log.facts) result.0 (log_reading (log_frame self.now.test self.now.design self.now.die) text) }
+        ensures good { IfOk result.1 (λ made. BelongsTo self.now.test made.good) }
+        ensures expected { IfOk result.1 (λ made. made.expected ≡ expected_rows self.now.test) }
+    {
+        read_and_simulated(
+            rt,
+            alloc,
+            self.parts,
+            self.design.as_slice(),
+            self.die.as_slice(),
+            text,
+        )
+    }
+
     // The log of that text, over the parts of the design.
     fn read(&self, alloc: Global, text: Name) -> Result<ReadLog, ReadFault>
         ensures text { IfOk result (λ log. log.text ≡ text) }
@@ -109,6 +154,17 @@ impl<'a> CaseLogs<'a> {
     {
         let log = Arc::new(alloc, log)?;
         push_log(&mut self.logs, log)
+    }
+
+    // Adds a log that was read. A refusal is want of memory.
+    fn add_read(&mut self, alloc: Global, log: ReadLog) -> Result<Put, ReadFault>
+        requires { IsLogOver self.old.test self.old.design self.old.die log }
+        ensures added { IfOk result (λ put. AddedAmong put log self.old.logs self.new.logs) }
+        ensures kept { self.new ≡ with_logs self.old self.new.logs }
+        ensures fault { IfErr result (λ fault. fault ≡ read_fault.NoMemory) }
+        ensures err { OnErr result (self.new ≡ self.old) }
+    {
+        Ok(self.push(alloc, log)?)
     }
 
     // What a diagnosis is made of, with the simulation of the design.
