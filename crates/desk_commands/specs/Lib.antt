@@ -8,3 +8,4 @@ pub mod CommandEnds
 pub mod Logs
 pub mod Views
 pub mod Designs
+pub mod Dies

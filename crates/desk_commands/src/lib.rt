@@ -3,6 +3,7 @@
 
 mod commands;
 mod design;
+mod die;
 mod files;
 mod launches;
 mod logs;

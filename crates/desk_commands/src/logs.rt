@@ -10,7 +10,6 @@ ghost use Rattle.desk_commands.specs.Work.{log_file, logs_reading};
 
 use crate::files::{Stop, named, read_text};
 use desk_outside::Shelf;
-use diagnosis::CaseLogs;
 use scan_model::Name;
 use std::alloc::Global;
 use text_parts::ReadFault;
@@ -34,24 +33,6 @@ pub trait DieLogs {
         ensures fault { IfErr result (λ fault. Fails fault (log_reading (frame self.old) text)) }
         ensures kept { bare self.new ≡ bare self.old }
         ensures same_frame { frame self.new ≡ frame self.old };
-}
-
-impl DieLogs for CaseLogs<'_> {
-    ghost use Rattle.std.specs.Prelude.{[]};
-    ghost use Rattle.scan_model.specs.LogText.{log_frame};
-    ghost use Rattle.diagnosis.specs.Designs.{texts_of};
-    ghost use Rattle.diagnosis.specs.Cases.{with_logs};
-
-    ghost frame = { λ k. log_frame k.test k.design k.die };
-
-    ghost texts = { λ k. texts_of k.logs };
-
-    ghost bare = { λ k. with_logs k [] };
-
-    fn add_text(&mut self, alloc: Global, text: Name) -> Result<(), ReadFault> {
-        self.add(alloc, text)?;
-        Ok(())
-    }
 }
 
 // Adds the log of the die in the file of that name, unless one of equal text is there.

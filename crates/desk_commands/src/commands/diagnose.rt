@@ -11,11 +11,12 @@ ghost use Rattle.command_words.specs.CommandViews.{shown_order};
 ghost use Rattle.desk_commands.specs.CommandStops.{Follows, ends_by_fault};
 
 use crate::design::read_design;
+use crate::die::SimulatedDie;
 use crate::files::Stop;
 use crate::logs::add_logs;
 use command_words::Order;
 use desk_outside::Shelf;
-use diagnosis::{CaseLogs, ReadDesign, report_of_logs, simulated_in_threads};
+use diagnosis::{ReadDesign, report_of_logs};
 use scan_model::{Name, Parts};
 use std::alloc::Global;
 use std::mem::forget;
@@ -26,7 +27,7 @@ fn report_of_case<'a, R: Threads + Sync, F: Shelf>(
     rt: &R,
     alloc: Global,
     shelf: &mut F,
-    case: &mut CaseLogs<'_>,
+    case: &mut SimulatedDie<'_, R>,
     names: &[&'a str],
 ) -> Result<Name, Stop<'a>>
     requires { case.old.logs ≡ [] }
@@ -36,8 +37,8 @@ fn report_of_case<'a, R: Threads + Sync, F: Shelf>(
     ensures later { F.faults shelf.old ≤ F.faults shelf.new }
 {
     add_logs(alloc, shelf, case, names)?;
-    let simulation = simulated_in_threads(rt, alloc, case.parts())?;
-    let report = report_of_logs(rt, alloc, case, &simulation);
+    let simulation = case.take_simulation(alloc)?;
+    let report = report_of_logs(rt, alloc, case.logs(), &simulation);
     forget(simulation);
     Ok(report?.into_text())
 }
@@ -59,7 +60,7 @@ fn report_over_parts<'a, R: Threads + Sync, F: Shelf>(
     ensures fault { ends_by_fault result ≡ true → Rose (F.faults shelf.old) (F.faults shelf.new) }
     ensures later { F.faults shelf.old ≤ F.faults shelf.new }
 {
-    let mut case = CaseLogs::make(alloc, design, die, parts)?;
+    let mut case = SimulatedDie::make(rt, alloc, design, die, parts)?;
     let report = report_of_case(rt, alloc, shelf, &mut case, names);
     forget(case);
     report

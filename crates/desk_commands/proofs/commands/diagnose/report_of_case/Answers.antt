@@ -1,8 +1,9 @@
-use Rattle.std.proofs.Common.{◌∙◌, ℕ, List, Ok, Err, map, subst}
+use Rattle.std.proofs.Common.{◌∙◌, ℕ, List, Ok, Err, map, ap, subst}
 use Rattle.std.proofs.lemmas.Result.{err_from_is_err_and}
 use Rattle.scan_model.specs.LogText.{log_frame}
 use Rattle.scan_model.specs.DieReport.{die_report}
 use Rattle.diagnosis.specs.Designs.{texts_of}
+use Rattle.diagnosis.specs.Cases.{case_report}
 use Rattle.desk_commands.specs.FileReadings.{Reading}
 use Rattle.desk_commands.specs.CommandStops.{Follows}
 use Rattle.desk_commands.proofs.ReadLogs.{no_report, report_follows}
@@ -24,6 +25,7 @@ returns-clause-told g c = λ held r d test design die logs e.
     let names = map (λ name. name.now) c.args.names.now in
     let new = c.add_logs.new.die in
     let read = c.in_ok-add_logs.ensures.read held e in
-    let written = c.into_text.ensures ∙ c.in_ok-report.ensures.report ∙ report_is k new read.all c.add_logs.ensures.kept read.are_different in
+    let same = c.logs.ensures ∙ c.take_simulation.ensures.same in
+    let written = c.into_text.ensures ∙ c.in_ok-report.ensures.report ∙ ap case_report same ∙ report_is k new read.all c.add_logs.ensures.kept read.are_different in
     subst (λ (reading : Reading (List ℕ)). Follows (Ok c.into_text.result) reading) (same_reading held r d k names test design die logs)
     (report_follows held (log_frame k.test k.design k.die) names (die_report k.test k.design k.die) (texts_of new.logs) c.into_text.result read written)
