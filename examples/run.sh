@@ -50,6 +50,23 @@ the_day() {
     expect 0 demo-large.expected demo 7 200
 }
 
+# Logs of more than 256 KiB, which are read while the design is simulated where there are several processors: those of the day,
+# longer by comments, and one whose last line breaks a rule.
+the_long_logs() {
+    mkdir "$work/long"
+    cd "$work/long" || exit 1
+    cp "$top"/examples/day/* .
+    for log in first second; do
+        yes '# behind the fails' | head -n 16384 >>$log.log
+    done
+    expect 0 report.expected diagnose block wafer3.17 block.bench block.scan block.pat block.csv first.log second.log
+    expect 0 report.expected diagnose block wafer3.17 block.bench block.scan block.pat block.csv second.log first.log second.log
+    echo fail >>second.log
+    lines=$(wc -l <second.log)
+    expect_line 3 "second.log line $lines rule 62" diagnose block wafer3.17 block.bench block.scan block.pat block.csv first.log second.log
+    expect_line 3 "second.log line $lines rule 62" diagnose block wafer3.17 block.bench block.scan block.pat block.csv second.log first.log
+}
+
 # The files of s27 with one of them replaced by the example of a rule.
 the_files() {
     cp "$top"/examples/s27/* .
@@ -389,6 +406,7 @@ the_day_in_a_browser() {
 }
 
 the_day
+the_long_logs
 the_day_over_http
 the_commands
 the_sentences
