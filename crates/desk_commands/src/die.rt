@@ -9,10 +9,11 @@ ghost use Rattle.diagnosis.specs.Cases.{IsTextAdded, with_logs};
 
 use crate::logs::DieLogs;
 use diagnosis::{CaseLogs, Put, Simulation, simulated_in_threads};
+use rayon::current_num_threads;
 use scan_model::{Name, NoMemory, Parts};
 use std::alloc::Global;
 use std::marker::Model;
-use std::thread::{Threads, available_parallelism};
+use std::thread::Threads;
 use text_parts::ReadFault;
 
 /// The least length of a log that is worth a thread, in bytes.
@@ -36,14 +37,6 @@ impl<'a, R> Model for SimulatedDie<'a, R> {
     ghost view = { λ d. d.logs };
 
     ghost invariant = { λ d. IfSome d.simulation (IsSimulationOf d.logs.test) };
-}
-
-// Whether there are several processors.
-fn has_processors<R: Threads>(rt: &R) -> bool {
-    match available_parallelism(rt) {
-        Ok(processors) => processors.get() > 1,
-        Err(_) => false,
-    }
 }
 
 impl<'a, R: Threads> SimulatedDie<'a, R> {
@@ -76,7 +69,7 @@ impl<'a, R: Threads> SimulatedDie<'a, R> {
 
     // Whether the design is still to be simulated, and a log of that text is worth a thread.
     fn wants_thread(&self, text: &[u8]) -> bool {
-        self.simulation.is_none() && text.len() >= LONG_LOG && has_processors(self.rt)
+        self.simulation.is_none() && text.len() >= LONG_LOG && current_num_threads(self.rt) > 1
     }
 
     // Adds a log as `CaseLogs::add` does. Where memory ran out for the simulation, it will be made after the logs.

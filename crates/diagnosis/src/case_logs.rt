@@ -86,7 +86,8 @@ impl<'a> CaseLogs<'a> {
         Ok(self.push(alloc, log)?)
     }
 
-    /// Adds a log as `add` does, which is read in a thread of its own while this one simulates the design.
+    /// Adds a log as `add` does, while a thread of its own simulates the design. The first answer is that of `add`; the second is
+    /// the simulation, whatever came of the log, or want of memory for it.
     pub fn add_beside<R: Threads>(
         &mut self,
         rt: &R,

@@ -15,10 +15,11 @@ use diag_report::{Head, Report, Tally, make_text, rank_in_threads, tally_bits};
 use log_join::Joined;
 use match_counts::counts;
 use packed_sim::PackedGood;
+use rayon::current_num_threads;
 use scan_model::{Expected, Name, NoMemory, Parts, Rows, Scored};
 use std::alloc::Global;
 use std::sync::Arc;
-use std::thread::{Threads, available_parallelism, join};
+use std::thread::{Threads, join};
 
 /// How few bits aren't worth a thread.
 const LEAST_BITS: usize = 262_144;
@@ -71,13 +72,7 @@ fn head_of(alloc: Global, design: &[u8], die: &[u8], logs: u64) -> Result<Head, 
 /// processor.
 fn wants_threads<R: Threads>(rt: &R, joined: &Joined) -> bool {
     let bits = (joined.patterns() as usize).saturating_mul(joined.points() as usize);
-    if bits < LEAST_BITS {
-        return false;
-    }
-    match available_parallelism(rt) {
-        Ok(processors) => processors.get() > 1,
-        Err(_) => false,
-    }
+    bits >= LEAST_BITS && current_num_threads(rt) > 1
 }
 
 // The candidates of a die with their counts.
@@ -111,32 +106,7 @@ fn tally_of(alloc: Global, subject: &Subject<'_>, joined: &Joined) -> Result<Tal
     tally_bits(alloc, subject.expected, joined)
 }
 
-// Both at the same time: the counts are made in this thread.
-fn counts_beside_tally<R: Threads + Sync>(
-    rt: &R,
-    alloc: Global,
-    subject: &Subject<'_>,
-    joined: &Joined,
-) -> (Result<Tally, NoMemory>, Result<Rows<Scored>, NoMemory>)
-    requires subject { IsSubject subject.now }
-    requires joined { AreItsLogs subject.now joined.now }
-    ensures tally { IfOk result.0 (IsTallyOver subject.now) }
-    ensures rows { IfOk result.1 (λ rows. rows ≡ subject_candidates subject.now) }
-{
-    let tally = move || -> Result<Tally, NoMemory>
-        requires subject { IsSubject subject.now }
-        requires joined { AreItsLogs subject.now joined.now }
-        ensures { IfOk result (IsTallyOver subject.entry.now) }
-    { tally_of(alloc, subject, joined) };
-    let rows = move || -> Result<Rows<Scored>, NoMemory>
-        requires subject { IsSubject subject.now }
-        requires joined { AreItsLogs subject.now joined.now }
-        ensures { IfOk result (λ rows. rows ≡ subject_candidates subject.entry.now) }
-    { counts_of(rt, alloc, subject, joined) };
-    join(rt, tally, rows)
-}
-
-// Both; where the bits are few, or there is one processor, one after the other.
+// Both, at the same time where the bits are many and there are several processors; the counts are made in this thread.
 fn counts_and_tally<R: Threads + Sync>(
     rt: &R,
     alloc: Global,
@@ -148,12 +118,21 @@ fn counts_and_tally<R: Threads + Sync>(
     ensures tally { IfOk result.0 (IsTallyOver subject.now) }
     ensures rows { IfOk result.1 (λ rows. rows ≡ subject_candidates subject.now) }
 {
-    if wants_threads(rt, joined) {
-        return counts_beside_tally(rt, alloc, subject, joined);
+    if !wants_threads(rt, joined) {
+        let rows = counts_of(rt, alloc, subject, joined);
+        return (tally_of(alloc, subject, joined), rows);
     }
-    let rows = counts_of(rt, alloc, subject, joined);
-    let tally = tally_of(alloc, subject, joined);
-    (tally, rows)
+    let tally = move || -> Result<Tally, NoMemory>
+        requires subject { IsSubject subject.now }
+        requires joined { AreItsLogs subject.now joined.now }
+        ensures { IfOk result (IsTallyOver subject.entry.now) }
+    { tally_of(alloc, subject, joined) };
+    let rows = move || -> Result<Rows<Scored>, NoMemory>
+        requires subject { IsSubject subject.now }
+        requires joined { AreItsLogs subject.now joined.now }
+        ensures { IfOk result (λ rows. rows ≡ subject_candidates subject.entry.now) }
+    { counts_of(rt, alloc, subject, joined) };
+    join(rt, tally, rows)
 }
 
 // The report of a die, given the classes of its bits and its candidates in order.

@@ -44,7 +44,7 @@ pub fn simulated_in_threads<R: Threads + Sync>(
     with_responses(alloc, parts, good)
 }
 
-/// Reads a log over the parts of its design, in a thread of its own, while this one makes what `simulated` makes.
+/// Reads a log over the parts of its design, while a thread of its own makes what `simulated` makes.
 pub(crate) fn read_and_simulated<R: Threads>(
     rt: &R,
     alloc: Global,
@@ -70,7 +70,8 @@ pub(crate) fn read_and_simulated<R: Threads>(
         ensures good { IfOk result (λ made. BelongsTo parts.entry.now made.good) }
         ensures expected { IfOk result (λ made. made.expected ≡ expected_rows parts.entry.now) }
     { simulated(alloc, parts) };
-    join(rt, read, simulate)
+    let (simulation, log) = join(rt, simulate, read);
+    (log, simulation)
 }
 
 /// The rows with the responses that they show.
