@@ -1,10 +1,13 @@
 #!/usr/bin/env python3
 """Times each command on one processor and on all, by hyperfine.
 
-    python3 bench/processors.py OTHER [ROUNDS [PROGRAM]]   (from the top; PROGRAM is the one that ./scandesk built, or another one)
+    python3 bench/processors.py OTHER [ROUNDS [PROGRAM [WORD..]]]   (from the top; PROGRAM is the one that ./scandesk built, or another one)
 
-OTHER is the path of another program with the same words, which writes the files of `demo 7 200` (`OTHER files 7 200 FOLDER`). In
-each round hyperfine runs every command six times on each processor alone (`taskset -c N`) and six times on all of them. Told are
+OTHER is the path of another program with the same words, which writes the files of `demo 7 200` (`OTHER files 7 200 FOLDER`). With
+WORDs only those commands are timed whose names have one of them, as `each.log`. Large pages are asked for, unless GLIBC_TUNABLES
+says otherwise (`GLIBC_TUNABLES=` asks for none).
+
+In each round hyperfine runs every command six times on each processor alone (`taskset -c N`) and six times on all of them. Told are
 the mean and the median over all rounds, 12 by default, of the runs on one processor, whichever it is, and of those on all, and
 the ratios of these. The processors of a virtual machine share their cores with neighbours and are up to twice as fast in one second
 as in the next: so rounds are many and short, and no processor alone stands for one.
@@ -44,7 +47,8 @@ def main():
     program = os.path.abspath(sys.argv[3]) if len(sys.argv) > 3 else PROGRAM
     with tempfile.TemporaryDirectory() as folder:
         subprocess.run([os.path.abspath(sys.argv[1]), 'files', '7', '200', folder], check=True, stdout=subprocess.DEVNULL)
-        listed = [*commands(folder), *views(folder)]
+        listed = [(name, words) for name, words in [*commands(folder), *views(folder)]
+                  if not sys.argv[4:] or any(word in name for word in sys.argv[4:])]
         found = {name: ([], []) for name, _ in listed}
         for _ in range(rounds):
             for name, words in listed:
