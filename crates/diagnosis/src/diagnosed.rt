@@ -19,7 +19,8 @@ use rayon::current_num_threads;
 use scan_model::{Expected, Name, NoMemory, Parts, Rows, Scored};
 use std::alloc::Global;
 use std::sync::Arc;
-use std::thread::{Threads, join};
+use std::thread::Threads;
+use work_crew::join_apart;
 
 /// How few bits aren't worth a thread.
 const LEAST_BITS: usize = 262_144;
@@ -132,7 +133,7 @@ fn counts_and_tally<R: Threads + Sync>(
         requires joined { AreItsLogs subject.now joined.now }
         ensures { IfOk result (λ rows. rows ≡ subject_candidates subject.entry.now) }
     { counts_of(rt, alloc, subject, joined) };
-    join(rt, tally, rows)
+    join_apart(rt, tally, rows)
 }
 
 // The report of a die, given the classes of its bits and its candidates in order.

@@ -12,8 +12,9 @@ use expected_values::expected_at_points;
 use packed_sim::PackedGood;
 use scan_model::{Expected, Name, NoMemory, Parts};
 use std::alloc::Global;
-use std::thread::{Threads, join};
+use std::thread::Threads;
 use text_parts::ReadFault;
+use work_crew::join_apart;
 
 /// The fault-free rows and responses of a test.
 #[derive(Drop)]
@@ -70,7 +71,7 @@ pub(crate) fn read_and_simulated<R: Threads>(
         ensures good { IfOk result (λ made. BelongsTo parts.entry.now made.good) }
         ensures expected { IfOk result (λ made. made.expected ≡ expected_rows parts.entry.now) }
     { simulated(alloc, parts) };
-    let (simulation, log) = join(rt, simulate, read);
+    let (simulation, log) = join_apart(rt, simulate, read);
     (log, simulation)
 }
 

@@ -1,9 +1,8 @@
 -- The pieces of a block's lists of work serve all suspects, and have the shares of all.
-use Rattle.std.proofs.Common.{◌≡◌, ℕ, ◌+◌, ◌<◌, List, [], ◌∷◌, ◌++◌, length, get_or, Result, Ok, IfOk, map, sym, subst, inl, inr, arith}
+use Rattle.std.proofs.Common.{◌≡◌, ℕ, ◌+◌, ◌<◌, List, [], ◌∷◌, ◌++◌, length, get_or, sym, subst, inl, inr, arith}
 use Rattle.std.specs.Prelude.{All, Contains}
 use Rattle.std.specs.List.{Any, AllZip, flat_map}
 use Rattle.std.proofs.lemmas.Bool.{cases_eq}
-use Rattle.scan_model.specs.declared.rows.NoMemory.{NoMemory}
 use Rattle.scan_model.specs.ScanTest.{ScanTest}
 use Rattle.fault_effects.specs.declared.share.Share.{Share}
 use Rattle.fault_effects.specs.declared.suspect.Suspect.{Suspect}
@@ -44,7 +43,7 @@ module _ (t : ScanTest) (suspects : List Suspect) (groups : List (List ℕ)) (ow
 module _ {P : Type 0} (means : P → Table → Type 0) (m : FaultModel) (b : ℕ) (suspects : List Suspect) where
   -- what each of several works answers, all answer together
   pub shares_of_all : {X : Type 0} (served : X → ℕ → Type 0) (works : List X) (results : List (List (Share P)))
-      → AllZip (λ (x : X) (r : Result (List (Share P)) NoMemory). IfOk r (Shares means m b suspects (served x) [])) works (map Ok results)
+      → AllZip (λ (x : X) (shares : List (Share P)). Shares means m b suspects (served x) [] shares) works results
       → Shares means m b suspects (λ i. Any (λ x. served x i) works) [] (flat_map (λ (l : List (Share P)). l) results)
   shares_of_all served [] [] all = shares_none means m b suspects (λ i. Any (λ x. served x i) []) [] (λ i lt any. omega (arith, any.2))
   shares_of_all served [] (r ∷ rs) all = absurd all

@@ -3,9 +3,9 @@ ghost use Rattle.std.specs.Prelude.{◌<◌, OnOk};
 ghost use Rattle.match_counts.specs.WorkPieces.{HaveMore};
 
 use fault_effects::WorkKind;
-use rayon::current_num_threads;
 use scan_model::NoMemory;
 use std::thread::Threads;
+use work_crew::piece_size;
 
 /// Some items of one of the lists of work.
 #[derive(Clone, Copy)]
@@ -25,23 +25,8 @@ pub(crate) fn least_size(kind: WorkKind) -> usize
     }
 }
 
-/// The size of pieces, two for each of several processors. One processor takes all items at once.
-fn piece_size<R: Threads>(rt: &R, kind: WorkKind, items: usize) -> usize
-    ensures { 0 < result }
-{
-    let least = least_size(kind);
-    if items <= least {
-        return least;
-    }
-    let processors = current_num_threads(rt);
-    if processors < 2 {
-        return items;
-    }
-    items.div_ceil(processors.saturating_mul(2)).max(least)
-}
-
-/// Cuts a list, and spreads its pieces evenly among those of other lists: a thread takes pieces that stand side by side, and so
-/// some of each list.
+/// Cuts a list, and spreads its pieces evenly among those of other lists: threads take them in turn, and so some of each list are
+/// done at any time.
 pub(crate) fn cut<'a, R: Threads>(
     rt: &R,
     kind: WorkKind,
@@ -50,7 +35,7 @@ pub(crate) fn cut<'a, R: Threads>(
 ) -> Result<(), NoMemory>
     ensures { OnOk result (HaveMore kind items.now pieces.old.items pieces.new.items) }
 {
-    let size = piece_size(rt, kind, items.len());
+    let size = piece_size(rt, items.len(), least_size(kind));
     let apart = pieces.len() / items.len().div_ceil(size).max(1);
     let mut place = apart;
     let mut rest = items;

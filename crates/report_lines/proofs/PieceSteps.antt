@@ -1,5 +1,5 @@
 -- The lines of candidates, piece by piece.
-use Rattle.std.proofs.Common.{◌≡◌, ℕ, zero, suc, ◌+◌, ◌-◌, ◌*◌, ◌<◌, ◌≤◌, min, List, [], ◌∷◌, ◌++◌, length, map, take, drop, refl, sym, ap, subst, ◌∙◌, arith, inl, inr, Result, Ok, IfOk}
+use Rattle.std.proofs.Common.{◌≡◌, ℕ, ◌+◌, ◌-◌, ◌*◌, ◌<◌, ◌≤◌, min, List, [], ◌∷◌, ◌++◌, length, map, take, drop, refl, sym, ap, subst, ◌∙◌, arith, inl, inr}
 use Rattle.std.specs.Prelude.{All, slice_index_or}
 use Rattle.std.specs.List.{enumerate_from, AllZip, range_with_len}
 use Rattle.std.proofs.Math.Nat.{mul-le-mul_right}
@@ -7,8 +7,8 @@ use Rattle.std.proofs.Math.Seq.{take-add, take-nil}
 use Rattle.std.proofs.lemmas.Bool.{cases_lt}
 use Rattle.std.proofs.lemmas.List.{map-append, length-take-le, length-drop, drop_all, take_all, take_min}
 use Rattle.scan_model.specs.declared.logs.Scored.{Scored}
-use Rattle.scan_model.specs.declared.rows.NoMemory.{NoMemory}
 use Rattle.scan_model.specs.ReportText.{ReportForm, named_candidate_line}
+use Rattle.work_crew.proofs.Pieces.{made_at, made_count}
 use Rattle.report_lines.specs.declared.draft.Draft.{Draft}
 use Rattle.report_lines.specs.LineEnds.{HasLines, AddsLines, IsCut}
 use Rattle.report_lines.specs.Pieces.{lines_from, piece_lines, ArePieces}
@@ -53,26 +53,13 @@ are_cut form rows size drafts are = λ k d lt. (piece_lines form rows size k, ar
 
 -- ---- the pieces of so many numbers
 
-count_zip : (P : ℕ → Draft → Type 0) (a n : ℕ) (ds : List Draft) → AllZip (λ (k : ℕ) (r : Result Draft NoMemory). IfOk r (P k)) (range_with_len a n) (map Ok ds) → length ds ≡ n
-count_zip P a zero [] zipped = refl
-count_zip P a zero (d ∷ ds) zipped = absurd zipped
-count_zip P a (suc n) [] zipped = absurd zipped
-count_zip P a (suc n) (d ∷ ds) zipped = ap suc (count_zip P (a + 1) n ds zipped.1)
-
-zip_at : (P : ℕ → Draft → Type 0) (a n : ℕ) (ds : List Draft) → AllZip (λ (k : ℕ) (r : Result Draft NoMemory). IfOk r (P k)) (range_with_len a n) (map Ok ds) → (k : ℕ) (e : Draft) → k < length ds → P (a + k) (slice_index_or ds k e)
-zip_at P a zero [] zipped k e lt = absurd (omega (arith, lt))
-zip_at P a zero (d ∷ ds) zipped k e lt = absurd zipped
-zip_at P a (suc n) [] zipped k e lt = absurd zipped
-zip_at P a (suc n) (d ∷ ds) zipped zero e lt = subst (λ (i : ℕ). P i d) (omega arith) zipped.0
-zip_at P a (suc n) (d ∷ ds) zipped (suc k) e lt = subst (λ (i : ℕ). P i (slice_index_or ds k e)) (omega arith) (zip_at P (a + 1) n ds zipped.1 k e (omega (arith, lt)))
-
 pub pieces_are : (form : ReportForm) (rows : List Scored) (size n : ℕ) (ds : List Draft) → length rows ≤ n * size
-    → AllZip (λ (k : ℕ) (r : Result Draft NoMemory). IfOk r (λ d. HasLines (piece_lines form rows size k) d.text d.ends)) (range_with_len 0 n) (map Ok ds) → ArePieces form rows size ds
+    → AllZip (λ (k : ℕ) (d : Draft). HasLines (piece_lines form rows size k) d.text d.ends) (range_with_len 0 n) ds → ArePieces form rows size ds
 pieces_are form rows size n ds all zipped =
     let Of : ℕ → Draft → Type 0 = λ k d. HasLines (piece_lines form rows size k) d.text d.ends in
     record {
-      all = subst (λ (m : ℕ). length rows ≤ m * size) (sym (count_zip Of 0 n ds zipped)) all;
-      each = λ k d lt. subst (λ (i : ℕ). Of i (slice_index_or ds k d)) (omega arith) (zip_at Of 0 n ds zipped k d lt);
+      all = subst (λ (m : ℕ). length rows ≤ m * size) (sym (made_count Of 0 n ds zipped)) all;
+      each = λ k d lt. subst (λ (i : ℕ). Of i (slice_index_or ds k d)) (omega arith) (made_at Of 0 n ds zipped k d lt);
     }
 
 -- a piece of each number begins inside

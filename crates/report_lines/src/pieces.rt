@@ -10,27 +10,16 @@ use crate::draft::{Draft, append_draft, draft_with_room};
 use crate::lines::{candidate_lines, candidate_lines_from};
 use crate::names::ReportNames;
 use rayon::current_num_threads;
-use rayon::prelude::*;
 use scan_model::{NoMemory, Scored};
 use std::alloc::Global;
 use std::thread::Threads;
+use work_crew::{made_in_crew, piece_size};
 
 /// Room for the line of a candidate: few lines have more bytes, and a text that outgrows its room is copied.
 pub const CANDIDATE_BYTES: usize = 96;
 
 /// How few candidates are worth a thread of their own.
-const LEAST_PIECE: usize = 2048;
-
-/// The size of pieces, one for each processor; all candidates where there are few.
-fn piece_size<R: Threads>(rt: &R, rows: usize) -> usize
-    ensures { 0 < result }
-{
-    let most = rows / LEAST_PIECE;
-    if most < 2 {
-        return rows.max(1);
-    }
-    rows.div_ceil(current_num_threads(rt).min(most))
-}
+const LEAST_PIECE: usize = 1024;
 
 /// The lines of the piece of a number, alone.
 fn piece_draft<N: ReportNames>(
@@ -65,21 +54,12 @@ fn piece_drafts<R: Threads + Sync, N: ReportNames + Sync>(
     requires size { 0 < size }
     ensures { IfOk result (λ drafts. ArePieces (N.form names.now) rows.now size drafts.items) }
 {
-    let drafts = (0..rows.len().div_ceil(size))
-        .into_par_iter()
-        .with_min_len(1)
-        .map(
-            |piece: usize| -> Result<Draft, NoMemory>
-                requires { All (λ row. row.place < N.places names.now) rows.now × (piece * size < length rows.now) }
-                ensures { IfOk result (λ draft. HasLines (piece_lines (N.form names.entry.now) rows.entry.now size piece) draft.text draft.ends) }
-            { piece_draft(alloc, names, rows, size, piece) },
-        )
-        .collect::<Result<Vec<_>, NoMemory>>(rt, alloc);
-    match drafts {
-        Ok(Ok(drafts)) => Ok(drafts),
-        Ok(Err(refused)) => Err(refused),
-        Err(_) => Err(NoMemory),
-    }
+    let write = move |piece: usize| -> Result<Draft, NoMemory>
+        requires { All (λ row. row.place < N.places names.now) rows.now × (piece * size < length rows.now) }
+        ensures { IfOk result (λ draft. HasLines (piece_lines (N.form names.entry.now) rows.entry.now size piece) draft.text draft.ends) }
+    { piece_draft(alloc, names, rows, size, piece) };
+    let threads = current_num_threads(rt);
+    made_in_crew(rt, alloc, threads, rows.len().div_ceil(size), &write)
 }
 
 /// Puts the lines of all pieces one behind the other.
@@ -94,7 +74,7 @@ fn append_all(draft: &mut Draft, pieces: &[Draft]) -> Result<(), NoMemory>
 }
 
 /// Adds the lines of candidates in their order, the first of rank 1, as `candidate_lines` does. Many candidates are written in
-/// pieces, one for each processor.
+/// pieces, some for each processor.
 pub fn candidate_lines_in_pieces<R: Threads + Sync, N: ReportNames + Sync>(
     rt: &R,
     alloc: Global,
@@ -105,7 +85,7 @@ pub fn candidate_lines_in_pieces<R: Threads + Sync, N: ReportNames + Sync>(
     requires { All (λ row. row.place < N.places names.now) rows.now }
     ensures { OnOk result (AddsLines (map (text_of.named_candidate_line (N.form names.now)) (enumerate_from 1 rows.now)) draft.old draft.new) }
 {
-    let size = piece_size(rt, rows.len());
+    let size = piece_size(rt, rows.len(), LEAST_PIECE);
     if rows.len() <= size {
         return candidate_lines(draft, names, rows);
     }
