@@ -6,22 +6,18 @@ ghost use Rattle.packed_sim.specs.PackedParts.{AreLinksOf, BelongsTo};
 use crate::good::{CircuitLinks, PackedGood};
 use crate::made::circuit_links;
 use lane_rows::GoodRows;
+use rayon::current_num_threads;
 use scan_model::{NoMemory, Parts};
 use std::alloc::Global;
-use std::thread::{Threads, available_parallelism, join};
+use std::thread::Threads;
+use work_crew::join_apart;
 
 /// How few nets aren't worth a thread.
 const LEAST_NETS: usize = 4096;
 
 /// Whether there are so many nets, and more than one processor.
 fn wants_threads<R: Threads>(rt: &R, parts: &Parts) -> bool {
-    if parts.circuit().nets().len() < LEAST_NETS {
-        return false;
-    }
-    match available_parallelism(rt) {
-        Ok(processors) => processors.get() > 1,
-        Err(_) => false,
-    }
+    parts.circuit().nets().len() >= LEAST_NETS && current_num_threads(rt) > 1
 }
 
 /// Makes both at the same time.
@@ -39,7 +35,7 @@ fn rows_and_links<R: Threads + Sync>(
     let rows = move || -> Result<GoodRows, NoMemory>
         ensures { IfOk result (AreGoodRows parts.entry.now) }
     { GoodRows::make(alloc, parts) };
-    join(rt, links, rows)
+    join_apart(rt, links, rows)
 }
 
 impl PackedGood {
