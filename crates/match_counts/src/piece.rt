@@ -21,12 +21,12 @@ pub(crate) fn least_size(kind: WorkKind) -> usize
     match kind {
         WorkKind::Nets => 512,
         WorkKind::Pins => 1024,
-        WorkKind::Cells => 256,
+        WorkKind::Cells => 64,
     }
 }
 
-/// Cuts a list, and spreads its pieces evenly among those of other lists: threads take them in turn, and so some of each list are
-/// done at any time.
+/// Cuts a list, and puts its pieces behind those of other lists, the last one first: nets that come last, the inputs and cells among
+/// them, reach most.
 pub(crate) fn cut<'a, R: Threads>(
     rt: &R,
     kind: WorkKind,
@@ -36,14 +36,12 @@ pub(crate) fn cut<'a, R: Threads>(
     ensures { OnOk result (HaveMore kind items.now pieces.old.items pieces.new.items) }
 {
     let size = piece_size(rt, items.len(), least_size(kind));
-    let apart = pieces.len() / items.len().div_ceil(size).max(1);
-    let mut place = apart;
+    let first = pieces.len();
     let mut rest = items;
     while !rest.is_empty() {
         let (part, later) = rest.split_at(size.min(rest.len()));
-        place = place.min(pieces.len());
+        let place = first.min(pieces.len());
         pieces.insert(place, Piece { kind, items: part })?;
-        place = place.saturating_add(apart).saturating_add(1);
         rest = later;
     }
     Ok(())
