@@ -14,6 +14,9 @@ pub struct Piece<'a> {
     pub items: &'a [u32],
 }
 
+/// How many items a piece has at most where there are several processors.
+const MOST_ITEMS: usize = 2048;
+
 /// How few items are worth a thread of their own, which needs a scratch as large as the circuit.
 pub(crate) fn least_size(kind: WorkKind) -> usize
     ensures { 0 < result }
@@ -35,7 +38,7 @@ pub(crate) fn cut<'a, R: Threads>(
 ) -> Result<(), NoMemory>
     ensures { OnOk result (HaveMore kind items.now pieces.old.items pieces.new.items) }
 {
-    let size = piece_size(rt, items.len(), least_size(kind));
+    let size = piece_size(rt, items.len(), least_size(kind), MOST_ITEMS);
     let first = pieces.len();
     let mut rest = items;
     while !rest.is_empty() {

@@ -21,6 +21,9 @@ pub const CANDIDATE_BYTES: usize = 96;
 /// How few candidates are worth a thread of their own.
 const LEAST_PIECE: usize = 1024;
 
+/// How many candidates a piece has at most where there are several processors.
+const MOST_PIECE: usize = 8192;
+
 /// The lines of the piece of a number, alone.
 fn piece_draft<N: ReportNames>(
     alloc: Global,
@@ -85,7 +88,7 @@ pub fn candidate_lines_in_pieces<R: Threads + Sync, N: ReportNames + Sync>(
     requires { All (λ row. row.place < N.places names.now) rows.now }
     ensures { OnOk result (AddsLines (map (text_of.named_candidate_line (N.form names.now)) (enumerate_from 1 rows.now)) draft.old draft.new) }
 {
-    let size = piece_size(rt, rows.len(), LEAST_PIECE);
+    let size = piece_size(rt, rows.len(), LEAST_PIECE, MOST_PIECE);
     if rows.len() <= size {
         return candidate_lines(draft, names, rows);
     }
