@@ -2,6 +2,7 @@
 mod compactors;
 mod cones;
 mod counts;
+mod crews;
 mod designs;
 mod explained;
 mod faults;
