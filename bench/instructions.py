@@ -15,8 +15,9 @@ import subprocess
 import sys
 import tempfile
 
+sys.path.insert(0, os.path.join(os.path.dirname(os.path.dirname(os.path.abspath(__file__))), 'tests'))
 from against import PROGRAM, TEXTS, commands
-from pages import ask, connect, free_port
+from desk_calls import ask, connect, free_port
 from slat import bundle
 
 LOGS = ('demo', 'each', 'many')

@@ -17,8 +17,8 @@ import sys
 import tempfile
 import time
 
-sys.path.insert(0, os.path.dirname(os.path.abspath(__file__)))
-from pages import PROGRAM, ask, connect, free_port
+sys.path.insert(0, os.path.join(os.path.dirname(os.path.dirname(os.path.abspath(__file__))), 'tests'))
+from desk_calls import PROGRAM, ask, connect, free_port
 
 DESIGNS, LOGS = 100, int(sys.argv[1]) if len(sys.argv) > 1 else 99000
 SIGNS = LOGS // 110

@@ -8,53 +8,15 @@ connection for each page; the same worker serves all, so the report is made once
 of the same size is asked of `python3 -m http.server`, over a connection for each. Each reply is compared with its part of the whole report.
 """
 import os
-import socket
 import subprocess
 import sys
 import tempfile
 import time
 
-TOP = os.path.dirname(os.path.dirname(os.path.abspath(__file__)))
-PROGRAM = os.path.join(TOP, 'crates', 'scandesk', 'out', 'scandesk')
+sys.path.insert(0, os.path.join(os.path.dirname(os.path.dirname(os.path.abspath(__file__))), 'tests'))
+from desk_calls import PROGRAM, ask, connect, free_port
+
 BUFFERS = 50000
-
-
-def free_port():
-    with socket.socket() as s:
-        s.bind(('127.0.0.1', 0))
-        return s.getsockname()[1]
-
-
-def connect(port):
-    for _ in range(200):
-        try:
-            s = socket.create_connection(('127.0.0.1', port))
-            s.setsockopt(socket.IPPROTO_TCP, socket.TCP_NODELAY, 1)
-            return s
-        except ConnectionRefusedError:
-            time.sleep(0.05)
-    sys.exit('nothing listens at port %d' % port)
-
-
-def ask(s, method, target, body=b''):
-    """Sends a request over the connection, and gives the status and the body of its reply."""
-    head = '%s %s HTTP/1.1\r\nHost: desk\r\nContent-Length: %d\r\n\r\n' % (method, target, len(body))
-    s.sendall(head.encode() + body)
-    got = b''
-    while b'\r\n\r\n' not in got:
-        got += receive(s)
-    head, _, rest = got.partition(b'\r\n\r\n')
-    length = next(int(line.split(b':')[1]) for line in head.split(b'\r\n') if line.lower().startswith(b'content-length:'))
-    while len(rest) < length:
-        rest += receive(s)
-    return int(head.split()[1]), rest
-
-
-def receive(s):
-    piece = s.recv(1 << 16)
-    if not piece:
-        sys.exit('the connection ended')
-    return piece
 
 
 def bundle():

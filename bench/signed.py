@@ -15,10 +15,10 @@ import sys
 import tempfile
 import time
 
-sys.path.insert(0, os.path.dirname(os.path.abspath(__file__)))
+sys.path.insert(0, os.path.join(os.path.dirname(os.path.dirname(os.path.abspath(__file__))), 'tests'))
 from against import HEAP
 from made_bundles import bundle
-from pages import PROGRAM, ask, connect, free_port
+from desk_calls import PROGRAM, ask, connect, free_port
 
 TURNS = 3
 # Faults of dies are that far apart in the list of 120,990.

@@ -14,7 +14,8 @@ import sys
 import tempfile
 import time
 
-from pages import PROGRAM, ask, connect, free_port
+sys.path.insert(0, os.path.join(os.path.dirname(os.path.dirname(os.path.abspath(__file__))), 'tests'))
+from desk_calls import PROGRAM, ask, connect, free_port
 
 HEAP = os.environ.get('GLIBC_TUNABLES', 'glibc.malloc.hugetlb=1')
 TEXTS = ('netlist.bench', 'scan.txt', 'patterns.txt', 'neighbours.csv')

@@ -20,8 +20,8 @@ import sys
 import tempfile
 import time
 
-sys.path.insert(0, os.path.dirname(os.path.abspath(__file__)))
-from pages import PROGRAM, TOP, ask, connect, free_port
+sys.path.insert(0, os.path.join(os.path.dirname(os.path.dirname(os.path.abspath(__file__))), 'tests'))
+from desk_calls import PROGRAM, TOP, ask, connect, free_port
 
 DAY = os.path.join(TOP, 'examples', 'day')
 LARGE = 1 << 20

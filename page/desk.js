@@ -1,6 +1,6 @@
 // Requests to the desk, and what its refusals say.
 
-// Rule by rule and reply by reply the sentences of docs/formats.md; examples/sentences.sh checks
+// Rule by rule and reply by reply the sentences of docs/formats.md; tests/sentences.sh checks
 // that they are the same.
 const sentences = fetch(new URL('/sentences.json', location.origin)).then((reply) => reply.json());
 

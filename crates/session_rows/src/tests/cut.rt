@@ -1,5 +1,5 @@
 //! Connections that fail, in each of their calls. Those that are cut off anywhere are among the
-//! examples (examples/sessions.py).
+//! examples (tests/sessions.py).
 use super::piece_link::PieceLink;
 use super::texts::*;
 use super::*;

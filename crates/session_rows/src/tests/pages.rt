@@ -1,5 +1,5 @@
 //! Pages of a report that is kept, through a door. What they have is among the examples
-//! (examples/sessions), with those of a long report.
+//! (tests/sessions), with those of a long report.
 use super::texts::*;
 use super::*;
 use desk_http::serve_door;

@@ -1,4 +1,4 @@
-//! The reply to want of memory. All others are among the examples (examples/sessions).
+//! The reply to want of memory. All others are among the examples (tests/sessions).
 use desk_http::no_memory;
 
 #[test]

@@ -1,5 +1,5 @@
 //! The marks and the end of a session, and a full desk. What the bytes of a connection alone show
-//! is among the examples (examples/sessions).
+//! is among the examples (tests/sessions).
 use super::texts::*;
 use super::{Row, book_behind, new_keeper};
 use desk_http::SessionEnd;

@@ -1,4 +1,4 @@
-//! Expected values behind compactors. Counts over logs behind them are among the examples (examples/rows).
+//! Expected values behind compactors. Counts over logs behind them are among the examples (tests/rows).
 ghost use Rattle.std.specs.Prelude.{◌≡◌, ◌<◌, length};
 ghost use Rattle.log_join.specs.Joining.{IsJoinedOf, FitsExpected};
 ghost use Rattle.compact_points.specs.Channels.{IsCompactorOf};

@@ -1,5 +1,5 @@
 //! Counts of all faults, beside those by plain simulation. Others are among the examples
-//! (examples/rows), beside those of an independent model.
+//! (tests/rows), beside those of an independent model.
 ghost use Rattle.std.specs.Prelude.{length};
 ghost use Rattle.scan_model.specs.ScanTest.{points_of};
 ghost use Rattle.log_join.specs.Joining.{IsJoinedOf};

@@ -1,5 +1,5 @@
 //! How many gates the fails of a stuck stem take: no more than lie behind its net. The words of other
-//! faults are among the examples (examples/sessions).
+//! faults are among the examples (tests/sessions).
 ghost use Rattle.std.specs.Prelude.{◌≡◌, ◌+◌, ◌*◌, ◌<◌, ◌≤◌, [], ◌∷◌, true, length, Contains, IfSome};
 ghost use Rattle.scan_model.specs.ScanTest.{points_of};
 ghost use Rattle.scan_model.specs.Universe.{universe};

@@ -1,5 +1,5 @@
 //! Explained patterns of which the fits are kept, beside those that are told anew: three designs of 70 patterns with X, SHIFT
-//! patterns and all kinds of faults, and two logs. What they are is among the examples (examples/explained.py).
+//! patterns and all kinds of faults, and two logs. What they are is among the examples (tests/explained.py).
 ghost use Rattle.std.specs.Prelude.{◌<◌, length};
 ghost use Rattle.diagnosis.specs.Designs.{facts_of};
 ghost use Rattle.slat_view.specs.WholeCounts.{IsWholeOf};

@@ -1,4 +1,4 @@
-//! Counts of transition faults over one log. The report over it is among the examples (examples/rows).
+//! Counts of transition faults over one log. The report over it is among the examples (tests/rows).
 ghost use Rattle.two_frame.specs.FrameRows.{AllCapture};
 
 use super::super::logs::joined_of;

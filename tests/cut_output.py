@@ -1,10 +1,10 @@
 #!/usr/bin/env python3
 """Runs commands into files that take so many bytes and no more, for each number of bytes.
 
-    examples/cut_output.py PROGRAM
+    tests/cut_output.py PROGRAM
 
 Where the file takes all that is due, the command ends with its own status; where it takes less, with 6, and the file has the front of it that fits.
-What is due is that of examples/rows/table, in whose folder the commands run. The last line tells how many runs were compared and how many were wrong.
+What is due is that of tests/rows/table, in whose folder the commands run. The last line tells how many runs were compared and how many were wrong.
 """
 import os
 import resource

@@ -39,6 +39,6 @@ if [ "${1:-}" = --write ]; then
     exit
 fi
 sentences | diff - "$top/page/sentences.json" || {
-    echo 'page/sentences.json (>) has other sentences than docs/formats.md (<): examples/sentences.sh --write'
+    echo 'page/sentences.json (>) has other sentences than docs/formats.md (<): tests/sentences.sh --write'
     exit 1
 }

@@ -2,9 +2,9 @@
 """Sends whole connections to a program that serves, at once and byte by byte, and compares what
 comes back.
 
-    examples/sessions.py PROGRAM
+    tests/sessions.py PROGRAM
 
-In examples/sessions NAME.asked has the bytes of a connection, and NAME.sent those that are due to
+In tests/sessions NAME.asked has the bytes of a connection, and NAME.sent those that are due to
 it, by an independent model. Each is sent to a desk without deeds, or behind the connection
 NAME.first where that is there. Where the last reply closes, the program closes the connection;
 elsewhere it ends once the other side has. Then each front of fronts.of comes over a connection of

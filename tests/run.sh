@@ -1,5 +1,5 @@
 #!/bin/sh
-# Runs the worked day of the README, the examples of docs/formats.md, the table of examples/rows,
+# Runs the worked day of the README, the examples of docs/formats.md, the table of tests/rows,
 # stores that are changed by hand, and a small lot of dies, and compares what is printed with what
 # is expected. The program is the built one, or that of the first word.
 top=$(CDPATH='' cd -- "$(dirname -- "$0")/.." && pwd) || exit 1
@@ -203,11 +203,11 @@ the_answers() {
     done <"$work/answers"
 }
 
-# The files of the table in examples/rows, and those of the stored run.
+# The files of the table in tests/rows, and those of the stored run.
 the_files_of_the_rows() {
     cp "$top"/examples/s27/* .
     cp "$top"/crates/scandesk/data/* .
-    cp "$top"/examples/rows/* .
+    cp "$top"/tests/rows/* .
     cp "$top/crates/scandesk/stdout" a.expected
     cp a.log copy.log
     cp c17.bench help
@@ -297,34 +297,34 @@ the_requests() {
     the_files none
     the_bodies
     runs=$((runs + 1))
-    "$top/examples/requests.py" "$program" . || wrong=$((wrong + 1))
+    "$top/tests/requests.py" "$program" . || wrong=$((wrong + 1))
 }
 
 # Whole connections, at once and byte by byte.
 the_sessions() {
     runs=$((runs + 1))
-    "$top/examples/sessions.py" "$program" || wrong=$((wrong + 1))
+    "$top/tests/sessions.py" "$program" || wrong=$((wrong + 1))
 }
 
 # What each fault of two designs predicts, and the report over it.
 the_predicted() {
     cd "$work/rows" || exit 1
     runs=$((runs + 1))
-    "$top/examples/predicted.py" "$program" || wrong=$((wrong + 1))
+    "$top/tests/predicted.py" "$program" || wrong=$((wrong + 1))
 }
 
 # The patterns that single faults explain, and the faults of each.
 the_explained() {
     cd "$work/rows" || exit 1
     runs=$((runs + 1))
-    "$top/examples/explained.py" "$program" || wrong=$((wrong + 1))
+    "$top/tests/explained.py" "$program" || wrong=$((wrong + 1))
 }
 
 # Stores that are changed by hand between two runs.
 the_stores() {
     cd "$work/bodies" || exit 1
     runs=$((runs + 1))
-    "$top/examples/stores.py" "$program" . || wrong=$((wrong + 1))
+    "$top/tests/stores.py" "$program" . || wrong=$((wrong + 1))
 }
 
 make_the_lot() {
@@ -343,8 +343,8 @@ the_lot() {
         return
     fi
     runs=$((runs + 1))
-    if ! make_the_lot || ! cmp -s reports.sha256 "$top/examples/lot/small.sha256" ||
-        ! cmp -s pareto.tsv "$top/examples/lot/small.expected"; then
+    if ! make_the_lot || ! cmp -s reports.sha256 "$top/tests/lot/small.sha256" ||
+        ! cmp -s pareto.tsv "$top/tests/lot/small.expected"; then
         wrong=$((wrong + 1))
         echo "the reports of a lot, or their Pareto, aren't those of the model"
     fi
@@ -354,14 +354,14 @@ the_lot() {
 the_workers() {
     cd "$work/bodies" || exit 1
     runs=$((runs + 1))
-    "$top/examples/workers.py" "$program" . || wrong=$((wrong + 1))
+    "$top/tests/workers.py" "$program" . || wrong=$((wrong + 1))
 }
 
 # Files that take so many bytes and no more, for each number of bytes.
 the_cut_output() {
     cd "$work/rows" || exit 1
     runs=$((runs + 1))
-    "$top/examples/cut_output.py" "$program" || wrong=$((wrong + 1))
+    "$top/tests/cut_output.py" "$program" || wrong=$((wrong + 1))
 }
 
 # What can't be written ends with status 6.
@@ -384,25 +384,25 @@ the_little_memory() {
 # The day over HTTP.
 the_day_over_http() {
     runs=$((runs + 1))
-    "$top/examples/http.sh" "$program" || wrong=$((wrong + 1))
+    "$top/tests/http.sh" "$program" || wrong=$((wrong + 1))
 }
 
 # The commands of docs/formats.md are those of the program's table.
 the_commands() {
     runs=$((runs + 1))
-    "$top/examples/commands.sh" || wrong=$((wrong + 1))
+    "$top/tests/commands.sh" || wrong=$((wrong + 1))
 }
 
 # The sentences of the page are those of docs/formats.md.
 the_sentences() {
     runs=$((runs + 1))
-    "$top/examples/sentences.sh" || wrong=$((wrong + 1))
+    "$top/tests/sentences.sh" || wrong=$((wrong + 1))
 }
 
 # The day in a browser, where there is one.
 the_day_in_a_browser() {
     runs=$((runs + 1))
-    "$top/examples/page.py" "$program" || wrong=$((wrong + 1))
+    "$top/tests/page.py" "$program" || wrong=$((wrong + 1))
 }
 
 the_day

@@ -1,7 +1,7 @@
 #!/usr/bin/env python3
 """Refuses each allocation of two runs of the program in turn, one at a time, and checks what comes of it.
 
-    python3 bench/refused_memory.py            (from the top; ./scandesk must have been built; needs cc)
+    python3 tests/refused_memory.py            (from the top; ./scandesk must have been built; needs cc)
 
 `diagnose` of the stored files ends with status 8 and the line `memory`, or with the whole report (where the allocation is one that the C
 library can do without). `serve` of one session, which puts a design and looks at it, answers both requests, or the last of its
@@ -16,7 +16,7 @@ import sys
 import tempfile
 
 sys.path.insert(0, os.path.dirname(os.path.abspath(__file__)))
-from pages import PROGRAM, TOP, connect, free_port
+from desk_calls import PROGRAM, TOP, connect, free_port
 
 DATA = os.path.join(TOP, 'crates', 'scandesk', 'data')
 REFUSE = r'''

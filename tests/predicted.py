@@ -1,7 +1,7 @@
 #!/usr/bin/env python3
 """Asks a program that serves for the log that each fault predicts, and has it diagnosed.
 
-    examples/predicted.py PROGRAM
+    tests/predicted.py PROGRAM
 
 The designs are c17 and s27 with three patterns, and these and one more with 65, whose files stand in
 the caller's folder. In the report over its own log a fault explains each fail, and no bit that

@@ -1,7 +1,7 @@
 #!/usr/bin/env python3
 """Sends the requests that docs/formats.md gives as examples to a program that serves, and compares the replies.
 
-    examples/requests.py PROGRAM FOLDER
+    tests/requests.py PROGRAM FOLDER
 
 They are the rows of the table below 'Examples', one after another, each over a connection of its own to a desk without deeds; then each
 example of the rule of a bundle, as the body of a PUT; and three heads that are refused before their body is read. A last connection sends

@@ -1,6 +1,6 @@
 #!/bin/sh
 # Runs the day of the README over HTTP: the program serves a port of 127.0.0.1 to the real `curl`, and each reply is compared
-# byte for byte with examples/http. The program is the built one, or that of the first word.
+# byte for byte with tests/http. The program is the built one, or that of the first word.
 top=$(CDPATH='' cd -- "$(dirname -- "$0")/.." && pwd) || exit 1
 program=${1:-$top/crates/scandesk/out/scandesk}
 [ -x "$program" ] || "$top/scandesk" >/dev/null
@@ -12,15 +12,15 @@ work=$(mktemp -d) || exit 1
 trap 'rm -rf "$work"' EXIT
 wrong=0
 
-# due NAME FILE: the file has the bytes of examples/http/NAME.
+# due NAME FILE: the file has the bytes of tests/http/NAME.
 due() {
-    cmp -s "$2" "$top/examples/http/$1" && return
+    cmp -s "$2" "$top/tests/http/$1" && return
     wrong=$((wrong + 1))
     echo "$1: printed (<) and due (>):"
-    diff "$2" "$top/examples/http/$1" | head -n 10
+    diff "$2" "$top/tests/http/$1" | head -n 10
 }
 
-# ask NAME WORD..: what curl prints of the reply, its head too, is examples/http/NAME. Each call is one connection.
+# ask NAME WORD..: what curl prints of the reply, its head too, is tests/http/NAME. Each call is one connection.
 ask() {
     name=$1
     shift
@@ -52,7 +52,7 @@ serve() {
     die=$desk/designs/block/dies/wafer3.17
 }
 
-# ended NAME: the program ends well, and what it wrote is examples/http/NAME.
+# ended NAME: the program ends well, and what it wrote is tests/http/NAME.
 ended() {
     wait "$serving" || {
         wrong=$((wrong + 1))

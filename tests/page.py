@@ -2,7 +2,7 @@
 """Goes through the day in a real browser: the page (page/) at deploy/try, beside the bytes of the
 reports.
 
-    examples/page.py [PROGRAM]
+    tests/page.py [PROGRAM]
 
 A headless Chromium shows the report of the day; what stands on the screen is compared with
 examples/day/report.expected, the fail map with what the two logs and the predicted log say, the

@@ -1,7 +1,7 @@
 #!/usr/bin/env python3
 """Asks a program that serves which patterns of a die single faults explain, and which faults explain each.
 
-    examples/explained.py PROGRAM
+    tests/explained.py PROGRAM
 
 The designs are c17, s27 and one with a gate that reads a net twice and a flop in no chain, in profile 2, with 70 patterns, some of which
 only shift and some with unknown values. Their dies have two logs that agree in most of their bits. The files stand in the caller's folder.

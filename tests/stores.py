@@ -1,7 +1,7 @@
 #!/usr/bin/env python3
 """Changes a store by hand between two runs of a program that serves, and compares how the second run ends.
 
-    examples/stores.py PROGRAM FOLDER
+    tests/stores.py PROGRAM FOLDER
 
 The first run is sent a design, a log and a sign-off, the files of FOLDER. What its store then has is compared with what was sent. Each change of the
 tables below is made to a copy of that store by Python's sqlite3, and the program is run over the copy: it serves, and has the sign-off, or it ends

@@ -2,7 +2,7 @@
 """Tries the backup of docs/running.md: stop, copy both files, start again; and the copies are opened
 as a restored store.
 
-    python3 bench/backup.py       (from the top; ./scandesk must have been built)
+    python3 tests/backup.py       (from the top; ./scandesk must have been built)
 
 The day is uploaded; while the desk runs `sqlite3` finds the store locked. The desk is stopped by
 SIGTERM and another time by SIGKILL, both files are copied, and over the copies another desk has to
@@ -19,7 +19,7 @@ import sys
 import tempfile
 
 sys.path.insert(0, os.path.dirname(os.path.abspath(__file__)))
-from pages import PROGRAM, TOP, ask, connect, free_port
+from desk_calls import PROGRAM, TOP, ask, connect, free_port
 
 DAY = os.path.join(TOP, 'examples', 'day')
 DIE = '/designs/block/dies/wafer3.17'

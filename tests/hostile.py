@@ -1,7 +1,7 @@
 #!/usr/bin/env python3
 """Ill-behaved clients and ends of the served desk over real sockets. Each part prints one line, and `wrong` where it isn't as due.
 
-    python3 bench/hostile.py [OTHER..]        (from the top; ./scandesk must have been built)
+    python3 tests/hostile.py [OTHER..]        (from the top; ./scandesk must have been built)
 
 OTHER is the command of another desk with the same words (`serve PORT WORKERS SESSIONS STORE`), a model: with it 2,000 heads turned,
 cut and doubled by a fuzzer are sent to both, and the replies are compared byte for byte. Without it that part is left out.
@@ -20,7 +20,7 @@ import threading
 import time
 
 sys.path.insert(0, os.path.dirname(os.path.abspath(__file__)))
-from pages import PROGRAM, TOP, ask, connect, free_port
+from desk_calls import PROGRAM, TOP, ask, connect, free_port
 
 DAY = os.path.join(TOP, 'examples', 'day')
 WRONG = []

@@ -2,7 +2,7 @@
 """Hostile clients before nginx (deploy/try) while testers upload: each upload has to be answered, and
 what isn't let in reaches no worker.
 
-    python3 bench/front.py [PROGRAM]       (from the top; it needs nginx and curl)
+    python3 tests/front.py [PROGRAM]       (from the top; it needs nginx and curl)
 
 From 127.0.0.2 come 500 connections that stay silent and 500 that send a byte a second, 400 of a
 head and 100 of a body behind a head with the right account; one that nginx closes is opened again.

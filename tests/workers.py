@@ -1,7 +1,7 @@
 #!/usr/bin/env python3
 """Serves two connections that stay open at once, each by a worker of its own, and reads over each what came over the other.
 
-    examples/workers.py PROGRAM FOLDER
+    tests/workers.py PROGRAM FOLDER
 
 The program serves an empty store with two workers, of one connection each. The first connection sends a design and a log, and stays open. The second,
 whose worker did nothing yet, reads the report with that log and signs it, by the right digest alone. Behind another log of the first connection the
